@@ -1,0 +1,9 @@
+pub mod Causes
+pub mod DiskNames
+pub mod Image
+pub mod Site
+pub mod State
+pub mod Streams
+pub mod Time
+pub mod Trees
+pub mod Untold
