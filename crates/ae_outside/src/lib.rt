@@ -4,6 +4,7 @@
 mod dir;
 mod disk;
 mod failed;
+mod memory;
 mod site;
 mod streams;
 

@@ -1,0 +1,3 @@
+// The forms in memory: a disk, a site, a source and sinks that tell all they hold.
+
+pub(crate) mod calls;
