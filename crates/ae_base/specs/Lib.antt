@@ -1,4 +1,8 @@
 pub mod Bytes
 pub mod Names
 pub mod Numbers
+pub mod Outcomes
+pub mod Refusals
 pub mod Rows
+pub mod Users
+pub mod Words

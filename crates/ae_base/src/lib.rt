@@ -4,16 +4,24 @@
 mod lists;
 mod name_bytes;
 mod numbers;
+mod outcome;
 mod path;
 mod project_name;
+mod refusal;
 mod snapshot;
 mod text;
 mod user;
+mod user_set;
+mod words;
 
-pub use lists::{PathList, SnapshotList};
-pub use numbers::{ChangeNo, Delta};
+pub use lists::{PathList, SnapshotList, UserList};
+pub use numbers::{ChangeNo, Delta, read_number};
+pub use outcome::Outcome;
 pub use path::Path;
 pub use project_name::ProjectName;
+pub use refusal::Refusal;
 pub use snapshot::Snapshot;
 pub use text::Text;
 pub use user::User;
+pub use user_set::UserSet;
+pub use words::{Action, Cause, Ground, Kind, Phase, Role, Usage, What, Which};

@@ -3,6 +3,7 @@ ghost use Rattle.std.specs.Prelude.{◌≡◌, ◌≤◌};
 ghost use Rattle.ae_base.specs.Numbers.{number_from, number_within, change_number, delta_number};
 
 use crate::name_bytes::is_digit_byte;
+use std::fmt;
 use std::marker::Model;
 
 fn digits(text: &[u8]) -> Option<u64>
@@ -114,5 +115,29 @@ impl Delta {
         ensures high { self ≤ 1990 }
     {
         self.number
+    }
+}
+
+impl fmt::Display for ChangeNo {
+    ghost use Rattle.std.specs.Prelude.{Some};
+    ghost use Rattle.std.specs.Fmt.{decimal};
+
+    ghost output = { λ number. Some (decimal number) };
+
+    fn fmt<W: fmt::Write>(&self, f: &mut fmt::Formatter<W>) -> fmt::Result {
+        let number = self.number();
+        write!(f, "{number}")
+    }
+}
+
+impl fmt::Display for Delta {
+    ghost use Rattle.std.specs.Prelude.{Some};
+    ghost use Rattle.std.specs.Fmt.{decimal};
+
+    ghost output = { λ number. Some (decimal number) };
+
+    fn fmt<W: fmt::Write>(&self, f: &mut fmt::Formatter<W>) -> fmt::Result {
+        let number = self.number();
+        write!(f, "{number}")
     }
 }

@@ -6,6 +6,7 @@ ghost use Rattle.ae_base.specs.Names.{is_path, is_path_byte, is_part, is_slash, 
 
 use crate::name_bytes::may_stand_in_path;
 use std::alloc::{AllocError, Global};
+use std::fmt;
 use std::marker::Model;
 
 /// The path of a file below a directory: 1 to 255 bytes, parts of `A-Za-z0-9._+-` joined by `/`, no part empty, `.`
@@ -121,11 +122,31 @@ impl Path {
         Ok(Path { bytes })
     }
 
+    /// The same as text: all its bytes are ASCII.
+    pub fn as_str(&self) -> &str
+        ensures { result.now ≡ self.now }
+    {
+        match str::from_utf8(self.bytes()) {
+            Ok(text) => text,
+            Err(_) => unreachable!(),
+        }
+    }
+
     pub fn bytes(&self) -> &[u8]
         ensures value { result.now ≡ self.now }
         ensures path { IsPath self.now }
     {
         self.bytes.as_slice()
+    }
+}
+
+impl fmt::Display for Path {
+    ghost use Rattle.std.specs.Prelude.{Some};
+
+    ghost output = { λ path. Some path };
+
+    fn fmt<W: fmt::Write>(&self, f: &mut fmt::Formatter<W>) -> fmt::Result {
+        f.write_str(self.as_str())
     }
 }
 

@@ -6,6 +6,7 @@ ghost use Rattle.ae_base.specs.Names.{is_project_name, is_name_byte, IsProjectNa
 
 use crate::name_bytes::{is_letter_byte, may_stand_in_name};
 use std::alloc::{AllocError, Global};
+use std::fmt;
 use std::marker::Model;
 
 /// A project's name: 1 to 64 bytes of `A-Za-z0-9._-`, the first a letter. Contracts see the list of its bytes.
@@ -60,11 +61,31 @@ impl ProjectName {
         Ok(ProjectName { bytes })
     }
 
+    /// The same as text: all its bytes are ASCII.
+    pub fn as_str(&self) -> &str
+        ensures { result.now ≡ self.now }
+    {
+        match str::from_utf8(self.bytes()) {
+            Ok(text) => text,
+            Err(_) => unreachable!(),
+        }
+    }
+
     pub fn bytes(&self) -> &[u8]
         ensures value { result.now ≡ self.now }
         ensures name { IsProjectName self.now }
     {
         self.bytes.as_slice()
+    }
+}
+
+impl fmt::Display for ProjectName {
+    ghost use Rattle.std.specs.Prelude.{Some};
+
+    ghost output = { λ name. Some name };
+
+    fn fmt<W: fmt::Write>(&self, f: &mut fmt::Formatter<W>) -> fmt::Result {
+        f.write_str(self.as_str())
     }
 }
 

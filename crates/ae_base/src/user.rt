@@ -6,6 +6,7 @@ ghost use Rattle.ae_base.specs.Names.{is_user, is_user_byte, IsUser};
 
 use crate::name_bytes::{is_lower_byte, may_stand_in_user};
 use std::alloc::{AllocError, Global};
+use std::fmt;
 use std::hash::{Hash, Hasher};
 use std::marker::Model;
 
@@ -63,11 +64,31 @@ impl User {
         Ok(User { bytes })
     }
 
+    /// The same as text: all its bytes are ASCII.
+    pub fn as_str(&self) -> &str
+        ensures { result.now ≡ self.now }
+    {
+        match str::from_utf8(self.bytes()) {
+            Ok(text) => text,
+            Err(_) => unreachable!(),
+        }
+    }
+
     pub fn bytes(&self) -> &[u8]
         ensures value { result.now ≡ self.now }
         ensures user { IsUser self.now }
     {
         self.bytes.as_slice()
+    }
+}
+
+impl fmt::Display for User {
+    ghost use Rattle.std.specs.Prelude.{Some};
+
+    ghost output = { λ user. Some user };
+
+    fn fmt<W: fmt::Write>(&self, f: &mut fmt::Formatter<W>) -> fmt::Result {
+        f.write_str(self.as_str())
     }
 }
 

@@ -1,0 +1,5 @@
+use Rattle.std.proofs.Common.{◌≡◌, ◌++◌}
+use Rattle.ae_base.proofs.user_set.UserSet.from_users.Given as goal
+
+abbrev pub invariant-loop-user : goal.invariant-loop-user
+invariant-loop-user l = (l.set ≡ l.yielded) × (l.yielded ++ l.user-iterator.rest.items ≡ l.fn.users)

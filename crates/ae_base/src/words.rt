@@ -1,0 +1,448 @@
+// The words of the records: each is read and written in one way.
+ghost use Rattle.std.specs.Prelude.{◌≡◌, ◌↔◌, Some, find};
+ghost use Rattle.std.specs.Str.{bytes_eq};
+ghost use Rattle.ae_base.specs.Words.{phase_word, phases, role_word, roles, action_word, actions, usage_word, usages, cause_word, causes, ground_word, grounds, kind_word, kinds, what_word, events_of_history, which_word, limits};
+
+/// The phase of a change.
+#[derive(Clone, Copy, Debug, PartialEq, Eq)]
+pub enum Phase {
+    AwaitingDevelopment,
+    BeingDeveloped,
+    AwaitingReview,
+    BeingReviewed,
+    AwaitingIntegration,
+    BeingIntegrated,
+    Completed,
+}
+
+impl Phase {
+    const ALL: [Phase; 7] = [
+        Phase::AwaitingDevelopment,
+        Phase::BeingDeveloped,
+        Phase::AwaitingReview,
+        Phase::BeingReviewed,
+        Phase::AwaitingIntegration,
+        Phase::BeingIntegrated,
+        Phase::Completed,
+    ];
+
+    /// Its word.
+    pub fn word(self) -> &'static str
+        ensures { result.now ≡ phase_word self }
+    {
+        match self {
+            Phase::AwaitingDevelopment => "awaiting_development",
+            Phase::BeingDeveloped => "being_developed",
+            Phase::AwaitingReview => "awaiting_review",
+            Phase::BeingReviewed => "being_reviewed",
+            Phase::AwaitingIntegration => "awaiting_integration",
+            Phase::BeingIntegrated => "being_integrated",
+            Phase::Completed => "completed",
+        }
+    }
+
+    /// The one whose word this text is; `None` exactly where it is no such word.
+    pub fn read(text: &[u8]) -> Option<Phase>
+        ensures { (phase : _) → (result ≡ Some phase) ↔ (text.now ≡ phase_word phase) }
+    {
+        Self::find(text)
+    }
+
+    fn find(text: &[u8]) -> Option<Phase>
+        ensures { result ≡ find (λ phase. bytes_eq (phase_word phase) text.now) phases }
+    {
+        Self::ALL.iter().copied().find(|phase| phase.word().as_bytes() == text)
+    }
+}
+
+/// What a user may be in a project.
+#[derive(Clone, Copy, Debug, PartialEq, Eq)]
+pub enum Role {
+    Administrator,
+    Developer,
+    Reviewer,
+    Integrator,
+}
+
+impl Role {
+    const ALL: [Role; 4] = [
+        Role::Administrator,
+        Role::Developer,
+        Role::Reviewer,
+        Role::Integrator,
+    ];
+
+    /// Its word.
+    pub fn word(self) -> &'static str
+        ensures { result.now ≡ role_word self }
+    {
+        match self {
+            Role::Administrator => "administrator",
+            Role::Developer => "developer",
+            Role::Reviewer => "reviewer",
+            Role::Integrator => "integrator",
+        }
+    }
+
+    /// The one whose word this text is; `None` exactly where it is no such word.
+    pub fn read(text: &[u8]) -> Option<Role>
+        ensures { (role : _) → (result ≡ Some role) ↔ (text.now ≡ role_word role) }
+    {
+        Self::find(text)
+    }
+
+    fn find(text: &[u8]) -> Option<Role>
+        ensures { result ≡ find (λ role. bytes_eq (role_word role) text.now) roles }
+    {
+        Self::ALL.iter().copied().find(|role| role.word().as_bytes() == text)
+    }
+}
+
+/// What a change does to a file.
+#[derive(Clone, Copy, Debug, PartialEq, Eq)]
+pub enum Action {
+    Create,
+    Modify,
+    Remove,
+}
+
+impl Action {
+    const ALL: [Action; 3] = [
+        Action::Create,
+        Action::Modify,
+        Action::Remove,
+    ];
+
+    /// Its word.
+    pub fn word(self) -> &'static str
+        ensures { result.now ≡ action_word self }
+    {
+        match self {
+            Action::Create => "create",
+            Action::Modify => "modify",
+            Action::Remove => "remove",
+        }
+    }
+
+    /// The one whose word this text is; `None` exactly where it is no such word.
+    pub fn read(text: &[u8]) -> Option<Action>
+        ensures { (action : _) → (result ≡ Some action) ↔ (text.now ≡ action_word action) }
+    {
+        Self::find(text)
+    }
+
+    fn find(text: &[u8]) -> Option<Action>
+        ensures { result ≡ find (λ action. bytes_eq (action_word action) text.now) actions }
+    {
+        Self::ALL.iter().copied().find(|action| action.word().as_bytes() == text)
+    }
+}
+
+/// What a file is for.
+#[derive(Clone, Copy, Debug, PartialEq, Eq)]
+pub enum Usage {
+    Source,
+    Config,
+    Test,
+}
+
+impl Usage {
+    const ALL: [Usage; 3] = [
+        Usage::Source,
+        Usage::Config,
+        Usage::Test,
+    ];
+
+    /// Its word.
+    pub fn word(self) -> &'static str
+        ensures { result.now ≡ usage_word self }
+    {
+        match self {
+            Usage::Source => "source",
+            Usage::Config => "config",
+            Usage::Test => "test",
+        }
+    }
+
+    /// The one whose word this text is; `None` exactly where it is no such word.
+    pub fn read(text: &[u8]) -> Option<Usage>
+        ensures { (usage : _) → (result ≡ Some usage) ↔ (text.now ≡ usage_word usage) }
+    {
+        Self::find(text)
+    }
+
+    fn find(text: &[u8]) -> Option<Usage>
+        ensures { result ≡ find (λ usage. bytes_eq (usage_word usage) text.now) usages }
+    {
+        Self::ALL.iter().copied().find(|usage| usage.word().as_bytes() == text)
+    }
+}
+
+/// Why a change is made.
+#[derive(Clone, Copy, Debug, PartialEq, Eq)]
+pub enum Cause {
+    ExternalBug,
+    ExternalEnhancement,
+    ExternalImprovement,
+    InternalBug,
+    InternalEnhancement,
+    InternalImprovement,
+    Chain,
+}
+
+impl Cause {
+    const ALL: [Cause; 7] = [
+        Cause::ExternalBug,
+        Cause::ExternalEnhancement,
+        Cause::ExternalImprovement,
+        Cause::InternalBug,
+        Cause::InternalEnhancement,
+        Cause::InternalImprovement,
+        Cause::Chain,
+    ];
+
+    /// Its word.
+    pub fn word(self) -> &'static str
+        ensures { result.now ≡ cause_word self }
+    {
+        match self {
+            Cause::ExternalBug => "external_bug",
+            Cause::ExternalEnhancement => "external_enhancement",
+            Cause::ExternalImprovement => "external_improvement",
+            Cause::InternalBug => "internal_bug",
+            Cause::InternalEnhancement => "internal_enhancement",
+            Cause::InternalImprovement => "internal_improvement",
+            Cause::Chain => "chain",
+        }
+    }
+
+    /// The one whose word this text is; `None` exactly where it is no such word.
+    pub fn read(text: &[u8]) -> Option<Cause>
+        ensures { (cause : _) → (result ≡ Some cause) ↔ (text.now ≡ cause_word cause) }
+    {
+        Self::find(text)
+    }
+
+    fn find(text: &[u8]) -> Option<Cause>
+        ensures { result ≡ find (λ cause. bytes_eq (cause_word cause) text.now) causes }
+    {
+        Self::ALL.iter().copied().find(|cause| cause.word().as_bytes() == text)
+    }
+}
+
+/// During which part of a change's life a run was made. They are ordered as they come.
+#[derive(Clone, Copy, Debug, PartialEq, Eq, PartialOrd, Ord)]
+pub enum Ground {
+    Develop,
+    Integrate,
+}
+
+impl Ground {
+    const ALL: [Ground; 2] = [
+        Ground::Develop,
+        Ground::Integrate,
+    ];
+
+    /// Its word.
+    pub fn word(self) -> &'static str
+        ensures { result.now ≡ ground_word self }
+    {
+        match self {
+            Ground::Develop => "develop",
+            Ground::Integrate => "integrate",
+        }
+    }
+
+    /// The one whose word this text is; `None` exactly where it is no such word.
+    pub fn read(text: &[u8]) -> Option<Ground>
+        ensures { (during : _) → (result ≡ Some during) ↔ (text.now ≡ ground_word during) }
+    {
+        Self::find(text)
+    }
+
+    fn find(text: &[u8]) -> Option<Ground>
+        ensures { result ≡ find (λ during. bytes_eq (ground_word during) text.now) grounds }
+    {
+        Self::ALL.iter().copied().find(|during| during.word().as_bytes() == text)
+    }
+}
+
+/// The kinds of runs, in the order in which they are asked for.
+#[derive(Clone, Copy, Debug, PartialEq, Eq, PartialOrd, Ord)]
+pub enum Kind {
+    Build,
+    Test,
+    BaselineTest,
+    RegressionTest,
+}
+
+impl Kind {
+    const ALL: [Kind; 4] = [
+        Kind::Build,
+        Kind::Test,
+        Kind::BaselineTest,
+        Kind::RegressionTest,
+    ];
+
+    /// Its word.
+    pub fn word(self) -> &'static str
+        ensures { result.now ≡ kind_word self }
+    {
+        match self {
+            Kind::Build => "build",
+            Kind::Test => "test",
+            Kind::BaselineTest => "baseline_test",
+            Kind::RegressionTest => "regression_test",
+        }
+    }
+
+    /// The one whose word this text is; `None` exactly where it is no such word.
+    pub fn read(text: &[u8]) -> Option<Kind>
+        ensures { (kind : _) → (result ≡ Some kind) ↔ (text.now ≡ kind_word kind) }
+    {
+        Self::find(text)
+    }
+
+    fn find(text: &[u8]) -> Option<Kind>
+        ensures { result ≡ find (λ kind. bytes_eq (kind_word kind) text.now) kinds }
+    {
+        Self::ALL.iter().copied().find(|kind| kind.word().as_bytes() == text)
+    }
+}
+
+/// What happened to a change, as its history says it.
+#[derive(Clone, Copy, Debug, PartialEq, Eq)]
+pub enum What {
+    NewChange,
+    DevelopBegin,
+    DevelopBeginUndo,
+    DevelopEnd,
+    DevelopEndUndo,
+    ReviewBegin,
+    ReviewBeginUndo,
+    ReviewPass,
+    ReviewPassUndo,
+    ReviewFail,
+    IntegrateBegin,
+    IntegrateBeginUndo,
+    IntegratePass,
+    IntegrateFail,
+}
+
+impl What {
+    const ALL: [What; 14] = [
+        What::NewChange,
+        What::DevelopBegin,
+        What::DevelopBeginUndo,
+        What::DevelopEnd,
+        What::DevelopEndUndo,
+        What::ReviewBegin,
+        What::ReviewBeginUndo,
+        What::ReviewPass,
+        What::ReviewPassUndo,
+        What::ReviewFail,
+        What::IntegrateBegin,
+        What::IntegrateBeginUndo,
+        What::IntegratePass,
+        What::IntegrateFail,
+    ];
+
+    /// Its word.
+    pub fn word(self) -> &'static str
+        ensures { result.now ≡ what_word self }
+    {
+        match self {
+            What::NewChange => "new_change",
+            What::DevelopBegin => "develop_begin",
+            What::DevelopBeginUndo => "develop_begin_undo",
+            What::DevelopEnd => "develop_end",
+            What::DevelopEndUndo => "develop_end_undo",
+            What::ReviewBegin => "review_begin",
+            What::ReviewBeginUndo => "review_begin_undo",
+            What::ReviewPass => "review_pass",
+            What::ReviewPassUndo => "review_pass_undo",
+            What::ReviewFail => "review_fail",
+            What::IntegrateBegin => "integrate_begin",
+            What::IntegrateBeginUndo => "integrate_begin_undo",
+            What::IntegratePass => "integrate_pass",
+            What::IntegrateFail => "integrate_fail",
+        }
+    }
+
+    /// The one whose word this text is; `None` exactly where it is no such word.
+    pub fn read(text: &[u8]) -> Option<What>
+        ensures { (what : _) → (result ≡ Some what) ↔ (text.now ≡ what_word what) }
+    {
+        Self::find(text)
+    }
+
+    fn find(text: &[u8]) -> Option<What>
+        ensures { result ≡ find (λ what. bytes_eq (what_word what) text.now) events_of_history }
+    {
+        Self::ALL.iter().copied().find(|what| what.word().as_bytes() == text)
+    }
+}
+
+/// The limits of a project.
+#[derive(Clone, Copy, Debug, PartialEq, Eq)]
+pub enum Which {
+    FileBytes,
+    AttributeBytes,
+    FrozenBytes,
+    ChangeFiles,
+    ProjectFiles,
+    ProjectTests,
+    RoleUsers,
+    Changes,
+    Deltas,
+    Versions,
+    HistoryRows,
+}
+
+impl Which {
+    const ALL: [Which; 11] = [
+        Which::FileBytes,
+        Which::AttributeBytes,
+        Which::FrozenBytes,
+        Which::ChangeFiles,
+        Which::ProjectFiles,
+        Which::ProjectTests,
+        Which::RoleUsers,
+        Which::Changes,
+        Which::Deltas,
+        Which::Versions,
+        Which::HistoryRows,
+    ];
+
+    /// Its word.
+    pub fn word(self) -> &'static str
+        ensures { result.now ≡ which_word self }
+    {
+        match self {
+            Which::FileBytes => "file_bytes",
+            Which::AttributeBytes => "attribute_bytes",
+            Which::FrozenBytes => "frozen_bytes",
+            Which::ChangeFiles => "change_files",
+            Which::ProjectFiles => "project_files",
+            Which::ProjectTests => "project_tests",
+            Which::RoleUsers => "role_users",
+            Which::Changes => "changes",
+            Which::Deltas => "deltas",
+            Which::Versions => "versions",
+            Which::HistoryRows => "history_rows",
+        }
+    }
+
+    /// The one whose word this text is; `None` exactly where it is no such word.
+    pub fn read(text: &[u8]) -> Option<Which>
+        ensures { (which : _) → (result ≡ Some which) ↔ (text.now ≡ which_word which) }
+    {
+        Self::find(text)
+    }
+
+    fn find(text: &[u8]) -> Option<Which>
+        ensures { result ≡ find (λ which. bytes_eq (which_word which) text.now) limits }
+    {
+        Self::ALL.iter().copied().find(|which| which.word().as_bytes() == text)
+    }
+}
