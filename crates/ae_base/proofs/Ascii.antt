@@ -1,10 +1,10 @@
 -- Names are ASCII, and so text.
-use Rattle.std.proofs.Common.{◌≡◌, ℕ, zero, suc, ◌<◌, ◌==◌, List, [], ◌∷◌, Bool, true, false, not, ◌&&◌, ◌||◌, if◌then◌else◌, IsTrue, arith, refl, sym, ap, ◌∙◌}
+use Rattle.std.proofs.Common.{◌≡◌, ℕ, zero, suc, ◌<◌, ◌==◌, List, [], ◌∷◌, Bool, true, false, ◌&&◌, if◌then◌else◌, arith, refl, ap, ◌∙◌}
 use Rattle.std.specs.List.{list_all}
 use Rattle.std.specs.Str.{IsAscii, IsUtf8}
 use Rattle.std.proofs.lemmas.Str.{IsUtf8-from_ascii}
 use Rattle.std.proofs.lemmas.Bool.Decides.{nat_tests, Decides-eqb}
-use Rattle.ae_base.specs.Names.{is_user_byte, is_name_byte, is_path_byte, is_letter, is_lower, is_part, is_slash, parts, before_first_part, IsPath, IsUser, IsProjectName}
+use Rattle.ae_base.specs.Names.{is_user_byte, is_name_byte, is_path_byte, is_part, parts, before_first_part, IsPath, IsUser, IsProjectName}
 
 and_first : (a b : Bool) → (a && b) ≡ true → a ≡ true
 and_first true b e = refl

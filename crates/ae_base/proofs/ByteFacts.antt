@@ -1,5 +1,5 @@
 -- What holds at each place holds along the list.
-use Rattle.std.proofs.Common.{ℕ, suc, ◌<◌, ◌^◌, length, get_or, arith, List, [], ◌∷◌}
+use Rattle.std.proofs.Common.{ℕ, suc, ◌<◌, get_or, List, [], ◌∷◌}
 use Rattle.ae_base.specs.Bytes.{AreBytes}
 
 pub along : (bytes : List ℕ) → ((i : ℕ) → get_or bytes i 0 < 256) → AreBytes bytes

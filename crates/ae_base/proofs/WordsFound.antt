@@ -1,5 +1,5 @@
 -- In each table of words every variant stands, and no two words are the same.
-use Rattle.std.proofs.Common.{◌≡◌, ◌↔◌, Option, Some, ℕ, List, ◌⊎◌, inl, inr, refl}
+use Rattle.std.proofs.Common.{◌≡◌, ◌↔◌, Some, ℕ, List, inl, inr, refl}
 use Rattle.std.specs.Prelude.{find}
 use Rattle.std.specs.Str.{bytes_eq}
 use Rattle.ae_base.proofs.WordTables.{Stands, found_word}

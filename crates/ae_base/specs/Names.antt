@@ -1,5 +1,5 @@
 -- Which texts are paths, users and project names, and which paths clash.
-use Rattle.std.specs.Prelude.{ℕ, List, [], ◌∷◌, ◌++◌, Bool, true, false, not, ◌==◌, ◌&&◌, ◌||◌, ◌⊎◌, ◌≡◌, if◌then◌else◌, nat_le, nat_eq, length, codes, IsTrue}
+use Rattle.std.specs.Prelude.{ℕ, List, [], ◌∷◌, ◌++◌, Bool, false, not, ◌==◌, ◌&&◌, ◌||◌, ◌⊎◌, ◌≡◌, if◌then◌else◌, nat_le, length, codes, IsTrue}
 use Rattle.std.specs.List.{list_all}
 use Rattle.std.specs.Str.{bytes_eq}
 

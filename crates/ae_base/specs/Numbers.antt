@@ -1,5 +1,5 @@
 -- The numbers that texts of decimal digits write.
-use Rattle.std.specs.Prelude.{ℕ, ◌+◌, ◌*◌, ◌-◌, List, [], ◌∷◌, Bool, true, false, ◌&&◌, if◌then◌else◌, nat_le, length, Option, Some, None}
+use Rattle.std.specs.Prelude.{ℕ, ◌+◌, ◌*◌, ◌-◌, List, [], ◌∷◌, ◌&&◌, if◌then◌else◌, nat_le, length, Option, Some, None}
 use Rattle.ae_base.specs.Names.{is_digit}
 
 -- the number that goes on from n by these digits, where it ends below 2 ^ 64

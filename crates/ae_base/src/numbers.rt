@@ -54,7 +54,11 @@ impl ChangeNo {
         ensures { result ≡ change_number text.now }
     {
         let n = read_number(10, 10, 1999, text)?;
-        if 10 <= n && n <= 1999 { Some(ChangeNo { number: n as u16 }) } else { None }
+        if 10 <= n && n <= 1999 {
+            Some(ChangeNo { number: n as u16 })
+        } else {
+            None
+        }
     }
 
     /// The change's number that this number is.
@@ -99,7 +103,11 @@ impl Delta {
         ensures { result ≡ delta_number text.now }
     {
         let n = read_number(10, 0, 1990, text)?;
-        if n <= 1990 { Some(Delta { number: n as u16 }) } else { None }
+        if n <= 1990 {
+            Some(Delta { number: n as u16 })
+        } else {
+            None
+        }
     }
 
     /// The delta's number that this number is.

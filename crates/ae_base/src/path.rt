@@ -36,10 +36,7 @@ fn are_path_bytes(text: &[u8]) -> bool
 fn part_fits(part: &[u8]) -> bool
     ensures { result ≡ is_part part.now }
 {
-    !part.is_empty()
-        && part != b".".as_slice()
-        && part != b"..".as_slice()
-        && are_path_bytes(part)
+    !part.is_empty() && part != b".".as_slice() && part != b"..".as_slice() && are_path_bytes(part)
 }
 
 fn first_slash(text: &[u8]) -> Option<usize>

@@ -181,7 +181,11 @@ impl fmt::Display for Refusal {
             Refusal::FileNotInChange(path) => write!(f, "{} is not in the change so", File(path)),
             Refusal::FileNotInProject(path) => write!(f, "{} is not in the project", File(path)),
             Refusal::FileInProject(path) => write!(f, "{} is in the project", File(path)),
-            Refusal::FileLocked(path, change) => write!(f, "{} is locked by change {change}", File(path)),
+            Refusal::FileLocked(path, change) => write!(
+                f,
+                "{} is locked by change {change}",
+                File(path)
+            ),
             Refusal::OutOfDate(path, origin, edit) => {
                 write!(f, "{}{}", File(path), Edits(*origin, *edit))
             }
@@ -192,7 +196,10 @@ impl fmt::Display for Refusal {
             Refusal::TestNeeded(path) => write!(f, "test \"{path}\" is needed"),
             Refusal::BaselineTestNeeded(path) => write!(f, "baseline test \"{path}\" is needed"),
             Refusal::RegressionNeeded(path) => write!(f, "regression test \"{path}\" is needed"),
-            Refusal::IntegrationInProgress(change) => write!(f, "change {change} is being integrated"),
+            Refusal::IntegrationInProgress(change) => write!(
+                f,
+                "change {change} is being integrated"
+            ),
             Refusal::Differs(path) => write!(f, "{} differs from the candidate", File(path)),
             Refusal::NoCommand => f.write_str("aegis.conf gives no such command"),
             Refusal::BadConfig(line) => write!(f, "aegis.conf, line {line}"),

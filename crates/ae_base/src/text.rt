@@ -26,8 +26,7 @@ impl Model for Text {
 // The items of a slice of bytes are bytes.
 fn note_bytes(bytes: &[u8])
     ensures { AreBytes bytes.now }
-{
-}
+{}
 
 impl Text {
     /// The text of these bytes.

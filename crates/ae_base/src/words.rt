@@ -51,7 +51,10 @@ impl Phase {
     fn find(text: &[u8]) -> Option<Phase>
         ensures { result ≡ find (λ phase. bytes_eq (phase_word phase) text.now) phases }
     {
-        Self::ALL.iter().copied().find(|phase| phase.word().as_bytes() == text)
+        Self::ALL
+            .iter()
+            .copied()
+            .find(|phase| phase.word().as_bytes() == text)
     }
 }
 
@@ -94,7 +97,10 @@ impl Role {
     fn find(text: &[u8]) -> Option<Role>
         ensures { result ≡ find (λ role. bytes_eq (role_word role) text.now) roles }
     {
-        Self::ALL.iter().copied().find(|role| role.word().as_bytes() == text)
+        Self::ALL
+            .iter()
+            .copied()
+            .find(|role| role.word().as_bytes() == text)
     }
 }
 
@@ -107,11 +113,7 @@ pub enum Action {
 }
 
 impl Action {
-    const ALL: [Action; 3] = [
-        Action::Create,
-        Action::Modify,
-        Action::Remove,
-    ];
+    const ALL: [Action; 3] = [Action::Create, Action::Modify, Action::Remove];
 
     /// Its word.
     pub fn word(self) -> &'static str
@@ -134,7 +136,10 @@ impl Action {
     fn find(text: &[u8]) -> Option<Action>
         ensures { result ≡ find (λ action. bytes_eq (action_word action) text.now) actions }
     {
-        Self::ALL.iter().copied().find(|action| action.word().as_bytes() == text)
+        Self::ALL
+            .iter()
+            .copied()
+            .find(|action| action.word().as_bytes() == text)
     }
 }
 
@@ -147,11 +152,7 @@ pub enum Usage {
 }
 
 impl Usage {
-    const ALL: [Usage; 3] = [
-        Usage::Source,
-        Usage::Config,
-        Usage::Test,
-    ];
+    const ALL: [Usage; 3] = [Usage::Source, Usage::Config, Usage::Test];
 
     /// Its word.
     pub fn word(self) -> &'static str
@@ -174,7 +175,10 @@ impl Usage {
     fn find(text: &[u8]) -> Option<Usage>
         ensures { result ≡ find (λ usage. bytes_eq (usage_word usage) text.now) usages }
     {
-        Self::ALL.iter().copied().find(|usage| usage.word().as_bytes() == text)
+        Self::ALL
+            .iter()
+            .copied()
+            .find(|usage| usage.word().as_bytes() == text)
     }
 }
 
@@ -226,7 +230,10 @@ impl Cause {
     fn find(text: &[u8]) -> Option<Cause>
         ensures { result ≡ find (λ cause. bytes_eq (cause_word cause) text.now) causes }
     {
-        Self::ALL.iter().copied().find(|cause| cause.word().as_bytes() == text)
+        Self::ALL
+            .iter()
+            .copied()
+            .find(|cause| cause.word().as_bytes() == text)
     }
 }
 
@@ -238,10 +245,7 @@ pub enum Ground {
 }
 
 impl Ground {
-    const ALL: [Ground; 2] = [
-        Ground::Develop,
-        Ground::Integrate,
-    ];
+    const ALL: [Ground; 2] = [Ground::Develop, Ground::Integrate];
 
     /// Its word.
     pub fn word(self) -> &'static str
@@ -263,7 +267,10 @@ impl Ground {
     fn find(text: &[u8]) -> Option<Ground>
         ensures { result ≡ find (λ during. bytes_eq (ground_word during) text.now) grounds }
     {
-        Self::ALL.iter().copied().find(|during| during.word().as_bytes() == text)
+        Self::ALL
+            .iter()
+            .copied()
+            .find(|during| during.word().as_bytes() == text)
     }
 }
 
@@ -306,7 +313,10 @@ impl Kind {
     fn find(text: &[u8]) -> Option<Kind>
         ensures { result ≡ find (λ kind. bytes_eq (kind_word kind) text.now) kinds }
     {
-        Self::ALL.iter().copied().find(|kind| kind.word().as_bytes() == text)
+        Self::ALL
+            .iter()
+            .copied()
+            .find(|kind| kind.word().as_bytes() == text)
     }
 }
 
@@ -379,7 +389,10 @@ impl What {
     fn find(text: &[u8]) -> Option<What>
         ensures { result ≡ find (λ what. bytes_eq (what_word what) text.now) events_of_history }
     {
-        Self::ALL.iter().copied().find(|what| what.word().as_bytes() == text)
+        Self::ALL
+            .iter()
+            .copied()
+            .find(|what| what.word().as_bytes() == text)
     }
 }
 
@@ -443,6 +456,9 @@ impl Which {
     fn find(text: &[u8]) -> Option<Which>
         ensures { result ≡ find (λ which. bytes_eq (which_word which) text.now) limits }
     {
-        Self::ALL.iter().copied().find(|which| which.word().as_bytes() == text)
+        Self::ALL
+            .iter()
+            .copied()
+            .find(|which| which.word().as_bytes() == text)
     }
 }
