@@ -21,6 +21,10 @@ piece b =
 abbrev pub quoted : List ℕ → List ℕ
 quoted s = 34 ∷ (flat_map piece s ++ 34 ∷ [])
 
+-- `name = value;`, of a name and a value's text
+abbrev pub field_text : List ℕ → List ℕ → List ℕ
+field_text name value = name ++ 32 ∷ 61 ∷ 32 ∷ (value ++ 59 ∷ [])
+
 abbrev mutual
   -- `[`, the values joined by `, `, and `]`; or `{ `, the fields joined by a space, and ` }`, where none are `{ }`
   pub value_text : Node → List ℕ
@@ -35,15 +39,15 @@ abbrev mutual
   items_text before no_items = []
   items_text before (item j js) = before ++ (value_text j ++ items_text (44 ∷ 32 ∷ []) js)
 
-  -- each field as `name = value;`, behind a space
+  -- each field behind a space
   pub spaced_fields_text : Members → List ℕ
   spaced_fields_text no_members = []
-  spaced_fields_text (member k j ms) = 32 ∷ (k ++ 32 ∷ 61 ∷ 32 ∷ (value_text j ++ 59 ∷ spaced_fields_text ms))
+  spaced_fields_text (member k j ms) = 32 ∷ (field_text k (value_text j) ++ spaced_fields_text ms)
 
--- each field as `name = value;`, and a line end
+-- each field, and a line end
 abbrev pub fields_text : Members → List ℕ
 fields_text no_members = []
-fields_text (member k j ms) = k ++ 32 ∷ 61 ∷ 32 ∷ (value_text j ++ 59 ∷ 10 ∷ fields_text ms)
+fields_text (member k j ms) = field_text k (value_text j) ++ 10 ∷ fields_text ms
 
 -- the text is its fields, one on a line; what isn't a tree of fields has no text
 abbrev pub text : Node → List ℕ

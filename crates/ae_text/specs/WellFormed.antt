@@ -1,5 +1,5 @@
 -- Which trees are a text: the words are words, no name repeats, and nothing nests too deep.
-use Rattle.std.specs.Prelude.{◌≡◌, ◌≢◌, ℕ, ◌-◌, ◌<◌, List, [], ◌∷◌, Bool, true, false, ◌==◌, ◌&&◌, ◌||◌, IsTrue}
+use Rattle.std.specs.Prelude.{◌≢◌, ℕ, ◌-◌, ◌<◌, List, [], ◌∷◌, Bool, false, ◌==◌, ◌&&◌, ◌||◌, IsTrue}
 use Rattle.std.specs.List.{list_all}
 use Rattle.ae_base.specs.Names.{is_letter, is_digit}
 use Rattle.ae_text.specs.Tree.{Node, word, number, str, list, fields, Items, no_items, item, Members, no_members, member}

@@ -2,7 +2,7 @@
 ghost use Rattle.std.specs.Prelude.{◌≡◌, ◌++◌, [], OnOk, IfOk};
 ghost use Rattle.std.specs.Fmt.{decimal};
 ghost use Rattle.ae_text.specs.View.{node, items_seen, members_seen};
-ghost use Rattle.ae_text.specs.Canonical.{piece, quoted, value_text, items_text, spaced_fields_text, fields_text, text};
+ghost use Rattle.ae_text.specs.Canonical.{piece, quoted, value_text, items_text, field_text, spaced_fields_text, fields_text, text};
 ghost use Rattle.ae_text.specs.WellFormed.{IsWellFormed};
 
 use crate::tree::{Field, Tree};
@@ -81,11 +81,19 @@ fn put_spaced_fields(out: &mut Vec<u8>, fields: &[Field]) -> Result<(), AllocErr
 {
     for field in fields {
         out.push(b' ')?;
-        out.extend_from_slice(field.name.bytes())?;
-        out.extend_from_slice(b" = ")?;
-        put_value(out, &field.value)?;
-        out.push(b';')?;
+        put_field(out, field)?;
     }
+    Ok(())
+}
+
+#[cycle(value)]
+fn put_field(out: &mut Vec<u8>, field: &Field) -> Result<(), AllocError>
+    ensures { OnOk result (out.new.items ≡ out.old.items ++ field_text field.now.name (value_text (node field.now.value))) }
+{
+    out.extend_from_slice(field.name.bytes())?;
+    out.extend_from_slice(b" = ")?;
+    put_value(out, &field.value)?;
+    out.push(b';')?;
     Ok(())
 }
 
@@ -93,10 +101,8 @@ fn put_fields(out: &mut Vec<u8>, fields: &[Field]) -> Result<(), AllocError>
     ensures { OnOk result (out.new.items ≡ out.old.items ++ fields_text (members_seen fields.now)) }
 {
     for field in fields {
-        out.extend_from_slice(field.name.bytes())?;
-        out.extend_from_slice(b" = ")?;
-        put_value(out, &field.value)?;
-        out.extend_from_slice(b";\n")?;
+        put_field(out, field)?;
+        out.push(b'\n')?;
     }
     Ok(())
 }

@@ -19,7 +19,10 @@ fn three_fields_stand_on_three_lines(rt: HostRuntime) -> Result<(), Fail> {
     ]?;
     let tree = Tree::Fields(FieldList::of(fields));
     let text = print_tree(alloc, &tree)?;
-    assert_eq!(rt; text.as_slice(), b"a = 1;\nb = [x, \"y\"];\nc = { d = \"\"; };\n".as_slice());
+    assert_eq!(rt;
+        text.as_slice(),
+        b"a = 1;\nb = [x, \"y\"];\nc = { d = \"\"; };\n".as_slice()
+    );
     Ok(())
 }
 
@@ -56,7 +59,10 @@ fn bytes_of_a_string(rt: HostRuntime) -> Result<(), Fail> {
     let fields = vec![in alloc; Field::of(alloc, b"s", Tree::string(alloc, &bytes)?)?]?;
     let tree = Tree::Fields(FieldList::of(fields));
     let text = print_tree(alloc, &tree)?;
-    assert_eq!(rt; text.as_slice(), b"s = \"\\n\\t\\\"\\\\\\000\\177\\377\";\n".as_slice());
+    assert_eq!(rt;
+        text.as_slice(),
+        b"s = \"\\n\\t\\\"\\\\\\000\\177\\377\";\n".as_slice()
+    );
     Ok(())
 }
 
@@ -79,7 +85,10 @@ fn sixteen_lists_nest(rt: HostRuntime) -> Result<(), Fail> {
     let fields = vec![in alloc; Field::of(alloc, b"a", nested(alloc, 16)?)?]?;
     let tree = Tree::Fields(FieldList::of(fields));
     let text = print_tree(alloc, &tree)?;
-    assert_eq!(rt; text.as_slice(), b"a = [[[[[[[[[[[[[[[[7]]]]]]]]]]]]]]]];\n".as_slice());
+    assert_eq!(rt;
+        text.as_slice(),
+        b"a = [[[[[[[[[[[[[[[[7]]]]]]]]]]]]]]]];\n".as_slice()
+    );
     Ok(())
 }
 

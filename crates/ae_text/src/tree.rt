@@ -64,7 +64,10 @@ impl Field {
     pub fn of(alloc: Global, name: &[u8], value: Tree) -> Result<Field, AllocError>
         ensures { IfOk result (λ field. named_node field ≡ (name.now, node value)) }
     {
-        Ok(Field { name: Text::of(Vec::from_slice(alloc, name)?), value })
+        Ok(Field {
+            name: Text::of(Vec::from_slice(alloc, name)?),
+            value,
+        })
     }
 }
 
