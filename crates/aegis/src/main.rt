@@ -1,0 +1,58 @@
+//! The program: the real directories, files and streams, and what is done with them.
+#![tactic(auto)]
+
+mod disk;
+mod help;
+mod places;
+mod run;
+mod site;
+mod streams;
+mod who;
+
+
+use disk::RealDisk;
+use site::RealSite;
+use std::io::{ErrorKind, Write};
+use std::process::ExitCode;
+use streams::{Reading, Writing};
+
+// The words aren't understood.
+const BAD_WORDS: u8 = 2;
+
+// Standard output doesn't take what is said.
+const NOT_SAID: u8 = 5;
+
+// There is no memory to begin with.
+const NO_MEMORY: u8 = 8;
+
+fn main(rt: HostRuntime) -> ExitCode {
+    let words = match who::words(&rt) {
+        Ok(words) => words,
+        Err(e) if e.kind() == ErrorKind::OutOfMemory => return ExitCode::from(NO_MEMORY),
+        Err(_) => {
+            rt.stderr().write_all(b"aegis: a word is not UTF-8\n").ok();
+            return ExitCode::from(BAD_WORDS);
+        }
+    };
+    if let Some(text) = help::shown(words.as_slice()) {
+        return match rt.stdout().write_all(text.as_bytes()) {
+            Ok(()) => ExitCode::SUCCESS,
+            Err(_) => ExitCode::from(NOT_SAID),
+        };
+    }
+    let Ok(who) = who::user(&rt) else {
+        return ExitCode::from(NO_MEMORY);
+    };
+    let status = run::run(
+        rt.alloc(),
+        words.as_slice(),
+        who.as_str(),
+        who::moment(&rt),
+        &mut RealDisk::new(&rt, rt.alloc()),
+        &mut RealSite::new(&rt, rt.alloc()),
+        &mut Reading::new(rt.stdin()),
+        &mut Writing::new(rt.stdout()),
+        &mut Writing::new(rt.stderr()),
+    );
+    ExitCode::from(status)
+}

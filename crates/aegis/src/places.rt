@@ -1,0 +1,114 @@
+// What stands at a path. Each part of it is looked at before what it holds, so that no symbolic link is followed.
+use std::fs::File;
+use std::io::ErrorKind;
+use std::rt::Files;
+use std::{fs, io};
+
+/// What stands at a place.
+#[derive(Clone, Copy, Debug, PartialEq, Eq)]
+pub enum Found {
+    /// Nothing, or no folder on the way.
+    Absent,
+    /// A regular file of so many bytes.
+    File(u64),
+    Folder,
+    /// A symbolic link, there or on the way.
+    Link,
+    /// Something else, there or on the way.
+    Other,
+}
+
+fn entry_at(files: &impl Files, place: &str) -> io::Result<Found> {
+    let there = match fs::symlink_metadata(files, place) {
+        Ok(there) => there,
+        Err(e) if e.kind() == ErrorKind::NotFound => return Ok(Found::Absent),
+        Err(e) => return Err(e),
+    };
+    if there.is_symlink() {
+        return Ok(Found::Link);
+    }
+    if there.is_dir() {
+        return Ok(Found::Folder);
+    }
+    if there.is_file() {
+        return Ok(Found::File(there.len()));
+    }
+    Ok(Found::Other)
+}
+
+// The folder on the way whose name ends at this byte.
+fn folder_on_the_way(place: &str, end: usize) -> Option<&str> {
+    match place.split_at_checked(end) {
+        Some((folder, rest)) if rest.starts_with('/') => Some(folder),
+        _ => None,
+    }
+}
+
+/// What stands at a place below the current folder.
+pub fn look(files: &impl Files, place: &str) -> io::Result<Found> {
+    for end in 1..place.len() {
+        if let Some(folder) = folder_on_the_way(place, end) {
+            match entry_at(files, folder)? {
+                Found::Folder => {}
+                Found::File(_) => return Ok(Found::Other),
+                other => return Ok(other),
+            }
+        }
+    }
+    entry_at(files, place)
+}
+
+/// The error for a place that is a link, or holds what no file or folder may take the place of.
+pub fn refused() -> io::Error {
+    io::Error::from(ErrorKind::Unsupported)
+}
+
+// A folder that is there stays as it is. Making one follows no link.
+fn make_folder(files: &impl Files, place: &str) -> io::Result<()> {
+    match fs::create_dir(files, place) {
+        Err(e) if e.kind() != ErrorKind::AlreadyExists => return Err(e),
+        _ => {}
+    }
+    match entry_at(files, place)? {
+        Found::Folder => Ok(()),
+        _ => Err(refused()),
+    }
+}
+
+/// Makes a folder, and those on the way to it. It fails where a link or a file stands in the place of one.
+pub fn make_folders(files: &impl Files, place: &str) -> io::Result<()> {
+    for end in 1..place.len() {
+        if let Some(folder) = folder_on_the_way(place, end) {
+            make_folder(files, folder)?;
+        }
+    }
+    make_folder(files, place)
+}
+
+/// Makes the folders on the way to a file.
+pub fn make_folders_to(files: &impl Files, place: &str) -> io::Result<()> {
+    match place.rsplit_once('/') {
+        Some((folder, _)) => make_folders(files, folder),
+        None => Ok(()),
+    }
+}
+
+/// Removes the folders below `top` on the way to a place, from the innermost on, up to the first that holds something.
+pub fn remove_empty_folders(files: &impl Files, top: &str, place: &str) -> io::Result<()> {
+    for end in (top.len().saturating_add(1)..place.len()).rev() {
+        if let Some(folder) = folder_on_the_way(place, end) {
+            match fs::remove_dir(files, folder) {
+                Ok(()) => {}
+                Err(e) if e.kind() == ErrorKind::DirectoryNotEmpty => return Ok(()),
+                Err(e) if e.kind() == ErrorKind::AlreadyExists => return Ok(()),
+                Err(e) => return Err(e),
+            }
+        }
+    }
+    Ok(())
+}
+
+/// Makes a folder's entries outlast a stop.
+pub fn sync_folder(files: &impl Files<File = File>, place: &str) -> io::Result<()> {
+    File::open(files, place)?.sync_all()
+}

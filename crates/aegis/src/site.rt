@@ -1,0 +1,205 @@
+// The real directories, and commands run by `sh`.
+ghost use Rattle.ae_outside.specs.Causes.{HasCause};
+ghost use Rattle.ae_outside.specs.Untold.{untold_site};
+
+use crate::places::{Found, look, make_folders, make_folders_to, refused, remove_empty_folders};
+use ae_base::{Path, Text};
+use ae_outside::{Content, Dir, Exit, Failed, Site, SiteError};
+use std::alloc::{AllocError, Global};
+use std::fs::{File, OpenOptions};
+use std::io::{ErrorKind, Read};
+use std::os::unix::process::ExitStatusExt;
+use std::process::{Command, ExitStatus, Processes, Stdio};
+use std::rt::Files;
+use std::{fs, io};
+
+/// Directories below `aegis.d`, and the current folder. It tells nothing of what they hold.
+#[derive(Drop)]
+pub struct RealSite<'a, R> {
+    rt: &'a R,
+    alloc: Global,
+    faults: u64,
+}
+
+fn folder_of(alloc: Global, dir: Dir) -> Result<String, AllocError> {
+    match dir {
+        Dir::Here => String::from_str(alloc, "."),
+        Dir::Develop(change) => {
+            let number = change.number();
+            format!(in alloc; "aegis.d/develop.{number}")
+        }
+        Dir::Integrate(delta) => {
+            let number = delta.number();
+            format!(in alloc; "aegis.d/integrate.{number}")
+        }
+        Dir::Base(change) => {
+            let number = change.number();
+            format!(in alloc; "aegis.d/base.{number}")
+        }
+    }
+}
+
+fn place_in(alloc: Global, folder: &str, path: &Path) -> io::Result<String> {
+    let Ok(path) = str::from_utf8(path.bytes()) else {
+        return Err(io::Error::from(ErrorKind::InvalidFilename));
+    };
+    let place = format!(in alloc; "{folder}/{path}")?;
+    Ok(place)
+}
+
+// By its code, or by a signal.
+fn exit_of(status: ExitStatus) -> io::Result<Exit> {
+    if let Some(code) = status.code() {
+        if let Ok(code) = u8::try_from(code) {
+            return Ok(Exit::Code(code));
+        }
+    }
+    if let Some(signal) = status.signal() {
+        if let Ok(signal) = u8::try_from(signal) {
+            return Ok(Exit::Signal(signal));
+        }
+    }
+    Err(io::Error::from(ErrorKind::InvalidData))
+}
+
+impl<'a, R: Files<File = File> + Alloc + Processes> RealSite<'a, R> {
+    pub fn new(rt: &'a R, alloc: Global) -> RealSite<'a, R> {
+        RealSite {
+            rt,
+            alloc,
+            faults: 0,
+        }
+    }
+
+    fn counted<T>(&mut self, outcome: io::Result<T>) -> Result<T, Failed>
+        ensures { HasCause self.old.faults self.new.faults result }
+    {
+        match outcome {
+            Ok(value) => Ok(value),
+            Err(_) => {
+                self.faults = self.faults.saturating_add(1);
+                Err(Failed)
+            }
+        }
+    }
+
+    // One byte more than the limit shows that there is more.
+    fn try_read(&self, alloc: Global, dir: Dir, path: &Path, limit: usize) -> io::Result<Content> {
+        let folder = folder_of(alloc, dir)?;
+        let place = place_in(alloc, folder.as_str(), path)?;
+        match look(self.rt, place.as_str())? {
+            Found::File(_) => {}
+            _ => return Ok(Content::Absent),
+        }
+        let file = File::open(self.rt, place)?;
+        let mut bytes = Vec::new(alloc);
+        let most = (limit as u64).saturating_add(1);
+        file.take(most).read_to_end(&mut bytes)?;
+        if bytes.len() > limit {
+            return Ok(Content::TooLong);
+        }
+        Ok(Content::Bytes(Text::of(bytes)))
+    }
+
+    fn try_write(&self, dir: Dir, path: &Path, bytes: &[u8]) -> io::Result<()> {
+        let folder = folder_of(self.alloc, dir)?;
+        let place = place_in(self.alloc, folder.as_str(), path)?;
+        make_folders_to(self.rt, place.as_str())?;
+        match look(self.rt, place.as_str())? {
+            Found::File(_) | Found::Absent => fs::write(self.rt, place, bytes),
+            _ => Err(refused()),
+        }
+    }
+
+    fn try_remove(&self, dir: Dir, path: &Path) -> io::Result<()> {
+        let is_here = dir == Dir::Here;
+        let folder = folder_of(self.alloc, dir)?;
+        let place = place_in(self.alloc, folder.as_str(), path)?;
+        match look(self.rt, place.as_str())? {
+            Found::File(_) => fs::remove_file(self.rt, place.as_str())?,
+            Found::Link => return Err(refused()),
+            _ => return Ok(()),
+        }
+        if is_here {
+            return Ok(());
+        }
+        remove_empty_folders(self.rt, folder.as_str(), place.as_str())
+    }
+
+    fn try_clear(&self, dir: Dir) -> io::Result<()> {
+        if dir == Dir::Here {
+            return Err(refused());
+        }
+        let folder = folder_of(self.alloc, dir)?;
+        match look(self.rt, folder.as_str())? {
+            Found::Folder => fs::remove_dir_all(self.rt, folder.as_str())?,
+            Found::Absent => {}
+            _ => return Err(refused()),
+        }
+        make_folders(self.rt, folder.as_str())
+    }
+
+    fn try_run(&self, dir: Dir, command: &str) -> io::Result<Exit> {
+        let folder = folder_of(self.alloc, dir)?;
+        make_folders(self.rt, folder.as_str())?;
+        let log = format!(in self.alloc; "{folder}/aegis.log")?;
+        match look(self.rt, log.as_str())? {
+            Found::File(_) | Found::Absent => {}
+            _ => return Err(refused()),
+        }
+        let out = OpenOptions::new()
+            .append(true)
+            .create(true)
+            .open(self.rt, log)?;
+        let err = out.try_clone()?;
+        let mut shell = Command::new(self.alloc, "sh")?;
+        shell.arg("-c")?.arg(command)?.current_dir(folder)?;
+        shell.stdin(Stdio::null()).stdout(out).stderr(err);
+        exit_of(shell.status(self.rt)?)
+    }
+}
+
+impl<'a, R: Files<File = File> + Alloc + Processes> Site for RealSite<'a, R> {
+    ghost tells = { ⊥ };
+
+    ghost state = { λ _. untold_site };
+
+    ghost faults = { λ site. site.faults };
+
+    fn read(
+        &mut self,
+        alloc: Global,
+        dir: Dir,
+        path: &Path,
+        limit: usize,
+    ) -> Result<Content, SiteError> {
+        match self.try_read(alloc, dir, path, limit) {
+            Ok(content) => Ok(content),
+            Err(e) if e.kind() == ErrorKind::OutOfMemory => Err(SiteError::Memory),
+            Err(_) => {
+                self.faults = self.faults.saturating_add(1);
+                Err(SiteError::Failed)
+            }
+        }
+    }
+
+    fn write(&mut self, dir: Dir, path: &Path, bytes: &[u8]) -> Result<(), Failed> {
+        let written = self.try_write(dir, path, bytes);
+        self.counted(written)
+    }
+
+    fn remove(&mut self, dir: Dir, path: &Path) -> Result<(), Failed> {
+        let removed = self.try_remove(dir, path);
+        self.counted(removed)
+    }
+
+    fn clear(&mut self, dir: Dir) -> Result<(), Failed> {
+        let cleared = self.try_clear(dir);
+        self.counted(cleared)
+    }
+
+    fn run(&mut self, dir: Dir, command: &str) -> Result<Exit, Failed> {
+        let exit = self.try_run(dir, command);
+        self.counted(exit)
+    }
+}

@@ -1,0 +1,72 @@
+// A source over a reader, and a sink over a writer.
+ghost use Rattle.std.specs.Prelude.{[]};
+
+use ae_outside::{Failed, Sink, Source};
+use std::io::{Read, Write};
+
+/// A source over a reader. It tells nothing of the bytes that are left.
+#[derive(Drop)]
+pub struct Reading<R> {
+    inner: R,
+    faults: u64,
+}
+
+impl<R: Read> Reading<R> {
+    pub fn new(inner: R) -> Reading<R> {
+        Reading { inner, faults: 0 }
+    }
+}
+
+impl<R: Read> Source for Reading<R> {
+    ghost tells = { ⊥ };
+
+    ghost left = { λ _. [] };
+
+    ghost faults = { λ source. source.faults };
+
+    fn read(&mut self, into: &mut [u8]) -> Result<usize, Failed> {
+        match self.inner.read(into) {
+            Ok(count) => Ok(count),
+            Err(_) => {
+                self.faults = self.faults.saturating_add(1);
+                Err(Failed)
+            }
+        }
+    }
+}
+
+/// A sink over a writer that keeps nothing back, as the standard streams do: there is nothing to flush. It tells
+/// nothing of the bytes that it has taken.
+#[derive(Drop)]
+pub struct Writing<W> {
+    inner: W,
+    faults: u64,
+}
+
+impl<W: Write> Writing<W> {
+    pub fn new(inner: W) -> Writing<W> {
+        Writing { inner, faults: 0 }
+    }
+}
+
+impl<W: Write> Sink for Writing<W> {
+    ghost tells = { ⊥ };
+
+    ghost taken = { λ _. [] };
+
+    ghost faults = { λ sink. sink.faults };
+
+    fn write(&mut self, bytes: &[u8]) -> Result<usize, Failed> {
+        match self.inner.write(bytes) {
+            Ok(0) => {
+                self.faults = self.faults.saturating_add(1);
+                Ok(0)
+            }
+            Ok(count) => Ok(count),
+            Err(_) => {
+                self.faults = self.faults.saturating_add(1);
+                Err(Failed)
+            }
+        }
+    }
+}

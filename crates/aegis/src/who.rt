@@ -1,0 +1,43 @@
+// What is asked, who asks, and when.
+ghost use Rattle.std.specs.Prelude.{◌≤◌};
+
+use std::alloc::AllocError;
+use std::env::VarError;
+use std::rt::{Clock, Env};
+use std::time::{SystemTime, UNIX_EPOCH};
+use std::{env, io};
+
+// The last second of the year 2099.
+const LAST_MOMENT: u64 = 4_102_444_799;
+
+/// The words after the program's name. It fails where one isn't UTF-8.
+pub fn words<R: Env + AllocGlobal>(rt: &R) -> io::Result<Vec<String>> {
+    let words = env::args(rt)?.skip(1).collect(rt.alloc())?;
+    Ok(words)
+}
+
+/// The variable AEGIS_USER, else LOGNAME, else `nobody`. What isn't UTF-8 comes as an empty text, which names no user.
+pub fn user<R: Env + AllocGlobal>(rt: &R) -> Result<String, AllocError> {
+    for name in ["AEGIS_USER", "LOGNAME"] {
+        match env::var(rt, name) {
+            Ok(user) => return Ok(user),
+            Err(VarError::NotPresent) => {}
+            Err(VarError::NotUnicode) => return Ok(String::new(rt.alloc())),
+            Err(VarError::OutOfMemory) => return Err(AllocError),
+        }
+    }
+    String::from_str(rt.alloc(), "nobody")
+}
+
+/// The clock in whole seconds since the start of 1970, and 0 where it shows an earlier moment, or one after 2099.
+pub fn moment(rt: &impl Clock) -> u64
+    ensures { result ≤ 4_102_444_799 }
+{
+    let Ok(now) = SystemTime::now(rt) else {
+        return 0;
+    };
+    match now.duration_since(UNIX_EPOCH) {
+        Ok(past) if past.as_secs() <= LAST_MOMENT => past.as_secs(),
+        _ => 0,
+    }
+}
