@@ -1,0 +1,101 @@
+-- How a call ends, and what is written of it.
+use Rattle.std.specs.Prelude.{◌≡◌, ◌≢◌, ◌⊎◌, ℕ, List, [], ◌∷◌, ◌++◌, Option, Some, None, codes}
+use Rattle.std.specs.Fmt.{decimal}
+use Rattle.ae_base.specs.declared.outcome.Outcome.{Outcome}
+use Rattle.ae_base.specs.declared.outcome.Outcome.TheVariants.{Done, RunFailed, Refused, BadWords, BadScript, DiskFault, SiteFault, SinkFault, SourceFault, Damaged, Memory}
+use Rattle.ae_base.specs.declared.refusal.Refusal.TheVariants.{ProjectExists}
+use Rattle.ae_base.specs.Refusals.{message_of}
+use Rattle.ae_outside.specs.Causes.{HasRisen}
+use Rattle.ae_outside.specs.Image.{Image}
+use Rattle.ae_outside.specs.Streams.{TakesPrefix}
+use Rattle.ae_session.specs.Records.{project_text, files_text}
+
+abbrev pub project_file : List ℕ
+project_file = codes "project"
+
+abbrev pub files_file : List ℕ
+files_file = codes "files"
+
+-- How a call may end, and the cause of each outcome: `bad` is the place of a bad word, `project` what the file of that
+-- name held where the disk tells it, and the last two say that the disk's or the sink's count of faults rose.
+pub data EndsAs (bad : Option ℕ) (tells : Type 0) (project : List ℕ) (disk_rose sink_rose : Type 0) : Outcome → Type 0 where
+  bad_words : (place : ℕ) → bad ≡ Some place → EndsAs bad tells project disk_rose sink_rose (BadWords place)
+  exists : bad ≡ None → (tells → project ≢ []) → EndsAs bad tells project disk_rose sink_rose (Refused ProjectExists)
+  created : bad ≡ None → (tells → project ≡ []) → EndsAs bad tells project disk_rose sink_rose Done
+  disk_fault : bad ≡ None → disk_rose → EndsAs bad tells project disk_rose sink_rose DiskFault
+  sink_fault : sink_rose → EndsAs bad tells project disk_rose sink_rose SinkFault
+  memory : EndsAs bad tells project disk_rose sink_rose Memory
+
+abbrev pub created_text : List ℕ → List ℕ
+created_text name = codes "aegis: project \"" ++ (name ++ (codes "\": created" ++ 10 ∷ []))
+
+abbrev pub bad_words_text : ℕ → List ℕ
+bad_words_text place = codes "aegis: word " ++ (decimal place ++ (codes " is not understood" ++ 10 ∷ []))
+
+abbrev pub disk_fault_text : List ℕ
+disk_fault_text = codes "aegis: disk fault" ++ 10 ∷ []
+
+abbrev pub memory_text : List ℕ
+memory_text = codes "aegis: out of memory" ++ 10 ∷ []
+
+-- what is written of an outcome, for a project of this name
+abbrev pub message_for : List ℕ → Outcome → List ℕ
+message_for name Done = created_text name
+message_for name (Refused refusal) = message_of refusal
+message_for name (BadWords place) = bad_words_text place
+message_for name DiskFault = disk_fault_text
+message_for name Memory = memory_text
+message_for name RunFailed = []
+message_for name (BadScript line) = []
+message_for name SiteFault = []
+message_for name SinkFault = []
+message_for name SourceFault = []
+message_for name (Damaged file) = []
+
+-- the two files of a new project of this name, made by this user
+pub record HoldsProject (name who : List ℕ) (image : Image) : Type 0 where
+  pub files : image files_file ≡ files_text
+  pub project : image project_file ≡ project_text name who
+
+-- no other file is changed
+abbrev pub OthersSame : Image → Image → Type 0
+OthersSame old new = (name : List ℕ) → name ≢ files_file → name ≢ project_file → new name ≡ old name
+
+-- some first bytes of the message were taken, and all of it unless the count of faults rose
+pub record IsTried (message old new : List ℕ) (faults faults_new : ℕ) : Type 0 where
+  pub part : TakesPrefix old new message
+  pub whole : HasRisen faults faults_new ⊎ (new ≡ old ++ message)
+
+-- what is left of an outcome whose message can't be written
+abbrev pub unless_told : Outcome → Outcome
+unless_told Done = SinkFault
+unless_told RunFailed = SinkFault
+unless_told (Refused refusal) = SinkFault
+unless_told (BadWords place) = SinkFault
+unless_told (BadScript line) = SinkFault
+unless_told DiskFault = DiskFault
+unless_told SiteFault = SiteFault
+unless_told SinkFault = SinkFault
+unless_told SourceFault = SourceFault
+unless_told (Damaged file) = Damaged file
+unless_told Memory = Memory
+
+-- what is written at the end: the whole message; of a fault or want of memory perhaps a part; at a sink's fault a part
+abbrev pub IsSaid : List ℕ → Outcome → List ℕ → List ℕ → ℕ → ℕ → Type 0
+IsSaid message Done old new faults faults_new = new ≡ old ++ message
+IsSaid message RunFailed old new faults faults_new = new ≡ old ++ message
+IsSaid message (Refused refusal) old new faults faults_new = new ≡ old ++ message
+IsSaid message (BadWords place) old new faults faults_new = new ≡ old ++ message
+IsSaid message (BadScript line) old new faults faults_new = new ≡ old ++ message
+IsSaid message DiskFault old new faults faults_new = IsTried message old new faults faults_new
+IsSaid message SiteFault old new faults faults_new = IsTried message old new faults faults_new
+IsSaid message SinkFault old new faults faults_new = TakesPrefix old new message
+IsSaid message SourceFault old new faults faults_new = IsTried message old new faults faults_new
+IsSaid message (Damaged file) old new faults faults_new = IsTried message old new faults faults_new
+IsSaid message Memory old new faults faults_new = IsTried message old new faults faults_new
+
+-- The outcome's own message is written, and at a sink's fault a part of the message of the outcome that was meant.
+pub record Says (name : List ℕ) (result : Outcome) (old new : List ℕ) (faults faults_new : ℕ) : Type 0 where
+  pub meant : Outcome
+  pub is : (result ≡ meant) ⊎ (result ≡ SinkFault)
+  pub said : IsSaid (message_for name meant) result old new faults faults_new

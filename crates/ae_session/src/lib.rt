@@ -1,0 +1,13 @@
+//! The top call: one command, from its words to the disk and the reply.
+#![tactic(auto)]
+
+mod records;
+mod reply;
+mod request;
+mod session;
+mod store;
+
+pub use session::aegis;
+
+#[cfg(test)]
+mod tests;

@@ -1,0 +1,133 @@
+// The answer of a call, and how it is told.
+ghost use Rattle.std.specs.Prelude.{◌≡◌, ◌≤◌, ◌⊎◌, ◌++◌, ℕ, List, [], IfOk, OnOk, length};
+ghost use Rattle.ae_base.specs.Refusals.{message_of};
+ghost use Rattle.ae_outside.specs.Causes.{HasRisen, HasCause};
+ghost use Rattle.ae_outside.specs.Streams.{TakesPrefix};
+ghost use Rattle.ae_session.specs.Answers.{message_for, bad_words_text, created_text, IsSaid};
+
+use crate::request::Request;
+use ae_base::{Outcome, Refusal};
+use ae_outside::{Failed, Sink};
+use std::alloc::{AllocError, Global};
+
+/// The reply to a project that was made.
+pub fn created(alloc: Global, request: &Request) -> Result<Vec<u8>, AllocError>
+    ensures { IfOk result (λ reply. reply.items ≡ created_text request.now.name) }
+{
+    let name = &request.name;
+    let reply = format!(in alloc; "aegis: project \"{name}\": created\n")?;
+    Ok(reply.into_bytes())
+}
+
+fn not_understood(alloc: Global, place: u32) -> Result<Vec<u8>, AllocError>
+    ensures { IfOk result (λ reply. reply.items ≡ bad_words_text place) }
+{
+    let reply = format!(in alloc; "aegis: word {place} is not understood\n")?;
+    Ok(reply.into_bytes())
+}
+
+/// Writes all of it. A write that fails is not tried again.
+pub fn put_all<K: Sink>(sink: &mut K, bytes: &[u8]) -> Result<(), Failed>
+    ensures all { OnOk result (K.tells → K.taken sink.new ≡ K.taken sink.old ++ bytes.now) }
+    ensures part { K.tells → TakesPrefix (K.taken sink.old) (K.taken sink.new) bytes.now }
+    ensures cause { HasCause (K.faults sink.old) (K.faults sink.new) result }
+{
+    let mut at = 0;
+    while at < bytes.len() {
+        match sink.write(&bytes[at..]) {
+            Ok(0) => return Err(Failed),
+            Ok(count) => at += count,
+            Err(failed) => return Err(failed),
+        }
+    }
+    Ok(())
+}
+
+/// The outcome of a call, and the message of it.
+#[derive(Drop)]
+pub struct Reply {
+    outcome: Outcome,
+    text: Vec<u8>,
+}
+
+ghost use Rattle.ae_base.specs.declared.outcome.Outcome.TheVariants.{Done, Refused, BadWords, SinkFault};
+ghost use Rattle.ae_session.specs.Answers.{unless_told};
+ghost use Rattle.ae_session.specs.Replies.{reply_text};
+
+impl Reply {
+    /// An outcome with a message of its own making.
+    pub fn of(outcome: Outcome, text: Vec<u8>) -> Reply
+        ensures outcome { result.outcome ≡ outcome }
+        ensures text { result.text ≡ text }
+    {
+        Reply { outcome, text }
+    }
+
+    /// An outcome whose message takes no memory.
+    pub fn bare(alloc: Global, outcome: Outcome) -> Reply
+        ensures outcome { result.outcome ≡ outcome }
+    {
+        Reply {
+            outcome,
+            text: Vec::new(alloc),
+        }
+    }
+
+    /// What is written of it.
+    fn bytes(&self) -> &[u8]
+        ensures { result.now ≡ reply_text self.now.outcome self.now.text.items }
+    {
+        match self.outcome {
+            Outcome::DiskFault => b"aegis: disk fault\n",
+            Outcome::Memory => b"aegis: out of memory\n",
+            _ => self.text.as_slice(),
+        }
+    }
+
+    /// Writes the message. Where that fails, a fault or want of memory stays the outcome.
+    pub fn tell<E: Sink>(self, err: &mut E) -> Outcome
+        ensures outcome { (result ≡ self.outcome) ⊎ (result ≡ unless_told self.outcome) × HasRisen (E.faults err.old) (E.faults err.new) }
+        ensures said { E.tells → IsSaid (reply_text self.outcome self.text.items) result (E.taken err.old) (E.taken err.new) (E.faults err.old) (E.faults err.new) }
+        ensures later { E.faults err.old ≤ E.faults err.new }
+    {
+        match put_all(err, self.bytes()) {
+            Ok(()) => self.outcome,
+            Err(_) => untold(self.outcome),
+        }
+    }
+}
+
+fn untold(outcome: Outcome) -> Outcome
+    ensures { result ≡ unless_told outcome }
+{
+    match outcome {
+        Outcome::Done
+        | Outcome::RunFailed
+        | Outcome::Refused(_)
+        | Outcome::BadWords(_)
+        | Outcome::BadScript(_) => Outcome::SinkFault,
+        other => other,
+    }
+}
+
+/// The words are bad at this place.
+pub fn bad_words(alloc: Global, place: u32) -> Reply
+    ensures outcome { (result.outcome ≡ Outcome.BadWords place) ⊎ (result.outcome ≡ Outcome.Memory) }
+    ensures text { (name : List ℕ) → reply_text result.outcome result.text.items ≡ message_for name result.outcome }
+{
+    match not_understood(alloc, place) {
+        Ok(text) => Reply::of(Outcome::BadWords(place), text),
+        Err(_) => Reply::bare(alloc, Outcome::Memory),
+    }
+}
+
+/// The command is refused.
+pub fn refused(alloc: Global, refusal: Refusal) -> Reply
+    ensures outcome { (result.outcome ≡ Outcome.Refused refusal) ⊎ (result.outcome ≡ Outcome.Memory) }
+    ensures text { (name : List ℕ) → reply_text result.outcome result.text.items ≡ message_for name result.outcome }
+{
+    match refusal.message(alloc) {
+        Ok(text) => Reply::of(Outcome::Refused(refusal), text),
+        Err(_) => Reply::bare(alloc, Outcome::Memory),
+    }
+}
