@@ -1,3 +1,5 @@
 // The forms in memory: a disk, a site, a source and sinks that tell all they hold.
 
 pub(crate) mod calls;
+pub(crate) mod disk_files;
+pub(crate) mod disk_log;

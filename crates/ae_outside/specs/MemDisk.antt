@@ -1,0 +1,34 @@
+-- What contracts see of a disk in memory.
+use Rattle.std.specs.Prelude.{◌≡◌, ℕ, List, length, take, refl}
+use Rattle.ae_outside.specs.declared.memory.disk_files.File.{File}
+use Rattle.ae_outside.specs.declared.memory.disk_log.Logged.{Logged}
+use Rattle.ae_outside.specs.Calls.{Counts}
+use Rattle.ae_outside.specs.Image.{Image}
+use Rattle.ae_outside.specs.State.{DiskState}
+use Rattle.ae_outside.specs.DiskFiles.{bytes_of}
+use Rattle.ae_outside.specs.DiskLog.{replay, IsLeft, changes_by}
+use Rattle.ae_outside.specs.DiskLaws.{read_left}
+use Rattle.ae_outside.specs.DiskShort.{cut_left}
+
+-- the files that it began with, its log, and its calls
+pub record DiskRecord : Type 0 where
+  pub initial : List File
+  pub log : List Logged
+  pub counts : Counts
+
+-- Its clock ticks with each change that it logs.
+pub state_from : Image → List Logged → DiskState
+state_from start log = record {
+  moment = length log;
+  reads_at = λ u. replay start (take u log);
+  image_at = λ u image. IsLeft start (take u log) image;
+  reads_is_image = λ u le. read_left start (λ i. i ≡ start) (take u log) refl;
+  cut_is_image = λ u name image le is. cut_left start (take u log) name image is;
+}
+
+abbrev pub state_of : DiskRecord → DiskState
+state_of disk = state_from (bytes_of disk.initial) disk.log
+
+-- the moment behind the first so many calls
+abbrev pub moment_behind : ℕ → DiskRecord → ℕ
+moment_behind calls disk = length (changes_by calls disk.log)
