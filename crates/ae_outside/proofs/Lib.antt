@@ -1,1 +1,2 @@
 pub mod DiskFilesLemmas
+pub mod DiskReplay

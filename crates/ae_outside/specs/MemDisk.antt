@@ -1,6 +1,7 @@
 -- What contracts see of a disk in memory.
-use Rattle.std.specs.Prelude.{◌≡◌, ℕ, List, length, take, refl}
+use Rattle.std.specs.Prelude.{◌≡◌, ℕ, List, [], ◌∷◌, ◌++◌, length, take, refl}
 use Rattle.ae_outside.specs.declared.memory.disk_files.File.{File}
+use Rattle.ae_outside.specs.declared.memory.disk_log.Change.{Change}
 use Rattle.ae_outside.specs.declared.memory.disk_log.Logged.{Logged}
 use Rattle.ae_outside.specs.Calls.{Counts}
 use Rattle.ae_outside.specs.Image.{Image}
@@ -16,8 +17,16 @@ pub record DiskRecord : Type 0 where
   pub log : List Logged
   pub counts : Counts
 
+-- nothing but the counts changes
+abbrev pub OnlyCounts : DiskRecord → DiskRecord → Type 0
+OnlyCounts old new = new ≡ record old { counts = new.counts }
+
+-- the change is logged with the call's number, and nothing else but the counts changes
+abbrev pub Logs : Change → DiskRecord → DiskRecord → Type 0
+Logs change old new = new ≡ record old { log = old.log ++ record { number = new.counts.calls; change = change } ∷ []; counts = new.counts }
+
 -- Its clock ticks with each change that it logs.
-pub state_from : Image → List Logged → DiskState
+unfoldable pub state_from : Image → List Logged → DiskState
 state_from start log = record {
   moment = length log;
   reads_at = λ u. replay start (take u log);

@@ -11,5 +11,6 @@ mod streams;
 pub use dir::{Content, Dir, Exit};
 pub use disk::Disk;
 pub use failed::{Failed, ReadError, SiteError};
+pub use memory::disk::MemDisk;
 pub use site::Site;
 pub use streams::{Sink, Source};

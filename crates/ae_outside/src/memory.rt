@@ -1,5 +1,6 @@
 // The forms in memory: a disk, a site, a source and sinks that tell all they hold.
 
 pub(crate) mod calls;
+pub(crate) mod disk;
 pub(crate) mod disk_files;
 pub(crate) mod disk_log;
