@@ -1,2 +1,3 @@
 pub mod DiskFilesLemmas
 pub mod DiskReplay
+pub mod DiskPicked

@@ -1,13 +1,16 @@
 -- What contracts see of a disk in memory.
-use Rattle.std.specs.Prelude.{◌≡◌, ℕ, List, [], ◌∷◌, ◌++◌, length, take, refl}
+use Rattle.std.specs.Prelude.{◌≡◌, ℕ, nat_le, List, [], ◌∷◌, ◌++◌, length, take, refl}
+use Rattle.std.specs.List.{prefix_len}
 use Rattle.ae_outside.specs.declared.memory.disk_files.File.{File}
 use Rattle.ae_outside.specs.declared.memory.disk_log.Change.{Change}
 use Rattle.ae_outside.specs.declared.memory.disk_log.Logged.{Logged}
+use Rattle.ae_outside.specs.declared.memory.disk_stop.Pick.{Pick}
 use Rattle.ae_outside.specs.Calls.{Counts}
 use Rattle.ae_outside.specs.Image.{Image}
 use Rattle.ae_outside.specs.State.{DiskState}
 use Rattle.ae_outside.specs.DiskFiles.{bytes_of}
 use Rattle.ae_outside.specs.DiskLog.{replay, IsLeft, changes_by}
+use Rattle.ae_outside.specs.DiskPick.{picked}
 use Rattle.ae_outside.specs.DiskLaws.{read_left}
 use Rattle.ae_outside.specs.DiskShort.{cut_left}
 
@@ -38,6 +41,10 @@ state_from start log = record {
 abbrev pub state_of : DiskRecord → DiskState
 state_of disk = state_from (bytes_of disk.initial) disk.log
 
--- the moment behind the first so many calls
+-- the moment behind the first so many calls: how many of them are logged
 abbrev pub moment_behind : ℕ → DiskRecord → ℕ
-moment_behind calls disk = length (changes_by calls disk.log)
+moment_behind calls disk = prefix_len (λ entry. nat_le entry.number calls) disk.log
+
+-- what a stop leaves there by a pick
+abbrev pub picked_behind : Pick → ℕ → DiskRecord → Image
+picked_behind pick calls disk = picked pick (bytes_of disk.initial) (changes_by calls disk.log)

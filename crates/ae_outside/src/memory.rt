@@ -4,3 +4,4 @@ pub(crate) mod calls;
 pub(crate) mod disk;
 pub(crate) mod disk_files;
 pub(crate) mod disk_log;
+pub(crate) mod disk_stop;

@@ -3,14 +3,17 @@ ghost use Rattle.std.specs.Prelude.{◌≡◌, ◌≤◌, ◌<◌, ◌+◌, ◌^
 ghost use Rattle.ae_outside.specs.Calls.{IsCall, IsFed};
 ghost use Rattle.ae_outside.specs.Causes.{Counted, HasCause, next};
 ghost use Rattle.ae_outside.specs.DiskNames.{IsDiskName};
-ghost use Rattle.ae_outside.specs.Image.{IsSame, WriteBegun, CutBegun, Overwritten};
-ghost use Rattle.ae_outside.specs.State.{DiskState, reads, GoesOn, IsStable};
-ghost use Rattle.ae_outside.specs.MemDisk.{state_of, Logs, OnlyCounts};
+ghost use Rattle.ae_outside.specs.Image.{Image, IsSame, WriteBegun, CutBegun, Overwritten};
+ghost use Rattle.ae_outside.specs.State.{DiskState, reads, MayLeave, GoesOn, IsStable};
+ghost use Rattle.ae_outside.specs.DiskFiles.{bytes_of};
+ghost use Rattle.ae_outside.specs.MemDisk.{state_of, moment_behind, picked_behind, Logs, OnlyCounts};
 ghost use Rattle.ae_outside.specs.declared.memory.disk_log.Change.TheVariants.{Write, Cut, Sync};
+ghost use Rattle.ae_outside.specs.declared.memory.disk_stop.Pick.TheVariants.{New};
 
 use crate::memory::calls::Calls;
 use crate::memory::disk_files::Files;
 use crate::memory::disk_log::{Change, Logged};
+use crate::memory::disk_stop::{changes_by, left_files, Pick};
 use crate::{Disk, Failed, ReadError};
 use std::alloc::{AllocError, Global};
 use std::marker::Model;
@@ -55,13 +58,7 @@ impl MemDisk {
     pub fn new(alloc: Global, fails: &[u64]) -> Result<MemDisk, AllocError>
         ensures { IfOk result (λ disk. disk ≡ record { initial = []; log = []; counts = record { fails = fails.now; calls = 0; failed = 0; starved = 0 } }) }
     {
-        Ok(MemDisk {
-            alloc,
-            initial: Files::new(alloc),
-            files: Files::new(alloc),
-            log: Vec::new(alloc),
-            calls: Calls::new(alloc, fails)?,
-        })
+        MemDisk::starting(alloc, Files::new(alloc), fails)
     }
 
     /// How many calls it has had.
@@ -76,6 +73,42 @@ impl MemDisk {
         ensures { result ≡ self.now.counts.starved }
     {
         self.calls.starved()
+    }
+
+    /// The disk after a stop behind the first so many calls, by what is made of the bytes that weren't stable then.
+    pub fn after_stop(&self, alloc: Global, calls: u64, pick: Pick) -> Result<MemDisk, AllocError>
+        requires { calls ≤ self.now.counts.calls }
+        // It reads as picked, which is one of the images of that moment, and for `New` what was read then.
+        ensures picked { IfOk result (λ disk. reads (state_of disk) ≡ picked_behind pick calls self.now) }
+        ensures image { IfOk result (λ disk. (state_of self.now).image_at (moment_behind calls self.now) (reads (state_of disk))) }
+        ensures new { IfOk result (λ disk. pick ≡ New → reads (state_of disk) ≡ (state_of self.now).reads_at (moment_behind calls self.now)) }
+
+        // It is stable, and has had no call.
+        ensures stable { IfOk result (λ disk. (image : Image) → MayLeave (state_of disk) image → image ≡ reads (state_of disk)) }
+        ensures log { IfOk result (λ disk. disk.log ≡ []) }
+        ensures counts { IfOk result (λ disk. disk.counts ≡ record { fails = []; calls = 0; failed = 0; starved = 0 }) }
+    {
+        let start = self.left_behind(alloc, calls, pick)?;
+        MemDisk::starting(alloc, start, &[])
+    }
+
+    // an empty log over these files, and no call yet
+    fn starting(alloc: Global, initial: Files, fails: &[u64]) -> Result<MemDisk, AllocError>
+        ensures { IfOk result (λ disk. disk ≡ record { initial = initial; log = []; counts = record { fails = fails.now; calls = 0; failed = 0; starved = 0 } }) }
+    {
+        Ok(MemDisk {
+            alloc,
+            files: initial.copy(alloc)?,
+            initial,
+            log: Vec::new(alloc),
+            calls: Calls::new(alloc, fails)?,
+        })
+    }
+
+    fn left_behind(&self, alloc: Global, calls: u64, pick: Pick) -> Result<Files, AllocError>
+        ensures { IfOk result (λ files. bytes_of files ≡ picked_behind pick calls self.now) }
+    {
+        left_files(alloc, &self.initial, changes_by(&self.log, calls), pick)
     }
 
     fn bytes_of(&self, name: &str) -> &[u8]
