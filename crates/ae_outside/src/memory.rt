@@ -5,3 +5,6 @@ pub(crate) mod disk;
 pub(crate) mod disk_files;
 pub(crate) mod disk_log;
 pub(crate) mod disk_stop;
+
+#[cfg(test)]
+mod disk_tests;
