@@ -1,11 +1,16 @@
 -- A file put among the files of a disk in memory.
-use Rattle.std.proofs.Common.{◌≡◌, ◌⊎◌, inl, inr, ℕ, suc, ◌+◌, ◌<◌, ◌≤◌, Bool, true, false, if◌then◌else◌, List, [], ◌∷◌, ◌++◌, length, refl, sym, ap, ◌∙◌, arith}
+use Rattle.std.proofs.Common.{◌≡◌, ℕ, suc, ◌+◌, ◌<◌, ◌≤◌, Bool, true, false, not, cond, if◌then◌else◌, List, [], ◌∷◌, ◌++◌, length, refl, sym, ap, ◌∙◌, arith}
 use Rattle.std.proofs.Math.ListN.{set, get_or}
+use Rattle.std.specs.List.{position_or_len}
 use Rattle.std.specs.Str.{bytes_eq}
 use Rattle.std.proofs.lemmas.Slice.Eq.{bytes_eq-Decides}
 use Rattle.ae_outside.specs.declared.memory.disk_files.File.{File}
 use Rattle.ae_outside.specs.Image.{Image, with_file}
-use Rattle.ae_outside.specs.DiskFiles.{bytes_of, place_of}
+use Rattle.ae_outside.specs.DiskFiles.{bytes_of}
+
+-- where the first file of a name is
+abbrev pub place_of : List ℕ → List File → ℕ
+place_of name files = position_or_len (λ file. bytes_eq file.name name) files
 
 -- the row in front is the file's
 over_here : (name bytes : List ℕ) (f : File) (files : List File) (other : List ℕ) → f.name ≡ name
@@ -29,18 +34,20 @@ put_over_at : (name bytes : List ℕ) (d : File) (files : List File) (other : Li
     → bytes_of (set files (place_of name files) (record { name = (get_or files (place_of name files) d).name; bytes = bytes })) other ≡ (if bytes_eq name other then bytes else bytes_of files other)
 put_over_at name bytes d [] other lt = absurd (omega arith)
 put_over_at name bytes d (f ∷ files) other lt =
-    elim (bytes_eq f.name name) as (λ s. bytes_eq f.name name ≡ s → (if s then 0 else suc (place_of name files)) < suc (length files)
-      → bytes_of (set (f ∷ files) (if s then 0 else suc (place_of name files)) (record { name = (get_or (f ∷ files) (if s then 0 else suc (place_of name files)) d).name; bytes = bytes })) other ≡ (if bytes_eq name other then bytes else bytes_of (f ∷ files) other)) [
+    elim (bytes_eq f.name name) as (λ s. bytes_eq f.name name ≡ s → (cond (not s) (1 + place_of name files) 0) < suc (length files)
+    → bytes_of (set (f ∷ files) (cond (not s) (1 + place_of name files) 0) (record { name = (get_or (f ∷ files) (cond (not s) (1 + place_of name files) 0) d).name; bytes = bytes })) other ≡ (if bytes_eq name other then bytes else bytes_of (f ∷ files) other)) [
       | true ↦ λ same less. over_here name bytes f files other ((bytes_eq-Decides f.name name).0 same)
-      | false ↦ λ differs less. over_there name bytes f _ (bytes_of files other) other differs (put_over_at name bytes d files other (omega (arith, less)))
+      | false ↦ λ differs less.
+          let one : 1 + place_of name files ≡ suc (place_of name files) = omega arith in
+          ap (λ (k : ℕ). bytes_of (set (f ∷ files) k (record { name = (get_or (f ∷ files) k d).name; bytes = bytes })) other) one ∙ over_there name bytes f _ (bytes_of files other) other differs (put_over_at name bytes d files other (omega (arith, less)))
     ] refl lt
 
 put_behind_at : (name bytes : List ℕ) (files : List File) (other : List ℕ) → length files ≤ place_of name files
     → bytes_of (files ++ record { name = name; bytes = bytes } ∷ []) other ≡ (if bytes_eq name other then bytes else bytes_of files other)
 put_behind_at name bytes [] other le = refl
 put_behind_at name bytes (f ∷ files) other le =
-    elim (bytes_eq f.name name) as (λ s. bytes_eq f.name name ≡ s → suc (length files) ≤ (if s then 0 else suc (place_of name files))
-      → bytes_of (f ∷ files ++ record { name = name; bytes = bytes } ∷ []) other ≡ (if bytes_eq name other then bytes else bytes_of (f ∷ files) other)) [
+    elim (bytes_eq f.name name) as (λ s. bytes_eq f.name name ≡ s → suc (length files) ≤ (cond (not s) (1 + place_of name files) 0)
+    → bytes_of (f ∷ files ++ record { name = name; bytes = bytes } ∷ []) other ≡ (if bytes_eq name other then bytes else bytes_of (f ∷ files) other)) [
       | true ↦ λ same more. absurd (omega (arith, more))
       | false ↦ λ differs more. over_there name bytes f _ (bytes_of files other) other differs (put_behind_at name bytes files other (omega (arith, more)))
     ] refl le

@@ -1,5 +1,5 @@
 -- What a stop leaves by a pick is one of the images that it may leave.
-use Rattle.std.specs.Prelude.{◌≡◌, ◌≢◌, ℕ, Bool, true, false, nat_le, if◌then◌else◌, List, [], ◌∷◌, length, take, take_while, replicate, refl}
+use Rattle.std.specs.Prelude.{◌≡◌, ℕ, Bool, true, false, if◌then◌else◌, List, [], ◌∷◌, length, replicate, refl}
 use Rattle.std.proofs.Common.{inl, inr, sym, ◌∙◌, ap, subst, arith}
 use Rattle.std.proofs.lemmas.List.{length-replicate, take_all}
 use Rattle.std.specs.Str.{bytes_eq}
@@ -12,7 +12,7 @@ use Rattle.ae_outside.specs.declared.memory.disk_stop.Pick.TheVariants.{Old, New
 use Rattle.ae_outside.specs.Image.{Image, with_file, IsTorn, IsCut}
 use Rattle.ae_outside.specs.State.{reads, MayLeave}
 use Rattle.ae_outside.specs.DiskFiles.{bytes_of}
-use Rattle.ae_outside.specs.DiskLog.{overwritten, applied, Leaves, After, replay, Left, IsLeft, changes_by}
+use Rattle.ae_outside.specs.DiskLog.{overwritten, applied, After, replay, Left, IsLeft, changes_by}
 use Rattle.ae_outside.specs.DiskLaws.{bool_cases, torn_same, cut_same, overwritten_torn, cut_cut, file_here, file_elsewhere, applied_leaves, with_file_same}
 use Rattle.ae_outside.specs.DiskPick.{write_left, cut_left, left_after, picked_from, picked}
 use Rattle.ae_outside.specs.MemDisk.{DiskRecord, state_from, state_of, moment_behind, picked_behind}
@@ -89,21 +89,29 @@ cut_torn Ones len file = cut_cut len file
 
 -- one more change leaves one of the images after it
 pick_leaves : (pick : Pick) (change : Change) (read left : Image) (images : Image → Type 0) → IsFileWise images → images read → images left → After change read images (left_after pick change read left)
-pick_leaves pick (Write name at bytes) read left images wise is_read is = (left, is, record {
-  file = subst (λ (l : List ℕ). IsTorn at (length bytes) (left name) l) (sym (file_here name (write_left pick at bytes) left)) (write_torn pick at bytes (left name));
-  others = file_elsewhere name (write_left pick at bytes) left;
-})
-pick_leaves pick (Cut name len) read left images wise is_read is = (left, is, record {
-  file = subst (λ (l : List ℕ). IsCut len (left name) l) (sym (file_here name (cut_left pick len) left)) (cut_torn pick len (left name));
-  others = file_elsewhere name (cut_left pick len) left;
-})
+pick_leaves pick (Write name at bytes) read left images wise is_read is = (
+  left,
+  is,
+  record {
+    file = subst (λ (l : List ℕ). IsTorn at (length bytes) (left name) l) (sym (file_here name (write_left pick at bytes) left)) (write_torn pick at bytes (left name));
+    others = file_elsewhere name (write_left pick at bytes) left;
+  },
+)
+pick_leaves pick (Cut name len) read left images wise is_read is = (
+  left,
+  is,
+  record {
+    file = subst (λ (l : List ℕ). IsCut len (left name) l) (sym (file_here name (cut_left pick len) left)) (cut_torn pick len (left name));
+    others = file_elsewhere name (cut_left pick len) left;
+  },
+)
 pick_leaves pick (Sync name) read left images wise is_read is = synced name read left images wise is_read is
 
 left_from : (pick : Pick) (log : List Logged) (read left : Image) (images : Image → Type 0) → IsFileWise images → images read → images left → Left read images log (picked_from pick read left log)
 left_from pick [] read left images wise is_read is = is
 left_from pick (entry ∷ log) read left images wise is_read is =
     left_from pick log (applied entry.change read) (left_after pick entry.change read left) (After entry.change read images) (file_wise_after entry.change read images wise) (read, is_read, applied_leaves entry.change read)
-      (pick_leaves pick entry.change read left images wise is_read is)
+    (pick_leaves pick entry.change read left images wise is_read is)
 
 start_wise : (start : Image) → IsFileWise (λ i. i ≡ start)
 start_wise start which f g f_is g_is i n = at (which n) i

@@ -1,5 +1,5 @@
 -- The files of a disk in memory. The first of a name counts.
-use Rattle.std.specs.Prelude.{ℕ, suc, if◌then◌else◌, List, [], ◌∷◌}
+use Rattle.std.specs.Prelude.{if◌then◌else◌, List, [], ◌∷◌}
 use Rattle.std.specs.Str.{bytes_eq}
 use Rattle.ae_outside.specs.declared.memory.disk_files.File.{File}
 use Rattle.ae_outside.specs.Image.{Image}
@@ -8,8 +8,3 @@ use Rattle.ae_outside.specs.Image.{Image}
 abbrev pub bytes_of : List File → Image
 bytes_of [] name = []
 bytes_of (file ∷ files) name = if bytes_eq file.name name then file.bytes else bytes_of files name
-
--- the place of the first file of a name, behind the last one where there is none
-abbrev pub place_of : List ℕ → List File → ℕ
-place_of name [] = 0
-place_of name (file ∷ files) = if bytes_eq file.name name then 0 else suc (place_of name files)

@@ -1,5 +1,6 @@
 -- What a disk in memory holds, and what a stop may leave of it, by the log of the calls that changed or synced it.
-use Rattle.std.specs.Prelude.{◌≡◌, ℕ, ◌+◌, nat_le, if◌then◌else◌, List, [], ◌∷◌, ◌++◌, length, take, drop, take_while}
+use Rattle.std.specs.Prelude.{◌≡◌, ℕ, ◌+◌, nat_le, if◌then◌else◌, List, [], ◌∷◌, ◌++◌, length, take, drop}
+use Rattle.std.specs.List.{prefix_len}
 use Rattle.ae_outside.specs.declared.memory.disk_log.Change.{Change}
 use Rattle.ae_outside.specs.declared.memory.disk_log.Change.TheVariants.{Write, Cut, Sync}
 use Rattle.ae_outside.specs.declared.memory.disk_log.Logged.{Logged}
@@ -39,6 +40,10 @@ Left read images (entry ∷ log) image = Left (applied entry.change read) (After
 abbrev pub IsLeft : Image → List Logged → Image → Type 0
 IsLeft start log image = Left start (λ i. i ≡ start) log image
 
+-- how many changes the first so many calls made
+abbrev pub changes_behind : ℕ → List Logged → ℕ
+changes_behind calls log = prefix_len (λ entry. nat_le entry.number calls) log
+
 -- the changes of the first so many calls
 abbrev pub changes_by : ℕ → List Logged → List Logged
-changes_by calls log = take_while (λ entry. nat_le entry.number calls) log
+changes_by calls log = take (changes_behind calls log) log

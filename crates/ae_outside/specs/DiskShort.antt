@@ -1,5 +1,5 @@
 -- An image of a disk in memory cut to the length that is read is an image too.
-use Rattle.std.specs.Prelude.{◌≡◌, ◌≢◌, ℕ, ◌+◌, ◌≤◌, ◌<◌, min, max, Bool, true, false, nat_le, if◌then◌else◌, List, [], ◌∷◌, ◌++◌, length, take, drop, refl}
+use Rattle.std.specs.Prelude.{◌≡◌, ℕ, ◌+◌, ◌≤◌, ◌<◌, min, max, Bool, true, false, nat_le, if◌then◌else◌, List, [], ◌∷◌, ◌++◌, length, take, drop}
 use Rattle.std.proofs.Common.{inl, inr, sym, ◌∙◌, ap, subst, arith, ◌-◌, length-append, length-drop}
 use Rattle.std.proofs.lemmas.Bool.{cases_lt}
 use Rattle.std.proofs.lemmas.List.{length-take, length-take-le, take_all, drop_all, drop-take, take-take}
@@ -9,7 +9,7 @@ use Rattle.std.proofs.lemmas.Slice.Eq.{bytes_eq-Decides}
 use Rattle.ae_outside.specs.declared.memory.disk_log.Change.{Change}
 use Rattle.ae_outside.specs.declared.memory.disk_log.Change.TheVariants.{Write, Cut, Sync}
 use Rattle.ae_outside.specs.declared.memory.disk_log.Logged.{Logged}
-use Rattle.ae_outside.specs.Image.{Image, cut_to, SameElsewhere, IsTorn, IsCut}
+use Rattle.ae_outside.specs.Image.{Image, cut_to, IsTorn, IsCut}
 use Rattle.ae_outside.specs.DiskLog.{overwritten, applied, After, Left, replay, IsLeft}
 use Rattle.ae_outside.specs.DiskLaws.{bool_cases, file_here, file_elsewhere, torn_same, with_file_same}
 
@@ -88,9 +88,9 @@ cut_wise_after (Write n at b) read images wise name image from = (
   wise name from.0 from.1,
   record {
     file = cut_case (IsTorn at (length b)) read (applied (Write n at b) read) name n from.0 image from.2.file
-      (λ is. subst (λ (l : List ℕ). IsTorn at (length b) (take (length (read n)) (from.0 n)) (take (length l) (image n))) (sym (file_here n (overwritten at b) read)) (torn_over_cut at b (read n) (from.0 n) (image n) from.2.file));
+        (λ is. subst (λ (l : List ℕ). IsTorn at (length b) (take (length (read n)) (from.0 n)) (take (length l) (image n))) (sym (file_here n (overwritten at b) read)) (torn_over_cut at b (read n) (from.0 n) (image n) from.2.file));
     others = λ other differs. cut_case (λ old new. new ≡ old) read (applied (Write n at b) read) name other from.0 image (from.2.others other differs)
-      (λ is. ap (λ (l : List ℕ). take (length l) (image other)) (file_elsewhere n (overwritten at b) read other differs) ∙ ap (take (length (read other))) (from.2.others other differs));
+        (λ is. ap (λ (l : List ℕ). take (length l) (image other)) (file_elsewhere n (overwritten at b) read other differs) ∙ ap (take (length (read other))) (from.2.others other differs));
   },
 )
 cut_wise_after (Cut n len) read images wise name image from = (
@@ -98,9 +98,9 @@ cut_wise_after (Cut n len) read images wise name image from = (
   wise name from.0 from.1,
   record {
     file = cut_case (IsCut len) read (applied (Cut n len) read) name n from.0 image from.2.file
-      (λ is. subst (λ (l : List ℕ). IsCut len (take (length (read n)) (from.0 n)) (take (length l) (image n))) (sym (file_here n (take len) read)) (cut_take len (length (read n)) (length (take len (read n))) (from.0 n) (image n) (length-take len (read n)) from.2.file));
+        (λ is. subst (λ (l : List ℕ). IsCut len (take (length (read n)) (from.0 n)) (take (length l) (image n))) (sym (file_here n (take len) read)) (cut_take len (length (read n)) (length (take len (read n))) (from.0 n) (image n) (length-take len (read n)) from.2.file));
     others = λ other differs. cut_case (λ old new. new ≡ old) read (applied (Cut n len) read) name other from.0 image (from.2.others other differs)
-      (λ is. ap (λ (l : List ℕ). take (length l) (image other)) (file_elsewhere n (take len) read other differs) ∙ ap (take (length (read other))) (from.2.others other differs));
+        (λ is. ap (λ (l : List ℕ). take (length l) (image other)) (file_elsewhere n (take len) read other differs) ∙ ap (take (length (read other))) (from.2.others other differs));
   },
 )
 cut_wise_after (Sync n) read images wise name image from = (

@@ -5,6 +5,5 @@ pub(crate) mod disk;
 pub(crate) mod disk_files;
 pub(crate) mod disk_log;
 pub(crate) mod disk_stop;
-
 #[cfg(test)]
 mod disk_tests;

@@ -6,14 +6,14 @@ ghost use Rattle.ae_outside.specs.DiskNames.{IsDiskName};
 ghost use Rattle.ae_outside.specs.Image.{Image, IsSame, WriteBegun, CutBegun, Overwritten};
 ghost use Rattle.ae_outside.specs.State.{DiskState, reads, MayLeave, GoesOn, IsStable};
 ghost use Rattle.ae_outside.specs.DiskFiles.{bytes_of};
-ghost use Rattle.ae_outside.specs.MemDisk.{state_of, moment_behind, picked_behind, Logs, OnlyCounts};
+ghost use Rattle.ae_outside.specs.MemDisk.{state_of, moment_behind, picked_behind, new_disk, with_change, with_starved, Logs, OnlyCounts};
 ghost use Rattle.ae_outside.specs.declared.memory.disk_log.Change.TheVariants.{Write, Cut, Sync};
 ghost use Rattle.ae_outside.specs.declared.memory.disk_stop.Pick.TheVariants.{New};
 
 use crate::memory::calls::Calls;
 use crate::memory::disk_files::Files;
 use crate::memory::disk_log::{Change, Logged};
-use crate::memory::disk_stop::{changes_by, left_files, Pick};
+use crate::memory::disk_stop::{Pick, changes_by, left_files};
 use crate::{Disk, Failed, ReadError};
 use std::alloc::{AllocError, Global};
 use std::marker::Model;
@@ -56,7 +56,7 @@ fn part(bytes: &[u8], at: usize, len: usize) -> &[u8]
 impl MemDisk {
     /// An empty disk. Its calls of these numbers will fail and change nothing, counted from 1.
     pub fn new(alloc: Global, fails: &[u64]) -> Result<MemDisk, AllocError>
-        ensures { IfOk result (λ disk. disk ≡ record { initial = []; log = []; counts = record { fails = fails.now; calls = 0; failed = 0; starved = 0 } }) }
+        ensures { IfOk result (λ disk. disk ≡ new_disk [] fails.now) }
     {
         MemDisk::starting(alloc, Files::new(alloc), fails)
     }
@@ -83,10 +83,9 @@ impl MemDisk {
         ensures image { IfOk result (λ disk. (state_of self.now).image_at (moment_behind calls self.now) (reads (state_of disk))) }
         ensures new { IfOk result (λ disk. pick ≡ New → reads (state_of disk) ≡ (state_of self.now).reads_at (moment_behind calls self.now)) }
 
-        // It is stable, and has had no call.
+        // It is stable, and has had no call yet; none is to fail.
         ensures stable { IfOk result (λ disk. (image : Image) → MayLeave (state_of disk) image → image ≡ reads (state_of disk)) }
-        ensures log { IfOk result (λ disk. disk.log ≡ []) }
-        ensures counts { IfOk result (λ disk. disk.counts ≡ record { fails = []; calls = 0; failed = 0; starved = 0 }) }
+        ensures fresh { IfOk result (λ disk. disk ≡ new_disk disk.initial []) }
     {
         let start = self.left_behind(alloc, calls, pick)?;
         MemDisk::starting(alloc, start, &[])
@@ -94,7 +93,7 @@ impl MemDisk {
 
     // an empty log over these files, and no call yet
     fn starting(alloc: Global, initial: Files, fails: &[u64]) -> Result<MemDisk, AllocError>
-        ensures { IfOk result (λ disk. disk ≡ record { initial = initial; log = []; counts = record { fails = fails.now; calls = 0; failed = 0; starved = 0 } }) }
+        ensures { IfOk result (λ disk. disk ≡ new_disk initial fails.now) }
     {
         Ok(MemDisk {
             alloc,
@@ -128,7 +127,7 @@ impl MemDisk {
 
     // the change into the log and the files, or neither
     fn log_change(&mut self, change: Result<Change, AllocError>) -> Result<(), AllocError>
-        ensures ok { OnOk result (IsOkAnd change (λ change. self.new ≡ record self.old { log = self.old.log ++ record { number = self.old.counts.calls; change = change } ∷ [] })) }
+        ensures ok { OnOk result (IsOkAnd change (λ change. self.new ≡ with_change change self.old)) }
         ensures err { OnErr result (self.new ≡ self.old) }
     {
         let change = change?;
@@ -141,8 +140,8 @@ impl MemDisk {
 
     // the change, where there is memory for it
     fn note(&mut self, change: Result<Change, AllocError>) -> Result<(), Failed>
-        ensures ok { OnOk result (IsOkAnd change (λ change. self.new ≡ record self.old { log = self.old.log ++ record { number = self.old.counts.calls; change = change } ∷ [] })) }
-        ensures err { OnErr result (self.new ≡ record self.old { counts = record self.old.counts { failed = next self.old.counts.failed; starved = next self.old.counts.starved } }) }
+        ensures ok { OnOk result (IsOkAnd change (λ change. self.new ≡ with_change change self.old)) }
+        ensures err { OnErr result (self.new ≡ with_starved self.old) }
         ensures later { self.old.counts.failed ≤ self.new.counts.failed }
     {
         match self.log_change(change) {

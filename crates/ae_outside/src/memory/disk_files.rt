@@ -1,7 +1,9 @@
 // The files of a disk in memory.
 ghost use Rattle.std.specs.Prelude.{◌≡◌, ◌≤◌, ◌<◌, ◌↔◌, ◌+◌, [], ◌++◌, IfOk, OnOk, OnErr, length, take, drop};
+ghost use Rattle.std.specs.List.{position_or_len};
+ghost use Rattle.std.specs.Str.{bytes_eq};
 ghost use Rattle.ae_outside.specs.Image.{with_file};
-ghost use Rattle.ae_outside.specs.DiskFiles.{bytes_of, place_of};
+ghost use Rattle.ae_outside.specs.DiskFiles.{bytes_of};
 ghost use Rattle.ae_outside.specs.DiskLog.{overwritten, applied};
 
 use crate::memory::disk_log::Change;
@@ -33,7 +35,7 @@ impl Model for Files {
 
 // the place of the first file of this name, behind the last one where there is none
 fn place(files: &[File], name: &[u8]) -> usize
-    ensures place { result ≡ place_of name.now files.now }
+    ensures place { result ≡ position_or_len (λ file. bytes_eq file.name name.now) files.now }
     ensures within { result ≤ length files.now }
 {
     let mut at = 0;
@@ -114,7 +116,13 @@ impl Files {
     }
 
     // bytes behind the end are no write
-    pub fn write(&mut self, alloc: Global, name: &[u8], at: u64, bytes: &[u8]) -> Result<(), AllocError>
+    pub fn write(
+        &mut self,
+        alloc: Global,
+        name: &[u8],
+        at: u64,
+        bytes: &[u8],
+    ) -> Result<(), AllocError>
         ensures ok { OnOk result (bytes_of self.new ≡ with_file name.now (overwritten at bytes.now) (bytes_of self.old)) }
         ensures err { OnErr result (self.new ≡ self.old) }
     {
@@ -141,7 +149,12 @@ impl Files {
         ensures err { OnErr result (self.new ≡ self.old) }
     {
         match change {
-            Change::Write { name, at, bytes } => self.write(alloc, name.bytes(), *at, bytes.bytes()),
+            Change::Write { name, at, bytes } => self.write(
+                alloc,
+                name.bytes(),
+                *at,
+                bytes.bytes(),
+            ),
             Change::Cut { name, len } => self.cut(alloc, name.bytes(), *len),
             Change::Sync { name: _ } => Ok(()),
         }

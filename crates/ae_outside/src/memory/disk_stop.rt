@@ -56,7 +56,13 @@ fn leave_write(
     }
 }
 
-fn leave_cut(alloc: Global, left: &mut Files, name: &[u8], len: u64, pick: Pick) -> Result<(), AllocError>
+fn leave_cut(
+    alloc: Global,
+    left: &mut Files,
+    name: &[u8],
+    len: u64,
+    pick: Pick,
+) -> Result<(), AllocError>
     ensures { OnOk result (bytes_of left.new ≡ with_file name.now (cut_left pick len) (bytes_of left.old)) }
 {
     match pick {
@@ -66,7 +72,13 @@ fn leave_cut(alloc: Global, left: &mut Files, name: &[u8], len: u64, pick: Pick)
 }
 
 // what is left after one more change, where `read` is what was read before it
-fn leave(alloc: Global, left: &mut Files, read: &Files, change: &Change, pick: Pick) -> Result<(), AllocError>
+fn leave(
+    alloc: Global,
+    left: &mut Files,
+    read: &Files,
+    change: &Change,
+    pick: Pick,
+) -> Result<(), AllocError>
     ensures { OnOk result (bytes_of left.new ≡ left_after pick change.now (bytes_of read.now) (bytes_of left.old)) }
 {
     match change {
@@ -82,7 +94,12 @@ fn leave(alloc: Global, left: &mut Files, read: &Files, change: &Change, pick: P
 }
 
 /// The files that are left of stable ones after the changes.
-pub fn left_files(alloc: Global, start: &Files, log: &[Logged], pick: Pick) -> Result<Files, AllocError>
+pub fn left_files(
+    alloc: Global,
+    start: &Files,
+    log: &[Logged],
+    pick: Pick,
+) -> Result<Files, AllocError>
     ensures { IfOk result (λ files. bytes_of files ≡ picked pick (bytes_of start.now) log.now) }
 {
     let mut read = start.copy(alloc)?;

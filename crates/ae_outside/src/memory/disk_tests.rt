@@ -47,7 +47,10 @@ fn what_is_written_is_read(rt: HostRuntime) -> Result<(), Fail> {
 fn a_part_is_read(rt: HostRuntime) -> Result<(), Fail> {
     let alloc = rt.alloc();
     let mut disk = with_file(alloc, "hello")?;
-    assert_eq!(rt; disk.read_at(alloc, "a", 1, 3)?.as_slice(), "ell".as_bytes());
+    assert_eq!(rt;
+        disk.read_at(alloc, "a", 1, 3)?.as_slice(),
+        "ell".as_bytes()
+    );
     assert_eq!(rt; disk.starved(), 0);
     Ok(())
 }

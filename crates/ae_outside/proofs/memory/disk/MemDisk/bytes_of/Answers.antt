@@ -1,4 +1,4 @@
-use Rattle.std.proofs.Common.{◌≡◌, ap, sym, ◌∙◌}
+use Rattle.std.proofs.Common.{ap, sym, ◌∙◌}
 use Rattle.ae_outside.specs.DiskFiles.{bytes_of}
 use Rattle.ae_outside.specs.DiskLog.{replay}
 use Rattle.ae_outside.specs.Image.{Image}

@@ -1,4 +1,4 @@
-use Rattle.std.proofs.Common.{◌≡◌, List, [], ◌∷◌, ◌++◌, ap, sym, ◌∙◌}
+use Rattle.std.proofs.Common.{List, [], ◌∷◌, ◌++◌, ap, sym, ◌∙◌}
 use Rattle.ae_outside.specs.declared.memory.disk_log.Logged.{Logged}
 use Rattle.ae_outside.specs.DiskFiles.{bytes_of}
 use Rattle.ae_outside.specs.DiskLog.{replay, applied}

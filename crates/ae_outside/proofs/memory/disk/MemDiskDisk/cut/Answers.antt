@@ -1,5 +1,5 @@
-use Rattle.std.proofs.Common.{◌≡◌, rules}
-use Rattle.ae_outside.specs.declared.memory.disk_log.Change.TheVariants.{Write, Cut, Sync}
+use Rattle.std.proofs.Common.{rules}
+use Rattle.ae_outside.specs.declared.memory.disk_log.Change.TheVariants.{Cut}
 use Rattle.ae_outside.specs.MemDisk.{Logs, OnlyCounts}
 use Rattle.ae_outside.proofs.DiskReplay.{cut_none, cut_logged, cut_read, cut_front}
 use Rattle.ae_outside.proofs.memory.disk.MemDiskDisk.cut.Goals as goal

@@ -1,6 +1,6 @@
-use Rattle.std.proofs.Common.{◌≡◌, rules}
-use Rattle.ae_outside.specs.declared.memory.disk_log.Change.TheVariants.{Write, Cut, Sync}
-use Rattle.ae_outside.specs.MemDisk.{Logs, OnlyCounts}
+use Rattle.std.proofs.Common.{rules}
+use Rattle.ae_outside.specs.declared.memory.disk_log.Change.TheVariants.{Write}
+use Rattle.ae_outside.specs.MemDisk.{Logs}
 use Rattle.ae_outside.proofs.DiskReplay.{write_logged, written}
 use Rattle.ae_outside.proofs.memory.disk.MemDiskDisk.write_at.Goals as goal
 

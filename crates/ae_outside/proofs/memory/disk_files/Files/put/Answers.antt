@@ -1,9 +1,9 @@
-use Rattle.std.proofs.Common.{◌≡◌, ◌≤◌, ◌<◌, ◌++◌, [], ◌∷◌, List, ℕ, length, ap, sym, ◌∙◌, subst, arith, rules}
+use Rattle.std.proofs.Common.{◌≡◌, ◌≤◌, ◌<◌, ◌++◌, [], ◌∷◌, List, ℕ, length, ap, ◌∙◌, rules}
 use Rattle.std.proofs.Math.ListN.{set, get_or}
 use Rattle.ae_outside.specs.declared.memory.disk_files.File.{File}
 use Rattle.ae_outside.specs.Image.{with_file}
-use Rattle.ae_outside.specs.DiskFiles.{bytes_of, place_of}
-use Rattle.ae_outside.proofs.DiskFilesLemmas.{put_over, put_behind}
+use Rattle.ae_outside.specs.DiskFiles.{bytes_of}
+use Rattle.ae_outside.proofs.DiskFilesLemmas.{place_of, put_over, put_behind}
 use Rattle.ae_outside.proofs.memory.disk_files.Files.put.Goals as goal
 
 pub returns-then-at-len-clause-ok : goal.returns-then-at-len-clause-ok
