@@ -1,5 +1,5 @@
 -- Which texts name files of a disk.
-use Rattle.std.specs.Prelude.{ℕ, Bool, true, false, ◌&&◌, ◌||◌, ◌==◌, nat_le, IsTrue, List, [], ◌∷◌, length}
+use Rattle.std.specs.Prelude.{ℕ, Bool, true, ◌&&◌, ◌||◌, ◌==◌, nat_le, IsTrue, List, [], ◌∷◌, length}
 
 -- a small letter, a digit or a dot
 abbrev pub is_name_byte : ℕ → Bool

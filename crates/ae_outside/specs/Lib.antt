@@ -8,3 +8,9 @@ pub mod Streams
 pub mod Time
 pub mod Trees
 pub mod Untold
+pub mod DiskFiles
+pub mod DiskLog
+pub mod DiskLaws
+pub mod DiskShort
+pub mod DiskPick
+pub mod MemDisk

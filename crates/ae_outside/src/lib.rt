@@ -11,5 +11,7 @@ mod streams;
 pub use dir::{Content, Dir, Exit};
 pub use disk::Disk;
 pub use failed::{Failed, ReadError, SiteError};
+pub use memory::disk::MemDisk;
+pub use memory::disk_stop::Pick;
 pub use site::Site;
 pub use streams::{Sink, Source};

@@ -1,0 +1,3 @@
+pub mod DiskFilesLemmas
+pub mod DiskReplay
+pub mod DiskPicked
