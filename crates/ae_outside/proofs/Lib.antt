@@ -1,0 +1,2 @@
+pub mod FileRowLaws
+pub mod ScriptLaws
