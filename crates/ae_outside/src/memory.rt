@@ -6,3 +6,8 @@ pub(crate) mod site;
 pub(crate) mod site_files;
 pub(crate) mod site_run;
 pub(crate) mod source;
+
+#[cfg(test)]
+mod site_tests;
+#[cfg(test)]
+mod stream_tests;

@@ -1,8 +1,8 @@
 // Directories in memory, with a script of what runs answer and do.
-ghost use Rattle.std.specs.Prelude.{◌≡◌, ◌∷◌, ◌++◌, [], Some, None, length, take, Contains, IsErr, IfOk, OnOk, OnErr, IsErrOf};
+ghost use Rattle.std.specs.Prelude.{◌≡◌, ◌∷◌, ◌++◌, [], Some, None, length, take, Contains, IsErr, IsSome, IfOk, OnOk, OnErr, IsErrOf};
 ghost use Rattle.ae_outside.specs.Causes.{Counted, HasCause};
 ghost use Rattle.ae_outside.specs.Calls.{IsCall, IsFed};
-ghost use Rattle.ae_outside.specs.Trees.{no_files, with_file};
+ghost use Rattle.ae_outside.specs.Trees.{no_files, with_file, within};
 ghost use Rattle.ae_outside.specs.Site.{ChangesOnly, content_within, run_made};
 ghost use Rattle.ae_outside.specs.FileRows.{tree_of, ElsewhereSame};
 ghost use Rattle.ae_outside.specs.Scripts.{exit_of, after_of};
@@ -131,6 +131,8 @@ impl Site for MemSite {
         limit: usize,
     ) -> Result<Content, SiteError>
         ensures content { IfOk result (λ content. content ≡ content_within limit ((state_of self.old).trees dir path.now)) }
+        // Only bytes within the limit are copied.
+        ensures memory { IsErrOf result SiteError.Memory → IsSome (within limit ((state_of self.old).trees dir path.now)) }
         ensures same { state_of self.new ≡ state_of self.old }
         ensures script { script_of self.new ≡ script_of self.old }
         ensures done { done_of self.new ≡ done_of self.old }
