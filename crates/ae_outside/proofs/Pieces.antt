@@ -1,7 +1,6 @@
--- A piece moved to the front of a buffer is the front of what was left.
-use Rattle.std.proofs.Common.{◌≡◌, ℕ, ◌≤◌, ◌++◌, List, length, take, drop, arith}
-use Rattle.std.proofs.lemmas.List.{take-append-drop}
-use Rattle.std.proofs.lemmas.Grind.{common_steps}
+-- A piece, and what is left behind it.
+use Rattle.std.proofs.Common.{◌≡◌, ℕ, ◌+◌, ◌++◌, List, take, drop}
+use Rattle.std.proofs.lemmas.List.{take-append-drop, drop-drop}
 
-pub moved_front : (rest front into : List ℕ) (n : ℕ) → n ≤ length rest → front ≡ take n rest → rest ≡ take n (front ++ drop n into) ++ drop n rest
-moved_front rest front into n fits e = grind (arith, common_steps, take-append-drop n rest)
+pub piece_then_rest : (bytes : List ℕ) (at n : ℕ) → take n (drop at bytes) ++ drop (at + n) bytes ≡ drop at bytes
+piece_then_rest bytes at n = rw (← drop-drop n at bytes) (take-append-drop n (drop at bytes))

@@ -1,5 +1,5 @@
 // A source in memory.
-ghost use Rattle.std.specs.Prelude.{◌≡◌, ◌↔◌, ◌<◌, ◌≤◌, ◌++◌, [], length, take, min, IfOk, OnErr, IsErr};
+ghost use Rattle.std.specs.Prelude.{◌≡◌, ◌↔◌, ◌<◌, ◌≤◌, ◌++◌, [], length, take, drop, min, IfOk, OnErr, IsErr};
 ghost use Rattle.ae_outside.specs.Causes.{HasCause};
 ghost use Rattle.ae_outside.specs.Calls.{IsCall, IsFed};
 
@@ -59,6 +59,19 @@ impl MemSource {
     }
 }
 
+// moves what stands at a place of `from` to the front of `into`, at most so many bytes, and answers their number
+fn move_piece(from: &[u8], at: usize, most: usize, into: &mut [u8]) -> usize
+    requires { at ≤ length from.now }
+    ensures least { result ≡ min most (min (length into.old) (length (drop at from.now))) }
+    ensures moved { take result into.new ≡ take result (drop at from.now) }
+    ensures len { length into.new ≡ length into.old }
+{
+    let rest = &from[at..];
+    let count = most.min(into.len()).min(rest.len());
+    into[..count].copy_from_slice(&rest[..count]);
+    count
+}
+
 impl Source for MemSource {
     ghost tells = { Unit {0} };
 
@@ -70,6 +83,7 @@ impl Source for MemSource {
         requires { 0 < length into.old }
         ensures at_most { IfOk result (λ n. n ≤ length into.new) }
         ensures moved { IfOk result (λ n. self.old.left ≡ take n into.new ++ self.new.left) }
+        ensures rest { IfOk result (λ n. self.new.left ≡ drop n self.old.left) }
         ensures at_end { IfOk result (λ n. (n ≡ 0) ↔ (self.old.left ≡ [])) }
         ensures kept { OnErr result (self.new.left ≡ self.old.left) }
         ensures least { IfOk result (λ n. n ≡ min self.old.piece (min (length into.old) (length self.old.left))) }
@@ -81,9 +95,7 @@ impl Source for MemSource {
         if self.calls.begins() {
             return Err(Failed);
         }
-        let rest = &self.bytes[self.at..];
-        let count = self.piece.min(into.len()).min(rest.len());
-        into[..count].copy_from_slice(&rest[..count]);
+        let count = move_piece(&self.bytes, self.at, self.piece, into);
         self.at += count;
         Ok(count)
     }
