@@ -5,9 +5,8 @@ pub(crate) mod sink;
 pub(crate) mod site;
 pub(crate) mod site_files;
 pub(crate) mod site_run;
-pub(crate) mod source;
-
 #[cfg(test)]
 mod site_tests;
+pub(crate) mod source;
 #[cfg(test)]
 mod stream_tests;

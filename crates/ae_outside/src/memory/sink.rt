@@ -1,7 +1,7 @@
 // A sink in memory.
-ghost use Rattle.std.specs.Prelude.{◌≡◌, ◌<◌, ◌≤◌, ◌++◌, [], length, take, IfOk, OnErr, IsErr};
+ghost use Rattle.std.specs.Prelude.{◌≡◌, ◌<◌, ◌≤◌, ◌++◌, [], length, take, Contains, IfOk, OnOk, OnErr, IsErr};
 ghost use Rattle.ae_outside.specs.Causes.{HasRisen, HasCause};
-ghost use Rattle.ae_outside.specs.Calls.{IsCall};
+ghost use Rattle.ae_outside.specs.Calls.{IsCall, IsFed};
 ghost use Rattle.ae_outside.specs.Streams.{TakesPrefix};
 
 use super::calls::Calls;
@@ -77,6 +77,8 @@ impl Sink for MemSink {
         ensures none { IfOk result (λ n. n ≡ 0 → HasRisen self.old.counts.failed self.new.counts.failed) }
         ensures cause { HasCause self.old.counts.failed self.new.counts.failed result }
         ensures exact { IsCall self.old.counts self.new.counts (IsErr result) }
+        ensures fed { OnOk result (IsFed self.old.counts self.new.counts) }
+        ensures listed_fed { Contains self.old.counts.fails self.new.counts.calls → IsFed self.old.counts self.new.counts }
     {
         if self.calls.begins() {
             return Err(Failed);

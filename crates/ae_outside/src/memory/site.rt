@@ -160,11 +160,14 @@ impl Site for MemSite {
     fn write(&mut self, dir: Dir, path: &Path, bytes: &[u8]) -> Result<(), Failed>
         ensures written { OnOk result ((state_of self.new).trees dir ≡ with_file path.now (Some bytes.now) ((state_of self.old).trees dir)) }
         ensures only { ChangesOnly dir (state_of self.old) (state_of self.new) }
+        // A call whose number is listed changes nothing, and looks for no memory.
         ensures listed { Contains (counts_of self.old).fails (counts_of self.new).calls → state_of self.new ≡ state_of self.old }
+        ensures listed_fed { Contains (counts_of self.old).fails (counts_of self.new).calls → IsFed (counts_of self.old) (counts_of self.new) }
         ensures script { script_of self.new ≡ script_of self.old }
         ensures done { done_of self.new ≡ done_of self.old }
         ensures cause { HasCause (counts_of self.old).failed (counts_of self.new).failed result }
         ensures exact { IsCall (counts_of self.old) (counts_of self.new) (IsErr result) }
+        ensures fed { OnOk result (IsFed (counts_of self.old) (counts_of self.new)) }
     {
         if self.calls.begins() {
             return Err(Failed);
@@ -218,13 +221,16 @@ impl Site for MemSite {
         ensures exit { IfOk result (λ exit. exit ≡ exit_of (script_of self.old) (length (state_of self.old).runs)) }
         ensures after { OnOk result ((state_of self.new).trees dir ≡ after_of (script_of self.old) (length (state_of self.old).runs) ((state_of self.old).trees dir)) }
         ensures others { ElsewhereSame dir (state_of self.old).trees (state_of self.new).trees }
+        // A call whose number is listed changes nothing, and looks for no memory.
         ensures listed { Contains (counts_of self.old).fails (counts_of self.new).calls → state_of self.new ≡ state_of self.old }
+        ensures listed_fed { Contains (counts_of self.old).fails (counts_of self.new).calls → IsFed (counts_of self.old) (counts_of self.new) }
         ensures script { script_of self.new ≡ script_of self.old }
         // The runs before it stay listed as they are.
         ensures noted { take (length (done_of self.old)) (done_of self.new) ≡ done_of self.old }
         ensures not_noted { OnErr result (done_of self.new ≡ done_of self.old) }
         ensures cause { HasCause (counts_of self.old).failed (counts_of self.new).failed result }
         ensures exact { IsCall (counts_of self.old) (counts_of self.new) (IsErr result) }
+        ensures fed { OnOk result (IsFed (counts_of self.old) (counts_of self.new)) }
     {
         if self.calls.begins() {
             return Err(Failed);

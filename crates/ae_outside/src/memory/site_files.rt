@@ -161,7 +161,11 @@ fn note_file(
 }
 
 // the files of a directory
-pub(crate) fn snapshot_of(alloc: Global, files: &[FileRow], dir: &Dir) -> Result<Snapshot, AllocError>
+pub(crate) fn snapshot_of(
+    alloc: Global,
+    files: &[FileRow],
+    dir: &Dir,
+) -> Result<Snapshot, AllocError>
     ensures { IfOk result (λ snapshot. with_rows snapshot no_files ≡ tree_of files.now dir.now) }
 {
     let mut snapshot = Snapshot::new(alloc);

@@ -59,16 +59,29 @@ fn a_run_is_listed_with_its_directory_before_and_after(rt: HostRuntime) -> Resul
     let mut site = MemSite::new(alloc, MemRunList::of(script), &[])?;
     assert!(rt; site.write(*dir, &kept, b"1").is_ok());
     assert!(rt; site.write(*dir, &gone, b"").is_ok());
-    assert!(rt; site.write(Dir::Integrate(Delta::of(0)), &made, b"of another").is_ok());
+    assert!(rt;
+        site.write(Dir::Integrate(Delta::of(0)), &made, b"of another")
+            .is_ok()
+    );
     assert!(rt; matches!(site.run(*dir, "make all"), Ok(Exit::Code(3))));
     assert!(rt; site.remove(*dir, &kept).is_ok());
     for run in site.runs().as_slice() {
         assert!(rt; run.command.bytes() == b"make all".as_slice());
         assert!(rt; run.exit == Exit::Code(3));
         assert!(rt; run.before.as_slice().len() == 2);
-        assert!(rt; run.before.as_slice().iter().all(|row| row.0 == gone || row.0 == kept));
+        assert!(rt;
+            run.before
+                .as_slice()
+                .iter()
+                .all(|row| row.0 == gone || row.0 == kept)
+        );
         assert!(rt; run.after.as_slice().len() == 2);
-        assert!(rt; run.after.as_slice().iter().all(|row| row.0 == made || row.0 == kept));
+        assert!(rt;
+            run.after
+                .as_slice()
+                .iter()
+                .all(|row| row.0 == made || row.0 == kept)
+        );
     }
     assert!(rt; site.runs().len() == 1);
     assert!(rt; matches!(site.read(alloc, *dir, &kept, 9), Ok(Content::Absent)));
