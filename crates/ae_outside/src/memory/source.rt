@@ -1,5 +1,5 @@
 // A source in memory.
-ghost use Rattle.std.specs.Prelude.{◌≡◌, ◌↔◌, ◌<◌, ◌≤◌, ◌++◌, [], length, take, drop, min, IfOk, OnErr, IsErr};
+ghost use Rattle.std.specs.Prelude.{◌≡◌, ◌↔◌, ◌+◌, ◌<◌, ◌≤◌, ◌++◌, [], length, take, drop, min, IfOk, OnErr, IsErr};
 ghost use Rattle.ae_outside.specs.Causes.{HasCause};
 ghost use Rattle.ae_outside.specs.Calls.{IsCall, IsFed};
 
@@ -63,7 +63,8 @@ impl MemSource {
 fn move_piece(from: &[u8], at: usize, most: usize, into: &mut [u8]) -> usize
     requires { at ≤ length from.now }
     ensures least { result ≡ min most (min (length into.old) (length (drop at from.now))) }
-    ensures moved { take result into.new ≡ take result (drop at from.now) }
+    ensures moved { drop at from.now ≡ take result into.new ++ drop (at + result) from.now }
+    ensures beyond { drop result into.new ≡ drop result into.old }
     ensures len { length into.new ≡ length into.old }
 {
     let rest = &from[at..];
@@ -83,6 +84,9 @@ impl Source for MemSource {
         requires { 0 < length into.old }
         ensures at_most { IfOk result (λ n. n ≤ length into.new) }
         ensures moved { IfOk result (λ n. self.old.left ≡ take n into.new ++ self.new.left) }
+        // What stands in the buffer behind the piece stays, and all of it where the call fails.
+        ensures beyond { IfOk result (λ n. drop n into.new ≡ drop n into.old) }
+        ensures not_moved { OnErr result (into.new ≡ into.old) }
         ensures rest { IfOk result (λ n. self.new.left ≡ drop n self.old.left) }
         ensures at_end { IfOk result (λ n. (n ≡ 0) ↔ (self.old.left ≡ [])) }
         ensures kept { OnErr result (self.new.left ≡ self.old.left) }
