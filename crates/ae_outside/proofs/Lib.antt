@@ -1,3 +1,6 @@
 pub mod DiskFilesLemmas
 pub mod DiskReplay
 pub mod DiskPicked
+pub mod FileRowLaws
+pub mod Pieces
+pub mod ScriptLaws

@@ -1,11 +1,16 @@
 pub mod Calls
 pub mod Causes
 pub mod DiskNames
+pub mod FileRows
 pub mod Image
+pub mod MemSites
+pub mod MemStreams
+pub mod Scripts
 pub mod Site
 pub mod State
 pub mod Streams
 pub mod Time
+pub mod TreeLaws
 pub mod Trees
 pub mod Untold
 pub mod DiskFiles

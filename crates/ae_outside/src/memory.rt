@@ -7,3 +7,12 @@ pub(crate) mod disk_log;
 pub(crate) mod disk_stop;
 #[cfg(test)]
 mod disk_tests;
+pub(crate) mod sink;
+pub(crate) mod site;
+pub(crate) mod site_files;
+pub(crate) mod site_run;
+#[cfg(test)]
+mod site_tests;
+pub(crate) mod source;
+#[cfg(test)]
+mod stream_tests;
