@@ -1,6 +1,6 @@
 -- The files of a new project.
 use Rattle.std.specs.Prelude.{ℕ, List, [], ◌∷◌, ◌++◌, codes}
-use Rattle.ae_text.specs.Tree.{Node, word, number, str, list, Items, no_items, item, Members}
+use Rattle.ae_text.specs.Tree.{Node, word, number, str, list, no_items, item}
 use Rattle.ae_text.specs.View.{members_of}
 use Rattle.ae_text.specs.Canonical.{fields_text}
 

@@ -1,7 +1,5 @@
 -- What the words of a call ask for.
-use Rattle.std.specs.Prelude.{ℕ, List, [], ◌∷◌, map, Bool, ◌&&◌, if◌then◌else◌, Option, Some, None, is_some, nat_le, codes, string_bytes, unwrap_or}
-use Rattle.std.specs.declared.string.String.{String}
-use Rattle.std.specs.declared.alloc.Global.{Global}
+use Rattle.std.specs.Prelude.{ℕ, List, [], ◌∷◌, ◌&&◌, if◌then◌else◌, Option, Some, None, is_some, nat_le, codes, unwrap_or}
 use Rattle.std.specs.Str.{bytes_eq}
 use Rattle.ae_base.specs.Bytes.{read_as}
 use Rattle.ae_base.specs.Names.{is_project_name, is_user}

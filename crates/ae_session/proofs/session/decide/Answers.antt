@@ -9,7 +9,7 @@ returns-in-Ok-clause-made g c = λ done tells.
     let named : name_in (map string_bytes c.args.words.now) ≡ c.in-Ok.request.name = ap (λ (o : Option (List ℕ)). unwrap_or o []) c.in-Ok.ensures.name in
     let image = reads (g.D.Disk.state c.new_project.new.disk) in
     subst (λ (n : List ℕ). HoldsProject n c.args.who.now image) (sym named)
-      (subst (λ (w : List ℕ). HoldsProject c.in-Ok.request.name w image) c.in-Ok.ensures.who (c.new_project.ensures.made done tells))
+    (subst (λ (w : List ℕ). HoldsProject c.in-Ok.request.name w image) c.in-Ok.ensures.who (c.new_project.ensures.made done tells))
 
 pub returns-in-Err-Bad-clause-ends : goal.returns-in-Err-Bad-clause-ends
 returns-in-Err-Bad-clause-ends g c = elim c.bad_words.ensures.outcome [
