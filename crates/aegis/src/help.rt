@@ -76,7 +76,10 @@ mod tests {
         let help = vec![in alloc; "--help".to_string(alloc)?]?;
         let text = shown(help.as_slice()).ok_or("it is shown")?;
         assert!(rt; text.starts_with("usage: "));
-        assert_eq!(rt; text.lines().filter(|line| line.starts_with("  -")).count(), 39);
+        assert_eq!(rt;
+            text.lines().filter(|line| line.starts_with("  -")).count(),
+            39
+        );
         let more = vec![in alloc; "--help".to_string(alloc)?, "-npr".to_string(alloc)?]?;
         assert_eq!(rt; shown(more.as_slice()), None);
         assert_eq!(rt; shown(&[]), None);

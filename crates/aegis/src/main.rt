@@ -9,7 +9,6 @@ mod site;
 mod streams;
 mod who;
 
-
 use disk::RealDisk;
 use site::RealSite;
 use std::io::{ErrorKind, Write};

@@ -101,9 +101,15 @@ mod tests {
     fn whose_name_it_is(rt: HostRuntime) -> Result<(), Fail> {
         assert_eq!(rt; user_among(&rt, &[])?.as_str(), "nobody");
         assert_eq!(rt; user_among(&rt, &[("LOGNAME", b"ann")])?.as_str(), "ann");
-        let both: &'static [(&'static str, &'static [u8])] = &[("LOGNAME", b"ann"), ("AEGIS_USER", b"bob")];
+        let both: &'static [(&'static str, &'static [u8])] = &[
+            ("LOGNAME", b"ann"),
+            ("AEGIS_USER", b"bob"),
+        ];
         assert_eq!(rt; user_among(&rt, both)?.as_str(), "bob");
-        let empty: &'static [(&'static str, &'static [u8])] = &[("LOGNAME", b"ann"), ("AEGIS_USER", b"")];
+        let empty: &'static [(&'static str, &'static [u8])] = &[
+            ("LOGNAME", b"ann"),
+            ("AEGIS_USER", b""),
+        ];
         assert_eq!(rt; user_among(&rt, empty)?.as_str(), "");
         assert_eq!(rt; user_among(&rt, &[("AEGIS_USER", b"\xff")])?.as_str(), "");
         Ok(())
