@@ -129,7 +129,11 @@ pub struct RealDisk<'a, R> {
 impl<'a, R: Files<File = File>> RealDisk<'a, R> {
     /// A disk that hasn't asked for the lock yet.
     pub fn new(rt: &'a R, alloc: Global) -> RealDisk<'a, R> {
-        let store = Store { rt, alloc, lock: None };
+        let store = Store {
+            rt,
+            alloc,
+            lock: None,
+        };
         RealDisk { store, faults: 0 }
     }
 

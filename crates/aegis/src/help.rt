@@ -61,3 +61,28 @@ pub fn shown(words: &[String]) -> Option<&'static str>
         _ => None,
     }
 }
+
+#[cfg(test)]
+mod tests {
+    use super::*;
+    use std::alloc::AllocError;
+    use std::test::*;
+
+    #[test]
+    fn help_and_version_stand_alone(rt: HostRuntime) -> Result<(), Fail> {
+        let alloc = rt.alloc();
+        let version = vec![in alloc; "--version".to_string(alloc)?]?;
+        assert_eq!(rt; shown(version.as_slice()), Some("aegis 0.1.0\n"));
+        let help = vec![in alloc; "--help".to_string(alloc)?]?;
+        let text = shown(help.as_slice()).ok_or("it is shown")?;
+        assert!(rt; text.starts_with("usage: "));
+        assert_eq!(rt;
+            text.lines().filter(|line| line.starts_with("  -")).count(),
+            39
+        );
+        let more = vec![in alloc; "--help".to_string(alloc)?, "-npr".to_string(alloc)?]?;
+        assert_eq!(rt; shown(more.as_slice()), None);
+        assert_eq!(rt; shown(&[]), None);
+        Ok(())
+    }
+}

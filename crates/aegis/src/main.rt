@@ -9,7 +9,6 @@ mod site;
 mod streams;
 mod who;
 
-
 use disk::RealDisk;
 use site::RealSite;
 use std::io::{ErrorKind, Write};
@@ -56,3 +55,6 @@ fn main(rt: HostRuntime) -> ExitCode {
     );
     ExitCode::from(status)
 }
+
+#[cfg(test)]
+mod tests;

@@ -1,5 +1,6 @@
 // The real directories, and commands run by `sh`.
-ghost use Rattle.ae_outside.specs.Causes.{HasCause};
+ghost use Rattle.std.specs.Prelude.{⊤};
+ghost use Rattle.ae_outside.specs.Causes.{Counted, HasCause};
 ghost use Rattle.ae_outside.specs.Untold.{untold_site};
 
 use crate::places::{Found, look, make_folders, make_folders_to, refused, remove_empty_folders};
@@ -71,15 +72,19 @@ impl<'a, R: Files<File = File> + Alloc + Processes> RealSite<'a, R> {
         }
     }
 
+    fn count(&mut self) -> Failed
+        ensures { Counted self.old.faults self.new.faults ⊤ }
+    {
+        self.faults = self.faults.saturating_add(1);
+        Failed
+    }
+
     fn counted<T>(&mut self, outcome: io::Result<T>) -> Result<T, Failed>
         ensures { HasCause self.old.faults self.new.faults result }
     {
         match outcome {
             Ok(value) => Ok(value),
-            Err(_) => {
-                self.faults = self.faults.saturating_add(1);
-                Err(Failed)
-            }
+            Err(_) => Err(self.count()),
         }
     }
 
@@ -177,7 +182,7 @@ impl<'a, R: Files<File = File> + Alloc + Processes> Site for RealSite<'a, R> {
             Ok(content) => Ok(content),
             Err(e) if e.kind() == ErrorKind::OutOfMemory => Err(SiteError::Memory),
             Err(_) => {
-                self.faults = self.faults.saturating_add(1);
+                self.count();
                 Err(SiteError::Failed)
             }
         }

@@ -70,3 +70,58 @@ impl<W: Write> Sink for Writing<W> {
         }
     }
 }
+
+#[cfg(test)]
+mod tests {
+    use super::*;
+    use std::io;
+    use std::io::ErrorKind;
+    use std::test::*;
+
+    // Reads fail, and writes take nothing.
+    #[derive(Drop)]
+    struct Broken;
+
+    impl Read for Broken {
+        fn read(&mut self, _buf: &mut [u8]) -> io::Result<usize> {
+            Err(io::Error::from(ErrorKind::BrokenPipe))
+        }
+    }
+
+    impl Write for Broken {
+        fn write(&mut self, _buf: &[u8]) -> io::Result<usize> {
+            Ok(0)
+        }
+
+        fn flush(&mut self) -> io::Result<()> {
+            Ok(())
+        }
+    }
+
+    #[test]
+    fn a_source_gives_pieces(rt: HostRuntime) {
+        let mut source = Reading::new(b"hello".as_slice());
+        let mut piece = [0u8; 3];
+        assert_eq!(rt; source.read(&mut piece), Ok(3));
+        assert_eq!(rt; piece.as_slice(), b"hel".as_slice());
+        assert_eq!(rt; source.read(&mut piece), Ok(2));
+        assert_eq!(rt; piece[..2], *b"lo".as_slice());
+        assert_eq!(rt; source.read(&mut piece), Ok(0));
+        assert_eq!(rt; source.faults, 0);
+        let mut broken = Reading::new(Broken);
+        assert_eq!(rt; broken.read(&mut piece), Err(Failed));
+        assert_eq!(rt; broken.faults, 1);
+    }
+
+    #[test]
+    fn a_sink_takes_pieces(rt: HostRuntime) {
+        let mut sink = Writing::new(Vec::new(rt.alloc()));
+        assert_eq!(rt; sink.write(b"hel"), Ok(3));
+        assert_eq!(rt; sink.write(b"lo"), Ok(2));
+        assert_eq!(rt; sink.inner.as_slice(), b"hello".as_slice());
+        assert_eq!(rt; sink.faults, 0);
+        let mut broken = Writing::new(Broken);
+        assert_eq!(rt; broken.write(b"lost"), Ok(0));
+        assert_eq!(rt; broken.faults, 1);
+    }
+}
