@@ -4,11 +4,11 @@
 mod disk;
 mod help;
 mod places;
-mod run;
 mod site;
 mod streams;
 mod who;
 
+use ae_session::aegis;
 use disk::RealDisk;
 use site::RealSite;
 use std::io::{ErrorKind, Write};
@@ -42,7 +42,7 @@ fn main(rt: HostRuntime) -> ExitCode {
     let Ok(who) = who::user(&rt) else {
         return ExitCode::from(NO_MEMORY);
     };
-    let status = run::run(
+    let outcome = aegis(
         rt.alloc(),
         words.as_slice(),
         who.as_str(),
@@ -53,7 +53,7 @@ fn main(rt: HostRuntime) -> ExitCode {
         &mut Writing::new(rt.stdout()),
         &mut Writing::new(rt.stderr()),
     );
-    ExitCode::from(status)
+    ExitCode::from(outcome.status())
 }
 
 #[cfg(test)]

@@ -40,12 +40,8 @@ fn folder_of(alloc: Global, dir: Dir) -> Result<String, AllocError> {
     }
 }
 
-fn place_in(alloc: Global, folder: &str, path: &Path) -> io::Result<String> {
-    let Ok(path) = str::from_utf8(path.bytes()) else {
-        return Err(io::Error::from(ErrorKind::InvalidFilename));
-    };
-    let place = format!(in alloc; "{folder}/{path}")?;
-    Ok(place)
+fn place_in(alloc: Global, folder: &str, path: &Path) -> Result<String, AllocError> {
+    format!(in alloc; "{folder}/{path}")
 }
 
 // By its code, or by a signal.
