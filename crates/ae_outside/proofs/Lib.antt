@@ -4,3 +4,4 @@ pub mod DiskPicked
 pub mod FileRowLaws
 pub mod Pieces
 pub mod ScriptLaws
+pub mod DiskCalls

@@ -28,6 +28,7 @@ left_after pick (Write name at bytes) read left = with_file name (write_left pic
 left_after pick (Cut name len) read left = with_file name (cut_left pick len) left
 left_after pick (Sync name) read left = with_file name (λ _. read name) left
 
+-- the same after a log, from what was read and what was left before it
 abbrev pub picked_from : Pick → Image → Image → List Logged → Image
 picked_from pick read left [] = left
 picked_from pick read left (entry ∷ log) = picked_from pick (applied entry.change read) (left_after pick entry.change read left) log

@@ -1,5 +1,5 @@
 -- What contracts see of a disk in memory.
-use Rattle.std.specs.Prelude.{◌≡◌, ℕ, List, [], ◌∷◌, ◌++◌, length, take, refl}
+use Rattle.std.specs.Prelude.{◌≡◌, ◌<◌, ◌^◌, ℕ, List, [], ◌∷◌, ◌++◌, length, take, refl}
 use Rattle.ae_outside.specs.declared.memory.disk_files.File.{File}
 use Rattle.ae_outside.specs.declared.memory.disk_log.Change.{Change}
 use Rattle.ae_outside.specs.declared.memory.disk_log.Logged.{Logged}
@@ -19,6 +19,12 @@ pub record DiskRecord : Type 0 where
   pub initial : List File
   pub log : List Logged
   pub counts : Counts
+
+-- what its fields keep: its files are what the log gives, and the changes are those of its calls so far
+pub record Keeps (initial files : List File) (log : List Logged) (counts : Counts) : Type 0 where
+  pub replayed : bytes_of files ≡ replay (bytes_of initial) log
+  pub numbered : changes_behind counts.calls log ≡ length log
+  pub counted : counts.calls < 2 ^ 64
 
 -- a disk with these files that has had no call, and whose calls of these numbers will fail
 abbrev pub new_disk : List File → List ℕ → DiskRecord

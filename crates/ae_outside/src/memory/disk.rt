@@ -30,16 +30,13 @@ pub struct MemDisk {
 }
 
 impl Model for MemDisk {
-    ghost use Rattle.std.specs.Prelude.{◌≡◌};
-    ghost use Rattle.ae_outside.specs.DiskFiles.{bytes_of};
-    ghost use Rattle.ae_outside.specs.DiskLog.{replay};
-    ghost use Rattle.ae_outside.specs.MemDisk.{DiskRecord};
+    ghost use Rattle.ae_outside.specs.MemDisk.{DiskRecord, Keeps};
 
     ghost Value = { DiskRecord };
 
     ghost view = { λ a. record { initial = a.initial; log = a.log.items; counts = a.calls } };
 
-    ghost invariant = { λ a. bytes_of a.files ≡ replay (bytes_of a.initial) a.log.items };
+    ghost invariant = { λ a. Keeps a.initial a.files a.log.items a.calls };
 }
 
 // so many bytes from a place on, fewer at the end
@@ -63,7 +60,9 @@ impl MemDisk {
 
     /// How many calls it has had.
     pub fn calls(&self) -> u64
-        ensures { result ≡ self.now.counts.calls }
+        ensures calls { result ≡ self.now.counts.calls }
+        // The moment behind all of them is now.
+        ensures now { moment_behind result self.now ≡ (state_of self.now).moment }
     {
         self.calls.calls()
     }

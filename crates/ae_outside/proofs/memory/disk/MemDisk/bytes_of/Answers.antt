@@ -8,5 +8,5 @@ use Rattle.ae_outside.proofs.memory.disk.MemDisk.bytes_of.Goals as goal
 
 pub returns : goal.returns
 returns c =
-    c.bytes_of.ensures ∙ (λ i. c.self.invariant i (c.as_bytes.ensures.value i))
+    c.bytes_of.ensures ∙ (λ i. c.self.invariant.replayed i (c.as_bytes.ensures.value i))
     ∙ ap (λ (d : DiskRecord). replay (bytes_of d.initial) d.log c.args.name.now) c.self.view_is ∙ ap (λ (image : Image). image c.args.name.now) (sym (reads_replay c.args.self.now))
