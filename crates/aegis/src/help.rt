@@ -1,5 +1,6 @@
 // What the program says of itself.
-ghost use Rattle.std.specs.Prelude.{◌≡◌, length, IfSome, IsSome};
+ghost use Rattle.std.specs.Prelude.{◌↔◌, IsSome, map, string_bytes};
+ghost use Rattle.aegis.specs.Help.{AskOfItself};
 
 const VERSION: &str = "aegis 0.1.0\n";
 
@@ -53,7 +54,7 @@ By now only `-npr NAME` is there.
 
 /// What `--help` alone and `--version` alone print, and `None` at other words.
 pub fn shown(words: &[String]) -> Option<&'static str>
-    ensures alone { IsSome result → length words.now ≡ 1 }
+    ensures { IsSome result ↔ AskOfItself (map string_bytes words.now) }
 {
     match words {
         [word] if word.as_str() == "--help" => Some(HELP),
