@@ -30,6 +30,7 @@ over_there name bytes f new old other differs is =
       | false ↦ λ here there. ap (λ (l : List ℕ). if bytes_eq f.name other then f.bytes else l) there
     ] refl is
 
+-- at each name
 put_over_at : (name bytes : List ℕ) (d : File) (files : List File) (other : List ℕ) → place_of name files < length files
     → bytes_of (set files (place_of name files) (record { name = (get_or files (place_of name files) d).name; bytes = bytes })) other ≡ (if bytes_eq name other then bytes else bytes_of files other)
 put_over_at name bytes d [] other lt = absurd (omega arith)

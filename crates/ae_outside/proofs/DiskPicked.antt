@@ -22,9 +22,11 @@ use Rattle.ae_outside.proofs.DiskReplay.{reads_replay}
 abbrev mix : (List ℕ → Bool) → Image → Image → Image
 mix which f g name = if which name then f name else g name
 
+-- images of which any files may be put together
 abbrev IsFileWise : (Image → Type 0) → Type 0
 IsFileWise images = (which : List ℕ → Bool) (f g : Image) → images f → images g → images (mix which f g)
 
+-- a fact of a file of either image
 mix_case : (which : List ℕ → Bool) (P : List ℕ → List ℕ → Type 0) (f0 g0 f g : Image) (name : List ℕ) → P (f0 name) (f name) → P (g0 name) (g name) → P (mix which f0 g0 name) (mix which f g name)
 mix_case which P f0 g0 f g name pf pg = at (which name)
   where
@@ -32,6 +34,7 @@ mix_case which P f0 g0 f g name pf pg = at (which name)
     at true = pf
     at false = pg
 
+-- the images after a change are put together file by file too
 file_wise_after : (change : Change) (read : Image) (images : Image → Type 0) → IsFileWise images → IsFileWise (After change read images)
 file_wise_after (Write name at bytes) read images wise which f g from_f from_g = (
   mix which from_f.0 from_g.0,
@@ -58,6 +61,7 @@ file_wise_after (Sync name) read images wise which f g from_f from_g = (
   ),
 )
 
+-- a file that is synced is as it reads
 synced : (name : List ℕ) (read image : Image) (images : Image → Type 0) → IsFileWise images → images read → images image
     → (old : Image) × images old × ((with_file name (λ _. read name) image ≡ old) × (old name ≡ read name))
 synced name read image images wise is_read is = (
@@ -72,6 +76,7 @@ synced name read image images wise is_read is = (
       | inr other ↦ ap (λ (b : Bool). if b then read name else image n) other ∙ sym (ap (λ (b : Bool). if b then read n else image n) other)
     ]
 
+-- copies of a byte put over a file, and the picks of a write and a cut
 filled_torn : (at n byte : ℕ) (file : List ℕ) → IsTorn at n file (overwritten at (replicate n byte) file)
 filled_torn at n byte file = subst (λ (m : ℕ). IsTorn at m file (overwritten at (replicate n byte) file)) (length-replicate n byte) (overwritten_torn at (replicate n byte) file)
 
@@ -134,6 +139,7 @@ new_from : (log : List Logged) (read left : Image) → left ≡ read → picked_
 new_from [] read left is = is
 new_from (entry ∷ log) read left is = new_from log (applied entry.change read) (left_after New entry.change read left) (ap (left_after New entry.change read) is ∙ new_after entry.change read)
 
+-- what is left by the pick behind the first calls
 picked_image : (pick : Pick) (calls : ℕ) (disk : DiskRecord) → (state_of disk).image_at (moment_behind calls disk) (picked_behind pick calls disk)
 unfolding state_from
 picked_image pick calls disk = picked_left pick (bytes_of disk.initial) (changes_by calls disk.log)

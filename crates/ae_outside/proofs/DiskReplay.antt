@@ -14,15 +14,17 @@ use Rattle.ae_outside.specs.DiskLog.{overwritten, applied, Leaves, After, replay
 use Rattle.ae_outside.specs.DiskLaws.{torn_same, cut_same, overwritten_fits, file_here, applied_leaves}
 use Rattle.ae_outside.specs.MemDisk.{DiskRecord, state_from, state_of, Logs, OnlyCounts}
 
+-- one change more at the end of the log
 pub replay_push : (read : Image) (log : List Logged) (entry : Logged) → replay read (log ++ entry ∷ []) ≡ applied entry.change (replay read log)
 replay_push read [] entry = refl
 replay_push read (c ∷ log) entry = replay_push (applied c.change read) log entry
 
+-- an image after it comes from one before it
 left_push : (read : Image) (images : Image → Type 0) (log : List Logged) (entry : Logged) (image : Image) → Left read images (log ++ entry ∷ []) image → After entry.change (replay read log) (Left read images log) image
 left_push read images [] entry image left = left
 left_push read images (c ∷ log) entry image left = left_push (applied c.change read) (After c.change read images) log entry image left
 
--- one call more, whose effect is within a step that may also do nothing
+-- one change more, whose effect is within a step that may also do nothing
 push_goes_on : (step : Image → Image → Type 0) (start : Image) (log : List Logged) (entry : Logged) → ((f : Image) → step f f) → ((read old new : Image) → Leaves entry.change read old new → step old new)
     → GoesOn step (state_from start log) (state_from start (log ++ entry ∷ []))
 unfolding state_from
@@ -116,19 +118,8 @@ pub reads_replay : (disk : DiskRecord) → reads (state_of disk) ≡ replay (byt
 reads_replay disk = reads_whole (bytes_of disk.initial) disk.log
 
 -- a call that isn't logged
-pub write_none : (name : List ℕ) (at n : ℕ) (old new : DiskRecord) → OnlyCounts old new → GoesOn (WriteBegun name at n) (state_of old) (state_of new)
-write_none name at n old new is = kept_goes_on _ old new (write_same name at n) is
-
 pub cut_none : (name : List ℕ) (len : ℕ) (old new : DiskRecord) → OnlyCounts old new → GoesOn (CutBegun name len) (state_of old) (state_of new)
 cut_none name len old new is = kept_goes_on _ old new (cut_same_image name len) is
-
-pub same_none : (old new : DiskRecord) → OnlyCounts old new → GoesOn IsSame (state_of old) (state_of new)
-same_none old new is = kept_goes_on _ old new (λ f. refl) is
-
-pub front_none : (name : List ℕ) (old new : DiskRecord) → OnlyCounts old new → take (length (reads (state_of new) name)) (reads (state_of old) name) ≡ reads (state_of new) name
-front_none name old new is =
-    let same : reads (state_of old) name ≡ reads (state_of new) name = ap (λ (s : DiskState). reads s name) (state_kept old new is) in
-    take_all (length (reads (state_of new) name)) (reads (state_of old) name) (omega (arith, ap length same)) ∙ same
 
 -- a write that is logged
 pub write_logged : (name : List ℕ) (at : ℕ) (bytes : List ℕ) (old new : DiskRecord) → Logs (Write name at bytes) old new → GoesOn (WriteBegun name at (length bytes)) (state_of old) (state_of new)

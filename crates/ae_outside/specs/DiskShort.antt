@@ -16,6 +16,7 @@ use Rattle.ae_outside.specs.DiskLaws.{bool_cases, file_here, file_elsewhere, tor
 take_min : (n m : ℕ) (l : List ℕ) → n ≤ m → take n (take m l) ≡ take n l
 take_min n m l le = take-take n m l le
 
+-- a write, where both are cut to the lengths that are read
 torn_take : (at n s t : ℕ) (old new : List ℕ) → at ≤ s → t ≡ max s (at + n) → IsTorn at n old new → IsTorn at n (take s old) (take t new)
 torn_take at n s t old new le t_is torn = record {
   before = take_min at t new (omega arith) ∙ torn.before ∙ sym (take_min at s old le);
@@ -37,6 +38,7 @@ torn_past at n s old new lt torn =
     let same : take s new ≡ take s old = sym (take_min s at new (omega arith)) ∙ ap (take s) torn.before ∙ take_min s at old (omega arith) in
     subst (λ (l : List ℕ). IsTorn at n (take s old) l) (sym same) (torn_same at n (take s old))
 
+-- a cut, where both are cut to the lengths that are read
 cut_take : (len s t : ℕ) (old new : List ℕ) → t ≡ min len s → IsCut len old new → IsCut len (take s old) (take t new)
 cut_take len s t old new t_is cut = record {
   front = elim (cases_lt len s) [
@@ -49,9 +51,11 @@ cut_take len s t old new t_is cut = record {
   no_longer = omega (arith, length-take t new, length-take s old, cut.no_longer);
 }
 
+-- of these images one cut to the length that is read is one too
 abbrev IsCutWise : Image → (Image → Type 0) → Type 0
 IsCutWise read images = (name : List ℕ) (image : Image) → images image → images (cut_to read name image)
 
+-- how long a file is after a write
 length-over : (at : ℕ) (bytes old : List ℕ) → at ≤ length old → length (overwritten at bytes old) ≡ max (length old) (at + length bytes)
 length-over at bytes old le =
     let fits : nat_le at (length old) ≡ true = grind (arith, nat_tests) in
