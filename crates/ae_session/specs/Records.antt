@@ -10,20 +10,31 @@ false_word = word (codes "false")
 abbrev pub nothing : Node
 nothing = list no_items
 
--- the name of the project, and its settings
-abbrev pub policy_fields : List ℕ → List (List ℕ × Node)
-policy_fields name =
+-- what the project is
+abbrev pub identity_fields : List ℕ → List (List ℕ × Node)
+identity_fields name =
     (codes "format", number 1)
     ∷ (codes "store", word (codes "packed"))
     ∷ (codes "name", str name)
     ∷ (codes "description", str [])
-    ∷ (codes "developer_may_review", false_word)
+    ∷ []
+
+-- who may do what: nobody more than the rules say
+abbrev pub permission_fields : List (List ℕ × Node)
+permission_fields =
+    (codes "developer_may_review", false_word)
     ∷ (codes "developer_may_integrate", false_word)
     ∷ (codes "reviewer_may_integrate", false_word)
     ∷ (codes "developers_may_create_changes", false_word)
-    ∷ (codes "develop_end_action", word (codes "goto_being_reviewed"))
-    ∷ (codes "default_test_exemption", false_word)
     ∷ []
+
+-- how development ends, and what a new change begins with
+abbrev pub default_fields : List (List ℕ × Node)
+default_fields = (codes "develop_end_action", word (codes "goto_being_reviewed")) ∷ (codes "default_test_exemption", false_word) ∷ []
+
+-- the name of the project, and its settings
+abbrev pub policy_fields : List ℕ → List (List ℕ × Node)
+policy_fields name = identity_fields name ++ permission_fields ++ default_fields
 
 -- the users of each role: its maker is the administrator
 abbrev pub people_fields : List ℕ → List (List ℕ × Node)

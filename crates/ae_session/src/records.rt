@@ -2,7 +2,7 @@
 ghost use Rattle.std.specs.Prelude.{◌≡◌, IfOk, map};
 ghost use Rattle.ae_text.specs.Tree.{word, number, str, list, item, no_items};
 ghost use Rattle.ae_text.specs.View.{named_node};
-ghost use Rattle.ae_session.specs.Records.{false_word, nothing, policy_fields, people_fields, counted_fields, project_fields, project_text, files_text};
+ghost use Rattle.ae_session.specs.Records.{false_word, nothing, identity_fields, permission_fields, default_fields, policy_fields, people_fields, counted_fields, project_fields, project_text, files_text};
 
 use crate::request::Request;
 use ae_text::{Field, FieldList, Tree, TreeList, print_tree};
@@ -39,19 +39,37 @@ fn one_string(alloc: Global, name: &[u8], value: &[u8]) -> Result<Field, AllocEr
     Field::of(alloc, name, Tree::List(TreeList::of(strings)))
 }
 
-// The name of the project, and its settings.
-fn policy(alloc: Global, name: &[u8]) -> Result<Vec<Field>, AllocError>
-    ensures { IfOk result (λ fields. map named_node fields.items ≡ policy_fields name.now) }
+// What the project is.
+fn identity(alloc: Global, name: &[u8]) -> Result<Vec<Field>, AllocError>
+    ensures { IfOk result (λ fields. map named_node fields.items ≡ identity_fields name.now) }
 {
     let fields = vec![in alloc;
         Field::of(alloc, b"format", Tree::Number(1))?,
         word(alloc, b"store", b"packed")?,
         string(alloc, b"name", name)?,
         string(alloc, b"description", b"")?,
+    ]?;
+    Ok(fields)
+}
+
+// Who may do what: nobody more than the rules say.
+fn permissions(alloc: Global) -> Result<Vec<Field>, AllocError>
+    ensures { IfOk result (λ fields. map named_node fields.items ≡ permission_fields) }
+{
+    let fields = vec![in alloc;
         flag(alloc, b"developer_may_review")?,
         flag(alloc, b"developer_may_integrate")?,
         flag(alloc, b"reviewer_may_integrate")?,
         flag(alloc, b"developers_may_create_changes")?,
+    ]?;
+    Ok(fields)
+}
+
+// How development ends, and what a new change begins with.
+fn defaults(alloc: Global) -> Result<Vec<Field>, AllocError>
+    ensures { IfOk result (λ fields. map named_node fields.items ≡ default_fields) }
+{
+    let fields = vec![in alloc;
         word(alloc, b"develop_end_action", b"goto_being_reviewed")?,
         flag(alloc, b"default_test_exemption")?,
     ]?;
@@ -80,6 +98,18 @@ fn counted(alloc: Global) -> Result<Vec<Field>, AllocError>
         empty_list(alloc, b"changes")?,
         empty_list(alloc, b"deltas")?,
     ]?;
+    Ok(fields)
+}
+
+// The name of the project, and its settings.
+fn policy(alloc: Global, name: &[u8]) -> Result<Vec<Field>, AllocError>
+    ensures { IfOk result (λ fields. map named_node fields.items ≡ policy_fields name.now) }
+{
+    let mut fields = identity(alloc, name)?;
+    let mut permissions = permissions(alloc)?;
+    let mut defaults = defaults(alloc)?;
+    fields.append(&mut permissions)?;
+    fields.append(&mut defaults)?;
     Ok(fields)
 }
 
