@@ -1,7 +1,6 @@
 // A project is made, once.
 use super::*;
-use ae_base::Outcome;
-use ae_outside::{Disk, MemDisk, MemRunList, MemSink, MemSite, MemSource, Pick};
+use ae_outside::{Disk, MemDisk, MemRunList, MemSink, MemSite, MemSource, ReadError};
 use std::alloc::{AllocError, Global};
 use std::test::Fail;
 
@@ -34,15 +33,16 @@ fn words(alloc: Global, words: &[&str]) -> Result<Vec<String>, AllocError> {
     Ok(list)
 }
 
-fn call(
+// The exit status of a call with these words.
+fn status_of(
     alloc: Global,
     world: &mut World,
     said: &[&str],
     who: &str,
     now: u64,
-) -> Result<Outcome, AllocError> {
+) -> Result<u8, AllocError> {
     let said = words(alloc, said)?;
-    Ok(aegis(
+    let outcome = aegis(
         alloc,
         said.as_slice(),
         who,
@@ -52,7 +52,17 @@ fn call(
         &mut world.input,
         &mut world.out,
         &mut world.err,
-    ))
+    );
+    Ok(outcome.status())
+}
+
+// The same of `-npr demo` by alice.
+fn status_of_demo(alloc: Global, world: &mut World) -> Result<u8, AllocError> {
+    status_of(alloc, world, &["-npr", "demo"], "alice", 1_000_000_000)
+}
+
+fn project_in(alloc: Global, disk: &mut MemDisk) -> Result<Vec<u8>, ReadError> {
+    disk.read_at(alloc, "project", 0, 1000)
 }
 
 static PROJECT: &[u8] = b"format = 1;
@@ -75,65 +85,83 @@ deltas = [];
 ";
 
 #[test]
-fn made_twice_is_refused(rt: HostRuntime) -> Result<(), Fail> {
+fn a_project_is_made(rt: HostRuntime) -> Result<(), Fail> {
     let alloc = rt.alloc();
     let mut world = make_world(alloc, &[], &[])?;
-    let outcome = call(alloc, &mut world, &["-npr", "demo"], "alice", 1_000_000_000)?;
-    assert_eq!(rt; outcome.status(), 0);
+    assert_eq!(rt; status_of_demo(alloc, &mut world)?, 0);
     assert_eq!(rt;
         world.err.taken(),
         b"aegis: project \"demo\": created\n".as_slice()
     );
     assert_eq!(rt; world.out.taken(), b"".as_slice());
-    let project = world.disk.read_at(alloc, "project", 0, 1000)?;
-    assert_eq!(rt; project.as_slice(), PROJECT);
-    let files = world.disk.read_at(alloc, "files", 0, 1000)?;
-    assert_eq!(rt; files.as_slice(), b"files = [];\nlocks = [];\n".as_slice());
-    let outcome = call(alloc, &mut world, &["-npr", "demo"], "alice", 1_000_000_000)?;
-    assert_eq!(rt; outcome.status(), 1);
-    let both = b"aegis: project \"demo\": created\naegis: 2: the project is there already\n";
-    assert_eq!(rt; world.err.taken(), both.as_slice());
     assert_eq!(rt; world.disk.starved() + world.err.starved(), 0);
     Ok(())
 }
 
 #[test]
-fn a_user_that_is_none_is_bad_at_place_0(rt: HostRuntime) -> Result<(), Fail> {
+fn its_files_are_canonical(rt: HostRuntime) -> Result<(), Fail> {
     let alloc = rt.alloc();
     let mut world = make_world(alloc, &[], &[])?;
-    for (who, now, said, status, message) in [
+    assert_eq!(rt; status_of_demo(alloc, &mut world)?, 0);
+    assert_eq!(rt; project_in(alloc, &mut world.disk)?.as_slice(), PROJECT);
+    let files = world.disk.read_at(alloc, "files", 0, 1000)?;
+    assert_eq!(rt; files.as_slice(), b"files = [];\nlocks = [];\n".as_slice());
+    Ok(())
+}
+
+#[test]
+fn made_twice_is_refused(rt: HostRuntime) -> Result<(), Fail> {
+    let alloc = rt.alloc();
+    let mut world = make_world(alloc, &[], &[])?;
+    assert_eq!(rt; status_of_demo(alloc, &mut world)?, 0);
+    assert_eq!(rt; status_of_demo(alloc, &mut world)?, 1);
+    let both = b"aegis: project \"demo\": created\naegis: 2: the project is there already\n";
+    assert_eq!(rt; world.err.taken(), both.as_slice());
+    Ok(())
+}
+
+// What is told of words that are bad; the disk isn't called.
+fn told_of(alloc: Global, said: &[&str], who: &str, now: u64) -> Result<(u8, Vec<u8>, u64), Fail> {
+    let mut world = make_world(alloc, &[], &[])?;
+    let status = status_of(alloc, &mut world, said, who, now)?;
+    let message = world.err.taken().to_vec(alloc)?;
+    Ok((status, message, world.disk.calls()))
+}
+
+#[test]
+fn bad_words_are_told_by_their_place(rt: HostRuntime) -> Result<(), Fail> {
+    for (who, now, function, message) in [
         (
             "Bob",
             0,
             "-npr",
-            2,
             b"aegis: word 0 is not understood\n".as_slice(),
         ),
         (
             "bob",
             4_102_444_800,
             "-npr",
-            2,
             b"aegis: word 0 is not understood\n",
         ),
         (
             "bob",
             4_102_444_799,
             "-nprx",
-            2,
             b"aegis: word 1 is not understood\n",
         ),
     ] {
-        let before = world.err.taken().len();
-        let outcome = call(alloc, &mut world, &[said, "demo"], who, now)?;
-        assert_eq!(rt; outcome.status(), status);
-        let taken = world.err.taken();
-        assert!(rt; before <= taken.len());
-        assert_eq!(rt; &taken[before..], message);
+        let (status, told, calls) = told_of(rt.alloc(), &[function, "demo"], who, now)?;
+        assert_eq!(rt; status, 2);
+        assert_eq!(rt; told.as_slice(), message);
+        assert_eq!(rt; calls, 0);
     }
-    assert_eq!(rt; world.disk.calls(), 0);
-    let outcome = call(alloc, &mut world, &["-npr", "demo"], "www-data", 0)?;
-    assert_eq!(rt; outcome.status(), 0);
+    Ok(())
+}
+
+#[test]
+fn a_user_may_have_a_dash(rt: HostRuntime) -> Result<(), Fail> {
+    let (status, _, _) = told_of(rt.alloc(), &["-npr", "demo"], "www-data", 0)?;
+    assert_eq!(rt; status, 0);
     Ok(())
 }
 
@@ -141,10 +169,9 @@ fn a_user_that_is_none_is_bad_at_place_0(rt: HostRuntime) -> Result<(), Fail> {
 fn a_disk_that_fails_makes_no_project(rt: HostRuntime) -> Result<(), Fail> {
     let alloc = rt.alloc();
     let mut world = make_world(alloc, &[1], &[])?;
-    let outcome = call(alloc, &mut world, &["-npr", "demo"], "alice", 0)?;
-    assert_eq!(rt; outcome.status(), 3);
+    assert_eq!(rt; status_of_demo(alloc, &mut world)?, 3);
     assert_eq!(rt; world.err.taken(), b"aegis: disk fault\n".as_slice());
-    assert_eq!(rt; world.disk.size("project")?, 0);
+    assert_eq!(rt; project_in(alloc, &mut world.disk)?.len(), 0);
     Ok(())
 }
 
@@ -152,11 +179,7 @@ fn a_disk_that_fails_makes_no_project(rt: HostRuntime) -> Result<(), Fail> {
 fn a_reply_that_cannot_be_written_is_a_sink_fault(rt: HostRuntime) -> Result<(), Fail> {
     let alloc = rt.alloc();
     let mut world = make_world(alloc, &[], &[1])?;
-    let outcome = call(alloc, &mut world, &["-npr", "demo"], "alice", 0)?;
-    assert_eq!(rt; outcome.status(), 5);
-    let calls = world.disk.calls();
-    let mut stopped = world.disk.after_stop(alloc, calls, Pick::Old)?;
-    let project = stopped.read_at(alloc, "project", 0, 1000)?;
-    assert_eq!(rt; project.as_slice(), PROJECT);
+    assert_eq!(rt; status_of_demo(alloc, &mut world)?, 5);
+    assert_eq!(rt; project_in(alloc, &mut world.disk)?.as_slice(), PROJECT);
     Ok(())
 }
