@@ -1,0 +1,87 @@
+-- What holds of each command that is read.
+use Rattle.std.specs.Prelude.{ℕ, ◌≡◌, ◌≤◌, List, [], ◌∷◌, Bool, true, false, ◌&&◌, not, if◌then◌else◌, Option, Some, None, length, nat_eq, nat_le, codes, is_some}
+use Rattle.std.specs.List.{list_all}
+use Rattle.std.specs.Cmp.Lexicographic.{pointwise}
+use Rattle.ae_base.specs.Names.{is_user, is_project_name, is_path}
+use Rattle.ae_words.specs.Table.{row, allows}
+use Rattle.ae_words.specs.Meaning.{is_whole}
+use Rattle.ae_words.specs.declared.command.Command.{Command}
+use Rattle.ae_words.specs.declared.table.Listing.{Listing}
+use Rattle.ae_words.specs.declared.table.Setting.{Setting}
+use Rattle.ae_words.specs.declared.table.Setting.TheVariants as setting
+use Rattle.ae_words.specs.declared.table.Row.{Row}
+use Rattle.ae_words.specs.declared.table.Row.TheVariants as rows
+
+-- whether the command has the option
+abbrev pub has : Command → Setting → Bool
+has c setting.Project = is_some c.project
+has c setting.File = is_some c.attributes
+has c setting.Change = is_some c.change
+has c setting.Delta = is_some c.delta
+has c setting.Overwriting = c.overwriting
+has c setting.Baseline = c.baseline
+has c setting.Regression = c.regression
+
+-- the options are allowed, and not both flags of Test are there
+abbrev pub AreOptions : Option Listing → Command → Type 0
+AreOptions l c = ((o : Setting) → has c o ≡ true → allows c.function l o ≡ true) × ((c.baseline && c.regression) ≡ false)
+
+-- no name is there
+abbrev pub no_name : Option (List ℕ) → Bool
+no_name None = true
+no_name (Some n) = false
+
+-- no listing is there
+abbrev pub no_listing : Option Listing → Bool
+no_listing None = true
+no_listing (Some l) = false
+
+-- nothing is there
+abbrev pub are_no : {A : Type 0} → List A → Bool
+are_no [] = true
+are_no (x ∷ xs) = false
+
+-- the path is not `aegis.conf`
+abbrev pub is_no_config : List ℕ → Bool
+is_no_config p = not (pointwise nat_eq p (codes "aegis.conf"))
+
+-- at most 1,000 users
+abbrev pub are_users : List (List ℕ) → Bool
+are_users us = list_all is_user us && nat_le (length us) 1000
+
+-- at most 1,000 paths
+abbrev pub are_paths : List (List ℕ) → Bool
+are_paths ps = list_all is_path ps && nat_le (length ps) 1000
+
+-- at most 1,000 paths that may be tests
+abbrev pub are_tests : List (List ℕ) → Bool
+are_tests ps = list_all is_no_config ps && are_paths ps
+
+-- the start, the number of changes and the number of files, as far as they are there
+abbrev pub are_numbers : List ℕ → Bool
+are_numbers [] = true
+are_numbers (s ∷ []) = nat_le s 18446744073709551615
+are_numbers (s ∷ n ∷ []) = nat_le s 18446744073709551615 && nat_le 1 n && nat_le n 200
+are_numbers (s ∷ n ∷ f ∷ []) = nat_le s 18446744073709551615 && nat_le 1 n && nat_le n 200 && nat_le 1 f && nat_le f 99
+are_numbers (s ∷ n ∷ f ∷ x ∷ xs) = false
+
+-- plain words stand where the row has them, and nowhere else
+abbrev pub are_plain : Row → Command → Bool
+are_plain rows.NewProject c = are_no c.users && are_no c.paths && no_listing c.listing && are_no c.numbers
+are_plain rows.Users c = no_name c.name && are_users c.users && are_no c.paths && no_listing c.listing && are_no c.numbers
+are_plain rows.Copy c = no_name c.name && are_no c.users && are_paths c.paths && no_listing c.listing && are_no c.numbers
+are_plain rows.Paths c = no_name c.name && are_no c.users && are_paths c.paths && no_listing c.listing && are_no c.numbers
+are_plain rows.NewTest c = no_name c.name && are_no c.users && are_tests c.paths && no_listing c.listing && are_no c.numbers
+are_plain rows.Listing c = no_name c.name && are_no c.users && are_no c.paths && are_no c.numbers
+are_plain rows.Numbers c = no_name c.name && are_no c.users && are_no c.paths && no_listing c.listing && are_numbers c.numbers
+are_plain rows.Attributes c = no_name c.name && are_no c.users && are_no c.paths && no_listing c.listing && are_no c.numbers
+are_plain rows.ChangeAttributes c = no_name c.name && are_no c.users && are_no c.paths && no_listing c.listing && are_no c.numbers
+are_plain rows.Change c = no_name c.name && are_no c.users && are_no c.paths && no_listing c.listing && are_no c.numbers
+are_plain rows.Test c = no_name c.name && are_no c.users && are_no c.paths && no_listing c.listing && are_no c.numbers
+are_plain rows.Nothing c = no_name c.name && are_no c.users && are_no c.paths && no_listing c.listing && are_no c.numbers
+
+-- the command is one that words can say
+pub record IsFormed (c : Command) : Type 0 where
+  pub options : AreOptions c.listing c
+  pub plain : are_plain (row c.function) c ≡ true
+  pub whole : is_whole c ≡ true
