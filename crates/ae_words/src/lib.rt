@@ -13,3 +13,8 @@ pub use numbers::NumberList;
 pub use read::{WordsError, read_words};
 pub use spelling::matches_option;
 pub use table::{Function, Listing, Row, Setting, one_meaning};
+
+#[cfg(test)]
+mod cases;
+#[cfg(test)]
+mod tests;
