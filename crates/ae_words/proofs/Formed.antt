@@ -6,7 +6,7 @@ use Rattle.std.specs.List.{list_all}
 use Rattle.ae_words.specs.Items.{Item, a_plain, a_flag, an_option, a_wrong, listing_named, listing}
 use Rattle.ae_words.specs.Meaning.{step, or_bad, may_come, with_plain, with_name, with_user, with_path, with_test, with_listing, listed, with_number, numbered, next_number, with_flag, with_value, with_change, with_delta, is_free, blank, is_whole, has_plain}
 use Rattle.ae_words.specs.Table.{row, allows, allows_change, may_take_change, needs_change, needs_attributes}
-use Rattle.ae_words.specs.Formed.{has, AreOptions, are_plain, IsFormed, are_users, are_paths, are_tests, is_no_config, no_name, are_no, no_listing, are_numbers}
+use Rattle.ae_words.specs.Formed.{has, AreKinds, AreOptions, are_plain, IsFormed, are_users, are_paths, are_tests, is_no_config, no_name, are_no, no_listing, are_numbers}
 use Rattle.ae_words.specs.Grammar.{reads, then_read}
 use Rattle.ae_base.specs.Names.{is_user, is_path}
 use Rattle.ae_base.specs.Numbers.{change_number, delta_number, number_within, number_from, in_range}
@@ -19,11 +19,11 @@ use Rattle.ae_words.specs.declared.table.Row.{Row}
 use Rattle.ae_words.specs.declared.table.Row.TheVariants as rows
 use Rattle.ae_words.proofs.Rule.{both}
 
-some_if : {A : Type 0} (b : Bool) (x y : A) → cond b (Some x) None ≡ Some y → (b ≡ true) × (x ≡ y)
+pub some_if : {A : Type 0} (b : Bool) (x y : A) → cond b (Some x) None ≡ Some y → (b ≡ true) × (x ≡ y)
 some_if true x y e = (refl, cc)
 some_if false x y e = absurd cc
 
-none_if : {A : Type 0} (b : Bool) (o : Option A) (y : A) → cond b None o ≡ Some y → (b ≡ false) × (o ≡ Some y)
+pub none_if : {A : Type 0} (b : Bool) (o : Option A) (y : A) → cond b None o ≡ Some y → (b ≡ false) × (o ≡ Some y)
 none_if true o y e = absurd cc
 none_if false o y e = (refl, e)
 
@@ -446,7 +446,7 @@ range_of low high (Some m) n e =
     let h = some_if (nat_le low m && nat_le m high) m n e in
     subst (λ (x : ℕ). (nat_le low x && nat_le x high) ≡ true) h.1 h.0
 
-within : (most low high : ℕ) (w : List ℕ) (n : ℕ) → number_within most low high w ≡ Some n → (nat_le low n && nat_le n high) ≡ true
+pub within : (most low high : ℕ) (w : List ℕ) (n : ℕ) → number_within most low high w ≡ Some n → (nat_le low n && nat_le n high) ≡ true
 within most low high [] n e = absurd cc
 within most low high (b ∷ bs) n e = one (nat_le (length (b ∷ bs)) most) e
   where
@@ -461,7 +461,7 @@ numbers_more (s ∷ m ∷ []) w n h e = let r = both (nat_le 1 n) (nat_le n 99) 
 numbers_more (s ∷ m ∷ f ∷ []) w n h e = absurd cc
 numbers_more (s ∷ m ∷ f ∷ x ∷ xs) w n h e = absurd cc
 
-last : (a b : Bool) → (a && b) ≡ true → b ≡ true
+pub last : (a b : Bool) → (a && b) ≡ true → b ≡ true
 last true b h = h
 last false b h = absurd cc
 
@@ -531,11 +531,11 @@ record IsSoFar (l : Option Listing) (c : Command) : Type 0 where
   options : AreOptions l c
   plain : are_plain (row c.function) c ≡ true
 
-ok_some : (at : ℕ) (o : Option Command) (d : Command) → or_bad at o ≡ Ok d → o ≡ Some d
+pub ok_some : (at : ℕ) (o : Option Command) (d : Command) → or_bad at o ≡ Ok d → o ≡ Some d
 ok_some at None d e = absurd cc
 ok_some at (Some c) d e = cc
 
-ok_if : (b : Bool) (at : ℕ) (r : Result Command ℕ) (d : Command) → cond b r (Err at) ≡ Ok d → (b ≡ true) × (r ≡ Ok d)
+pub ok_if : (b : Bool) (at : ℕ) (r : Result Command ℕ) (d : Command) → cond b r (Err at) ≡ Ok d → (b ≡ true) × (r ≡ Ok d)
 ok_if true at r d e = (refl, e)
 ok_if false at r d e = absurd cc
 
@@ -732,12 +732,13 @@ blank_listing : (l : Option Listing) (f : Function) (is : List Item) → listing
 unfolding blank
 blank_listing l f is e r = inl (refl, e)
 
-pub formed : (f : Function) (c : Command) (is : List Item) → reads (listing is) (blank f) is ≡ Ok c → is_whole c ≡ true → IsFormed c
-formed f c is e whole =
+pub formed : (f : Function) (c : Command) (is : List Item) → reads (listing is) (blank f) is ≡ Ok c → is_whole c ≡ true → AreKinds c → IsFormed c
+formed f c is e whole kinds =
     let l = listing is in
     let so = reads_so_far l (blank f) c is e (blank_so_far l f) in
     let listed = same_listing l c (reads_listing l (blank f) c is e (blank_listing l f is refl)) whole in
     record {
+      kinds = kinds;
       options = (λ o there. sym (allows_same c.function l c.listing o listed) ∙ so.options.0 o there, so.options.1);
       plain = so.plain;
       whole = whole;

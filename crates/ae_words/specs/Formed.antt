@@ -80,8 +80,31 @@ are_plain rows.Change c = no_name c.name && are_no c.users && are_no c.paths && 
 are_plain rows.Test c = no_name c.name && are_no c.users && are_no c.paths && no_listing c.listing && are_no c.numbers
 are_plain rows.Nothing c = no_name c.name && are_no c.users && are_no c.paths && no_listing c.listing && are_no c.numbers
 
--- the command is one that words can say
+-- what is there passes the test
+abbrev pub fits : {A : Type 0} → (A → Bool) → Option A → Bool
+fits test None = true
+fits test (Some x) = test x
+
+-- 10 to 1999
+abbrev pub is_change_number : ℕ → Bool
+is_change_number n = nat_le 10 n && nat_le n 1999
+
+-- 0 to 1990
+abbrev pub is_delta_number : ℕ → Bool
+is_delta_number n = nat_le n 1990
+
+-- what options and the name give is of its kind
+pub record AreKinds (c : Command) : Type 0 where
+  pub project : fits is_project_name c.project ≡ true
+  pub change : fits is_change_number c.change ≡ true
+  pub attributes : fits is_path c.attributes ≡ true
+  pub delta : fits is_delta_number c.delta ≡ true
+  pub name : fits is_project_name c.name ≡ true
+
+-- the command is one that words can say: its options are allowed, its plain words are those of its function, all are of
+-- their kinds, and nothing is missing
 pub record IsFormed (c : Command) : Type 0 where
+  pub kinds : AreKinds c
   pub options : AreOptions c.listing c
   pub plain : are_plain (row c.function) c ≡ true
   pub whole : is_whole c ≡ true
