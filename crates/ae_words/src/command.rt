@@ -6,7 +6,7 @@ ghost use Rattle.ae_words.specs.Grammar.{reads};
 ghost use Rattle.ae_words.specs.Table.{row};
 ghost use Rattle.ae_words.specs.Seen.{item_seen, Gives};
 
-use crate::items::{Item, listing_of, named_listing, next_item};
+use crate::items::{Item, named_listing, next_item};
 use crate::numbers::NumberList;
 use crate::table::{Function, Listing, Row, Setting};
 use ae_base::{ChangeNo, Delta, Path, PathList, ProjectName, User, UserList, read_number};
@@ -139,7 +139,7 @@ impl Command {
         if self.listing.is_some() {
             return None;
         }
-        let listing = listing_of(word)?;
+        let listing = Listing::find(word)?;
         self.listing = Some(listing);
         Some(self)
     }

@@ -1,37 +1,9 @@
 // Options with their values, and plain words.
 ghost use Rattle.std.specs.Prelude.{◌≡◌, ◌+◌, ◌<◌, ◌≤◌, ◌∷◌, [], length, option_map, map, string_bytes, MatchOption, position, ◌==◌, false};
-ghost use Rattle.ae_words.specs.Items.{function_named, listing_named, setting_named, is_flag, without_dash, behind_dash, name_and_value, word, items_from, listing, function};
+ghost use Rattle.ae_words.specs.Items.{is_flag, without_dash, behind_dash, name_and_value, word, items_from, listing, function};
 ghost use Rattle.ae_words.specs.Seen.{word_seen, item_seen};
 
-use crate::spelling::spells_from;
 use crate::table::{Function, Listing, Setting};
-
-pub(crate) fn function_of(name: &[u8]) -> Option<Function>
-    ensures { result ≡ function_named name.now }
-{
-    Function::ALL
-        .iter()
-        .copied()
-        .find(|function| spells_from(false, function.pattern().as_bytes(), name))
-}
-
-pub(crate) fn listing_of(name: &[u8]) -> Option<Listing>
-    ensures { result ≡ listing_named name.now }
-{
-    Listing::ALL
-        .iter()
-        .copied()
-        .find(|listing| spells_from(false, listing.pattern().as_bytes(), name))
-}
-
-pub(crate) fn setting_of(name: &[u8]) -> Option<Setting>
-    ensures { result ≡ setting_named name.now }
-{
-    Setting::ALL
-        .iter()
-        .copied()
-        .find(|option| spells_from(false, option.pattern().as_bytes(), name))
-}
 
 impl Setting {
     fn is_flag(self) -> bool
@@ -109,7 +81,7 @@ pub(crate) fn read_word(text: &[u8]) -> Word<'_>
         return Word::Plain;
     };
     let (name, value) = split_value(text);
-    match (setting_of(name), value) {
+    match (Setting::find(name), value) {
         (None, _) => Word::Wrong,
         (Some(option), None) => {
             if option.is_flag() {
@@ -134,7 +106,7 @@ pub(crate) fn named_function(text: &[u8]) -> Option<Function>
 {
     let (name, value) = split_value(behind_dash(text)?);
     match value {
-        None => function_of(name),
+        None => Function::find(name),
         Some(_) => None,
     }
 }
@@ -176,7 +148,7 @@ pub(crate) fn named_listing(words: &[String]) -> Option<Listing>
     let mut rest = words;
     while let Some((item, behind_at, behind)) = next_item(at, rest) {
         if let Item::Plain(text) = item {
-            return listing_of(text);
+            return Listing::find(text);
         }
         at = behind_at;
         rest = behind;

@@ -12,7 +12,7 @@ pub use command::Command;
 pub use numbers::NumberList;
 pub use read::{WordsError, read_words};
 pub use spelling::matches_option;
-pub use table::{Function, Listing, Row, Setting, one_meaning};
+pub use table::{Function, Listing, Row, Setting};
 
 #[cfg(test)]
 mod cases;

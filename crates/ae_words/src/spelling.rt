@@ -1,5 +1,5 @@
 // How a word spells a pattern.
-ghost use Rattle.std.specs.Prelude.{◌≡◌, ◌↔◌, true, false, List, ℕ};
+ghost use Rattle.std.specs.Prelude.{◌≡◌, ◌↔◌, IsTrue};
 ghost use Rattle.ae_words.specs.Spelling.{small, is_small, spells, Matches};
 
 fn small_of(b: u8) -> u8
@@ -55,8 +55,7 @@ pub(crate) fn spells_from(is_cut: bool, pattern: &[u8], word: &[u8]) -> bool
 /// front, perhaps an empty one; an underscore is there as `_` or `-` or not at all. The word's letters count alike in
 /// either case. It tries each way that fits, so a pattern is meant to be short.
 pub fn matches_option(pattern: &[u8], word: &[u8]) -> bool
-    ensures matches { result ≡ true → Matches pattern.now word.now }
-    ensures differs { result ≡ false → Matches pattern.now word.now → ⊥ }
+    ensures { IsTrue result ↔ Matches pattern.now word.now }
 {
     spells_from(false, pattern, word)
 }

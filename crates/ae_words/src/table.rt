@@ -1,7 +1,10 @@
 // The table of functions, listings and options, with their patterns and the words that they take.
-ghost use Rattle.std.specs.Prelude.{◌≡◌, List, ℕ};
+ghost use Rattle.std.specs.Prelude.{◌≡◌, ◌↔◌, Some};
 ghost use Rattle.ae_words.specs.Spelling.{Matches};
 ghost use Rattle.ae_words.specs.Table.{function_pattern, listing_pattern, setting_pattern, row, of_change, allows, allows_change, needs_change, needs_attributes};
+ghost use Rattle.ae_words.specs.Items.{function_named, listing_named, setting_named};
+
+use crate::spelling::spells_from;
 
 /// What a command does.
 #[derive(Clone, Copy, Debug, PartialEq, Eq)]
@@ -197,6 +200,23 @@ impl Function {
             Function::Generate => "GENerate",
         }
     }
+
+    /// The function whose pattern the name spells, a function word's dash left out; `None` exactly where it spells none. So no
+    /// name spells two.
+    pub fn read(name: &[u8]) -> Option<Function>
+        ensures { (function : _) → (result ≡ Some function) ↔ Matches (function_pattern function) name.now }
+    {
+        Self::find(name)
+    }
+
+    pub(crate) fn find(name: &[u8]) -> Option<Function>
+        ensures { result ≡ function_named name.now }
+    {
+        Self::ALL
+            .iter()
+            .copied()
+            .find(|function| spells_from(false, function.pattern().as_bytes(), name))
+    }
 }
 
 impl Listing {
@@ -237,6 +257,23 @@ impl Listing {
             Listing::Locks => "Locks",
         }
     }
+
+    /// The listing whose pattern the name spells; `None` exactly where it spells none. So no
+    /// name spells two.
+    pub fn read(name: &[u8]) -> Option<Listing>
+        ensures { (listing : _) → (result ≡ Some listing) ↔ Matches (listing_pattern listing) name.now }
+    {
+        Self::find(name)
+    }
+
+    pub(crate) fn find(name: &[u8]) -> Option<Listing>
+        ensures { result ≡ listing_named name.now }
+    {
+        Self::ALL
+            .iter()
+            .copied()
+            .find(|listing| spells_from(false, listing.pattern().as_bytes(), name))
+    }
 }
 
 impl Setting {
@@ -264,6 +301,23 @@ impl Setting {
             Setting::Baseline => "BaseLine",
             Setting::Regression => "REGression",
         }
+    }
+
+    /// The option whose pattern the name spells, an option word's dash left out; `None` exactly where it spells none. So no
+    /// name spells two.
+    pub fn read(name: &[u8]) -> Option<Setting>
+        ensures { (setting : _) → (result ≡ Some setting) ↔ Matches (setting_pattern setting) name.now }
+    {
+        Self::find(name)
+    }
+
+    pub(crate) fn find(name: &[u8]) -> Option<Setting>
+        ensures { result ≡ setting_named name.now }
+    {
+        Self::ALL
+            .iter()
+            .copied()
+            .find(|option| spells_from(false, option.pattern().as_bytes(), name))
     }
 }
 
@@ -377,12 +431,4 @@ impl Listing {
             Listing::ChangeDetails | Listing::ChangeFiles | Listing::ChangeHistory | Listing::ChangeEvidence
         )
     }
-}
-
-/// No word spells two functions, two listings or two options: a law, with nothing to do.
-pub fn one_meaning()
-    ensures functions { (word : List ℕ) (x y : Function) → Matches (function_pattern x) word → Matches (function_pattern y) word → x ≡ y }
-    ensures listings { (word : List ℕ) (x y : Listing) → Matches (listing_pattern x) word → Matches (listing_pattern y) word → x ≡ y }
-    ensures options { (word : List ℕ) (x y : Setting) → Matches (setting_pattern x) word → Matches (setting_pattern y) word → x ≡ y }
-{
 }

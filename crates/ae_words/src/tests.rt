@@ -156,20 +156,40 @@ fn worked_examples_of_words(rt: HostRuntime) -> Result<(), Fail> {
 }
 
 #[test]
-fn each_pattern_names_its_own(rt: HostRuntime) -> Result<(), Fail> {
+fn each_pattern_spells_its_own(rt: HostRuntime) {
+    for function in Function::ALL {
+        assert_eq!(rt; Function::read(function.pattern().as_bytes()), Some(function));
+    }
+    for listing in Listing::ALL {
+        assert_eq!(rt; Listing::read(listing.pattern().as_bytes()), Some(listing));
+    }
+    for option in Setting::ALL {
+        assert_eq!(rt; Setting::read(option.pattern().as_bytes()), Some(option));
+    }
+}
+
+#[test]
+fn the_table_says_which_words_stand_together(rt: HostRuntime) {
+    let list = Function::List;
+    assert_eq!(rt; list.row(), Row::Listing);
+    assert!(rt; list.allows(Some(Listing::ChangeFiles), Setting::Change));
+    assert!(rt; !list.allows(Some(Listing::Locks), Setting::Change));
+    assert!(rt; list.row().needs_change(Some(Listing::ChangeFiles)));
+    assert!(rt; !list.row().needs_change(Some(Listing::Locks)));
+    assert!(rt; Function::NewChange.row().needs_attributes());
+    assert!(rt; Listing::ChangeEvidence.is_of_change());
+    assert!(rt; !Listing::ProjectChanges.is_of_change());
+}
+
+#[test]
+fn numbers_keep_their_order(rt: HostRuntime) -> Result<(), Fail> {
     let alloc = rt.alloc();
-    for function in Function::ALL.iter() {
-        assert!(rt; matches_option(function.pattern().as_bytes(), function.pattern().as_bytes()));
-    }
-    for listing in Listing::ALL.iter() {
-        let word = format!(in alloc; "{listing:?}")?;
-        assert!(rt; matches_option(listing.pattern().as_bytes(), word.as_bytes()), "{word}");
-        assert_eq!(rt; listing.is_of_change(), word.starts_with("Change"), "{word}");
-    }
-    for option in Setting::ALL.iter() {
-        let word = format!(in alloc; "{option:?}")?;
-        assert!(rt; matches_option(option.pattern().as_bytes(), word.as_bytes()), "{word}");
-    }
-    one_meaning();
+    let mut numbers = NumberList::new(alloc);
+    numbers.push(7)?;
+    numbers.push(40)?;
+    assert_eq!(rt; numbers.len(), 2);
+    let mut more = NumberList::of(numbers.into_vec());
+    more.push(20)?;
+    assert_eq!(rt; more.as_slice(), [7, 40, 20].as_slice());
     Ok(())
 }
