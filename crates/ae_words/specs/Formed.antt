@@ -1,6 +1,7 @@
 -- What holds of each command that is read.
 use Rattle.std.specs.Prelude.{ℕ, ◌≡◌, ◌≤◌, List, [], ◌∷◌, Bool, true, false, ◌&&◌, not, if◌then◌else◌, Option, Some, None, length, nat_eq, nat_le, codes, is_some}
 use Rattle.std.specs.List.{list_all}
+use Rattle.std.specs.Option.{is_none}
 use Rattle.std.specs.Cmp.Lexicographic.{pointwise}
 use Rattle.ae_base.specs.Names.{is_user, is_project_name, is_path}
 use Rattle.ae_words.specs.Table.{row, allows}
@@ -25,16 +26,6 @@ has c setting.Regression = c.regression
 -- the options are allowed, and not both flags of Test are there
 abbrev pub AreOptions : Option Listing → Command → Type 0
 AreOptions l c = ((o : Setting) → has c o ≡ true → allows c.function l o ≡ true) × ((c.baseline && c.regression) ≡ false)
-
--- no name is there
-abbrev pub no_name : Option (List ℕ) → Bool
-no_name None = true
-no_name (Some n) = false
-
--- no listing is there
-abbrev pub no_listing : Option Listing → Bool
-no_listing None = true
-no_listing (Some l) = false
 
 -- nothing is there
 abbrev pub are_no : {A : Type 0} → List A → Bool
@@ -67,18 +58,18 @@ are_numbers (s ∷ n ∷ f ∷ x ∷ xs) = false
 
 -- plain words stand where the row has them, and nowhere else
 abbrev pub are_plain : Row → Command → Bool
-are_plain rows.NewProject c = are_no c.users && are_no c.paths && no_listing c.listing && are_no c.numbers
-are_plain rows.Users c = no_name c.name && are_users c.users && are_no c.paths && no_listing c.listing && are_no c.numbers
-are_plain rows.Copy c = no_name c.name && are_no c.users && are_paths c.paths && no_listing c.listing && are_no c.numbers
-are_plain rows.Paths c = no_name c.name && are_no c.users && are_paths c.paths && no_listing c.listing && are_no c.numbers
-are_plain rows.NewTest c = no_name c.name && are_no c.users && are_tests c.paths && no_listing c.listing && are_no c.numbers
-are_plain rows.Listing c = no_name c.name && are_no c.users && are_no c.paths && are_no c.numbers
-are_plain rows.Numbers c = no_name c.name && are_no c.users && are_no c.paths && no_listing c.listing && are_numbers c.numbers
-are_plain rows.Attributes c = no_name c.name && are_no c.users && are_no c.paths && no_listing c.listing && are_no c.numbers
-are_plain rows.ChangeAttributes c = no_name c.name && are_no c.users && are_no c.paths && no_listing c.listing && are_no c.numbers
-are_plain rows.Change c = no_name c.name && are_no c.users && are_no c.paths && no_listing c.listing && are_no c.numbers
-are_plain rows.Test c = no_name c.name && are_no c.users && are_no c.paths && no_listing c.listing && are_no c.numbers
-are_plain rows.Nothing c = no_name c.name && are_no c.users && are_no c.paths && no_listing c.listing && are_no c.numbers
+are_plain rows.NewProject c = are_no c.users && are_no c.paths && is_none c.listing && are_no c.numbers
+are_plain rows.Users c = is_none c.name && are_users c.users && are_no c.paths && is_none c.listing && are_no c.numbers
+are_plain rows.Copy c = is_none c.name && are_no c.users && are_paths c.paths && is_none c.listing && are_no c.numbers
+are_plain rows.Paths c = is_none c.name && are_no c.users && are_paths c.paths && is_none c.listing && are_no c.numbers
+are_plain rows.NewTest c = is_none c.name && are_no c.users && are_tests c.paths && is_none c.listing && are_no c.numbers
+are_plain rows.Listing c = is_none c.name && are_no c.users && are_no c.paths && are_no c.numbers
+are_plain rows.Numbers c = is_none c.name && are_no c.users && are_no c.paths && is_none c.listing && are_numbers c.numbers
+are_plain rows.Attributes c = is_none c.name && are_no c.users && are_no c.paths && is_none c.listing && are_no c.numbers
+are_plain rows.ChangeAttributes c = is_none c.name && are_no c.users && are_no c.paths && is_none c.listing && are_no c.numbers
+are_plain rows.Change c = is_none c.name && are_no c.users && are_no c.paths && is_none c.listing && are_no c.numbers
+are_plain rows.Test c = is_none c.name && are_no c.users && are_no c.paths && is_none c.listing && are_no c.numbers
+are_plain rows.Nothing c = is_none c.name && are_no c.users && are_no c.paths && is_none c.listing && are_no c.numbers
 
 -- what is there passes the test
 abbrev pub fits : {A : Type 0} → (A → Bool) → Option A → Bool

@@ -1,32 +1,21 @@
 -- How a word spells a pattern. Letters of the word count alike in either case.
+use Rattle.std.specs.Char.{is_ascii_lowercase, to_ascii_lowercase}
 use Rattle.std.specs.Prelude.{◌≡◌, ◌≢◌, ℕ, zero, suc, ◌+◌, List, [], ◌∷◌, Bool, true, false, ◌==◌, ◌&&◌, ◌||◌, if◌then◌else◌, nat_le}
-
--- `a` to `z`
-abbrev pub is_small : ℕ → Bool
-is_small c = nat_le 97 c && nat_le c 122
-
--- `A` to `Z`
-abbrev pub is_capital : ℕ → Bool
-is_capital c = nat_le 65 c && nat_le c 90
-
--- the letter in small
-abbrev pub small : ℕ → ℕ
-small c = if is_capital c then c + 32 else c
 
 -- the pattern behind the run of small letters at its front
 abbrev pub behind_run : List ℕ → List ℕ
 behind_run [] = []
-behind_run (c ∷ cs) = if is_small c then behind_run cs else c ∷ cs
+behind_run (c ∷ cs) = if is_ascii_lowercase c then behind_run cs else c ∷ cs
 
 -- the word spells the pattern
 pub data Matches : List ℕ → List ℕ → Type 0 where
   nothing : Matches [] []
   -- a capital letter, or any other sign, is there
-  there : {c b : ℕ} {pattern word : List ℕ} → is_small c ≡ false → c ≢ 95 → small b ≡ small c → Matches pattern word → Matches (c ∷ pattern) (b ∷ word)
+  there : {c b : ℕ} {pattern word : List ℕ} → is_ascii_lowercase c ≡ false → c ≢ 95 → to_ascii_lowercase b ≡ to_ascii_lowercase c → Matches pattern word → Matches (c ∷ pattern) (b ∷ word)
   -- a small letter is there
-  letter : {c b : ℕ} {pattern word : List ℕ} → is_small c ≡ true → small b ≡ c → Matches pattern word → Matches (c ∷ pattern) (b ∷ word)
+  letter : {c b : ℕ} {pattern word : List ℕ} → is_ascii_lowercase c ≡ true → to_ascii_lowercase b ≡ c → Matches pattern word → Matches (c ∷ pattern) (b ∷ word)
   -- it and the rest of its run are not
-  cut : {c : ℕ} {pattern word : List ℕ} → is_small c ≡ true → Matches (behind_run pattern) word → Matches (c ∷ pattern) word
+  cut : {c : ℕ} {pattern word : List ℕ} → is_ascii_lowercase c ≡ true → Matches (behind_run pattern) word → Matches (c ∷ pattern) word
   -- an underscore is there as `_` or `-`
   mark : {b : ℕ} {pattern word : List ℕ} → ((b == 95) || (b == 45)) ≡ true → Matches pattern word → Matches (95 ∷ pattern) (b ∷ word)
   -- or not at all
@@ -46,6 +35,6 @@ is_nothing (b ∷ bs) = false
 unfoldable pub spells : Bool → List ℕ → List ℕ → Bool
 spells is_cut [] word = is_nothing word
 spells is_cut (c ∷ cs) word =
-    if is_small c then (if is_cut then spells true cs word else (taken (λ b. small b == c) (spells false cs) word || spells true cs word))
+    if is_ascii_lowercase c then (if is_cut then spells true cs word else (taken (λ b. to_ascii_lowercase b == c) (spells false cs) word || spells true cs word))
     else if c == 95 then (taken (λ b. (b == 95) || (b == 45)) (spells false cs) word || spells false cs word)
-    else taken (λ b. small b == small c) (spells false cs) word
+    else taken (λ b. to_ascii_lowercase b == to_ascii_lowercase c) (spells false cs) word

@@ -1,18 +1,6 @@
 // How a word spells a pattern.
 ghost use Rattle.std.specs.Prelude.{◌≡◌, ◌↔◌, IsTrue};
-ghost use Rattle.ae_words.specs.Spelling.{small, is_small, spells, Matches};
-
-fn small_of(b: u8) -> u8
-    ensures { result ≡ small b }
-{
-    if b'A' <= b && b <= b'Z' { b + 32 } else { b }
-}
-
-fn is_small_letter(b: u8) -> bool
-    ensures { result ≡ is_small b }
-{
-    b'a' <= b && b <= b'z'
-}
+ghost use Rattle.ae_words.specs.Spelling.{spells, Matches};
 
 /// Whether the word spells the pattern; after a cut, with the small letters at the pattern's front passed over.
 #[tactic(auto, unfolding(crate::specs::Spelling::spells))]
@@ -22,12 +10,12 @@ pub(crate) fn spells_from(is_cut: bool, pattern: &[u8], word: &[u8]) -> bool
     match pattern {
         [] => word.is_empty(),
         [c, pattern @ ..] => {
-            if is_small_letter(*c) {
+            if c.is_ascii_lowercase() {
                 if is_cut {
                     return spells_from(true, pattern, word);
                 }
                 if let [b, word @ ..] = word {
-                    if small_of(*b) == *c && spells_from(false, pattern, word) {
+                    if b.to_ascii_lowercase() == *c && spells_from(false, pattern, word) {
                         return true;
                     }
                 }
@@ -43,7 +31,7 @@ pub(crate) fn spells_from(is_cut: bool, pattern: &[u8], word: &[u8]) -> bool
                 match word {
                     [] => false,
                     [b, word @ ..] => {
-                        small_of(*b) == small_of(*c) && spells_from(false, pattern, word)
+                        b.eq_ignore_ascii_case(c) && spells_from(false, pattern, word)
                     }
                 }
             }
