@@ -7,7 +7,8 @@ use Rattle.std.specs.Option.{is_none}
 use Rattle.ae_words.specs.Items.{Item, a_plain, a_flag, an_option, a_wrong, listing_named, listing}
 use Rattle.ae_words.specs.Meaning.{step, or_bad, may_come, with_plain, with_name, with_user, with_path, with_test, with_listing, listed, with_number, numbered, next_number, with_flag, with_value, with_change, with_delta, is_free, blank, is_whole, has_plain}
 use Rattle.ae_words.specs.Table.{row, allows, allows_change, may_take_change, needs_change, needs_attributes}
-use Rattle.ae_words.specs.Formed.{has, AreKinds, AreOptions, are_plain, IsFormed, are_users, are_paths, are_tests, is_no_config, are_no, are_numbers}
+use Rattle.ae_words.specs.Formed.{has, AreKinds, AreOptions, are_plain, IsFormed, are_users, are_paths, are_tests, is_no_config, are_numbers}
+use Rattle.ae_words.specs.Spelling.{is_empty}
 use Rattle.ae_words.specs.Grammar.{reads, then_read}
 use Rattle.ae_base.specs.Names.{is_user, is_path}
 use Rattle.ae_base.specs.Numbers.{change_number, delta_number, number_within, number_from, in_range}
@@ -481,24 +482,24 @@ named_plain c d w e h = subst (λ (x : Command). are_plain rows.NewProject x ≡
 users_plain : (c d : Command) (w : List ℕ) → with_user c w ≡ Some d → are_plain rows.Users c ≡ true → are_plain rows.Users d ≡ true
 users_plain c d w e h =
     let made = some_if _ (record c { users = c.users ++ w ∷ [] }) d e in
-    let good = users_more c.users w (second (is_none c.name) (are_users c.users) (are_no c.paths) (is_none c.listing) (are_no c.numbers) h) made.0 in
+    let good = users_more c.users w (second (is_none c.name) (are_users c.users) (is_empty c.paths) (is_none c.listing) (is_empty c.numbers) h) made.0 in
     subst (λ (x : Command). are_plain rows.Users x ≡ true) made.1
-      (swap_second (is_none c.name) (are_users c.users) (are_users (c.users ++ w ∷ [])) (are_no c.paths) (is_none c.listing) (are_no c.numbers) h good)
+      (swap_second (is_none c.name) (are_users c.users) (are_users (c.users ++ w ∷ [])) (is_empty c.paths) (is_none c.listing) (is_empty c.numbers) h good)
 
 paths_plain : (c d : Command) (w : List ℕ) → with_path c w ≡ Some d → are_plain rows.Paths c ≡ true → are_plain rows.Paths d ≡ true
 paths_plain c d w e h =
     let made = some_if _ (record c { paths = c.paths ++ w ∷ [] }) d e in
-    let good = paths_more c.paths w (third (is_none c.name) (are_no c.users) (are_paths c.paths) (is_none c.listing) (are_no c.numbers) h) made.0 in
+    let good = paths_more c.paths w (third (is_none c.name) (is_empty c.users) (are_paths c.paths) (is_none c.listing) (is_empty c.numbers) h) made.0 in
     subst (λ (x : Command). are_plain rows.Paths x ≡ true) made.1
-      (swap_third (is_none c.name) (are_no c.users) (are_paths c.paths) (are_paths (c.paths ++ w ∷ [])) (is_none c.listing) (are_no c.numbers) h good)
+      (swap_third (is_none c.name) (is_empty c.users) (are_paths c.paths) (are_paths (c.paths ++ w ∷ [])) (is_none c.listing) (is_empty c.numbers) h good)
 
 tests_plain : (c d : Command) (w : List ℕ) → with_test c w ≡ Some d → are_plain rows.NewTest c ≡ true → are_plain rows.NewTest d ≡ true
 tests_plain c d w e h =
     let t = none_if _ (with_path c w) d e in
     let made = some_if _ (record c { paths = c.paths ++ w ∷ [] }) d t.1 in
-    let good = tests_more c.paths w (third (is_none c.name) (are_no c.users) (are_tests c.paths) (is_none c.listing) (are_no c.numbers) h) (ap not t.0) made.0 in
+    let good = tests_more c.paths w (third (is_none c.name) (is_empty c.users) (are_tests c.paths) (is_none c.listing) (is_empty c.numbers) h) (ap not t.0) made.0 in
     subst (λ (x : Command). are_plain rows.NewTest x ≡ true) made.1
-      (swap_third (is_none c.name) (are_no c.users) (are_tests c.paths) (are_tests (c.paths ++ w ∷ [])) (is_none c.listing) (are_no c.numbers) h good)
+      (swap_third (is_none c.name) (is_empty c.users) (are_tests c.paths) (are_tests (c.paths ++ w ∷ [])) (is_none c.listing) (is_empty c.numbers) h good)
 
 listed_plain : (c d : Command) (o : Option Listing) → listed c o ≡ Some d → are_plain rows.Listing c ≡ true → are_plain rows.Listing d ≡ true
 listed_plain c d None e h = absurd cc
@@ -508,7 +509,7 @@ numbered_plain : (c d : Command) (w : List ℕ) (o : Option ℕ) → next_number
 numbered_plain c d w None f e h = absurd cc
 numbered_plain c d w (Some n) f e h =
     let made : record c { numbers = c.numbers ++ n ∷ [] } ≡ d = cc in
-    let others = is_none c.name && are_no c.users && are_no c.paths && is_none c.listing in
+    let others = is_none c.name && is_empty c.users && is_empty c.paths && is_none c.listing in
     subst (λ (x : Command). are_plain rows.Numbers x ≡ true) made
       (joined others (are_numbers (c.numbers ++ n ∷ [])) (front others (are_numbers c.numbers) h) (numbers_more c.numbers w n (last others (are_numbers c.numbers) h) f))
 

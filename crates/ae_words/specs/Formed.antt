@@ -2,10 +2,10 @@
 use Rattle.std.specs.Prelude.{ℕ, ◌≡◌, ◌≤◌, List, [], ◌∷◌, Bool, true, false, ◌&&◌, not, if◌then◌else◌, Option, Some, None, length, nat_eq, nat_le, codes, is_some}
 use Rattle.std.specs.List.{list_all}
 use Rattle.std.specs.Option.{is_none}
-use Rattle.std.specs.Cmp.Lexicographic.{pointwise}
+use Rattle.ae_words.specs.Spelling.{is_empty}
 use Rattle.ae_base.specs.Names.{is_user, is_project_name, is_path}
 use Rattle.ae_words.specs.Table.{row, allows}
-use Rattle.ae_words.specs.Meaning.{is_whole}
+use Rattle.ae_words.specs.Meaning.{is_config, is_whole}
 use Rattle.ae_words.specs.declared.command.Command.{Command}
 use Rattle.ae_words.specs.declared.table.Listing.{Listing}
 use Rattle.ae_words.specs.declared.table.Setting.{Setting}
@@ -13,7 +13,7 @@ use Rattle.ae_words.specs.declared.table.Setting.TheVariants as setting
 use Rattle.ae_words.specs.declared.table.Row.{Row}
 use Rattle.ae_words.specs.declared.table.Row.TheVariants as rows
 
--- whether the command has the option
+-- whether the option is there
 abbrev pub has : Command → Setting → Bool
 has c setting.Project = is_some c.project
 has c setting.File = is_some c.attributes
@@ -27,14 +27,9 @@ has c setting.Regression = c.regression
 abbrev pub AreOptions : Option Listing → Command → Type 0
 AreOptions l c = ((o : Setting) → has c o ≡ true → allows c.function l o ≡ true) × ((c.baseline && c.regression) ≡ false)
 
--- nothing is there
-abbrev pub are_no : {A : Type 0} → List A → Bool
-are_no [] = true
-are_no (x ∷ xs) = false
-
--- the path is not `aegis.conf`
+-- the path may be a test's
 abbrev pub is_no_config : List ℕ → Bool
-is_no_config p = not (pointwise nat_eq p (codes "aegis.conf"))
+is_no_config p = not (is_config p)
 
 -- at most 1,000 users
 abbrev pub are_users : List (List ℕ) → Bool
@@ -58,18 +53,18 @@ are_numbers (s ∷ n ∷ f ∷ x ∷ xs) = false
 
 -- plain words stand where the row has them, and nowhere else
 abbrev pub are_plain : Row → Command → Bool
-are_plain rows.NewProject c = are_no c.users && are_no c.paths && is_none c.listing && are_no c.numbers
-are_plain rows.Users c = is_none c.name && are_users c.users && are_no c.paths && is_none c.listing && are_no c.numbers
-are_plain rows.Copy c = is_none c.name && are_no c.users && are_paths c.paths && is_none c.listing && are_no c.numbers
-are_plain rows.Paths c = is_none c.name && are_no c.users && are_paths c.paths && is_none c.listing && are_no c.numbers
-are_plain rows.NewTest c = is_none c.name && are_no c.users && are_tests c.paths && is_none c.listing && are_no c.numbers
-are_plain rows.Listing c = is_none c.name && are_no c.users && are_no c.paths && are_no c.numbers
-are_plain rows.Numbers c = is_none c.name && are_no c.users && are_no c.paths && is_none c.listing && are_numbers c.numbers
-are_plain rows.Attributes c = is_none c.name && are_no c.users && are_no c.paths && is_none c.listing && are_no c.numbers
-are_plain rows.ChangeAttributes c = is_none c.name && are_no c.users && are_no c.paths && is_none c.listing && are_no c.numbers
-are_plain rows.Change c = is_none c.name && are_no c.users && are_no c.paths && is_none c.listing && are_no c.numbers
-are_plain rows.Test c = is_none c.name && are_no c.users && are_no c.paths && is_none c.listing && are_no c.numbers
-are_plain rows.Nothing c = is_none c.name && are_no c.users && are_no c.paths && is_none c.listing && are_no c.numbers
+are_plain rows.NewProject c = is_empty c.users && is_empty c.paths && is_none c.listing && is_empty c.numbers
+are_plain rows.Users c = is_none c.name && are_users c.users && is_empty c.paths && is_none c.listing && is_empty c.numbers
+are_plain rows.Copy c = is_none c.name && is_empty c.users && are_paths c.paths && is_none c.listing && is_empty c.numbers
+are_plain rows.Paths c = is_none c.name && is_empty c.users && are_paths c.paths && is_none c.listing && is_empty c.numbers
+are_plain rows.NewTest c = is_none c.name && is_empty c.users && are_tests c.paths && is_none c.listing && is_empty c.numbers
+are_plain rows.Listing c = is_none c.name && is_empty c.users && is_empty c.paths && is_empty c.numbers
+are_plain rows.Numbers c = is_none c.name && is_empty c.users && is_empty c.paths && is_none c.listing && are_numbers c.numbers
+are_plain rows.Attributes c = is_none c.name && is_empty c.users && is_empty c.paths && is_none c.listing && is_empty c.numbers
+are_plain rows.ChangeAttributes c = is_none c.name && is_empty c.users && is_empty c.paths && is_none c.listing && is_empty c.numbers
+are_plain rows.Change c = is_none c.name && is_empty c.users && is_empty c.paths && is_none c.listing && is_empty c.numbers
+are_plain rows.Test c = is_none c.name && is_empty c.users && is_empty c.paths && is_none c.listing && is_empty c.numbers
+are_plain rows.Nothing c = is_none c.name && is_empty c.users && is_empty c.paths && is_none c.listing && is_empty c.numbers
 
 -- what is there passes the test
 abbrev pub fits : {A : Type 0} → (A → Bool) → Option A → Bool

@@ -1,6 +1,6 @@
 -- What an item says, and when it is bad.
 use Rattle.std.specs.Prelude.{ℕ, zero, suc, ◌+◌, ◌-◌, List, [], ◌∷◌, ◌++◌, Bool, true, false, ◌==◌, ◌&&◌, ◌||◌, not, if◌then◌else◌, Option, Some, None, Result, Ok, Err, length, nat_le, nat_eq, codes, is_some, option_map}
-use Rattle.std.specs.Cmp.Lexicographic.{pointwise}
+use Rattle.std.specs.Str.{bytes_eq}
 use Rattle.ae_base.specs.Names.{is_user, is_project_name, is_path}
 use Rattle.ae_base.specs.Numbers.{change_number, delta_number, number_within}
 use Rattle.ae_words.specs.Items.{Item, a_plain, a_flag, an_option, a_wrong, listing_named}
@@ -35,9 +35,13 @@ with_user c w = if not (nat_le most (length c.users)) && is_user w then Some (re
 abbrev pub with_path : Command → List ℕ → Option Command
 with_path c w = if not (nat_le most (length c.paths)) && is_path w then Some (record c { paths = c.paths ++ w ∷ [] }) else None
 
+-- the path of the project's settings, which is no test
+abbrev pub is_config : List ℕ → Bool
+is_config p = bytes_eq p (codes "aegis.conf")
+
 -- one path more that may be a test's
 abbrev pub with_test : Command → List ℕ → Option Command
-with_test c w = if pointwise nat_eq w (codes "aegis.conf") then None else with_path c w
+with_test c w = if is_config w then None else with_path c w
 
 -- the command with the listing, if there is one
 abbrev pub listed : Command → Option Listing → Option Command

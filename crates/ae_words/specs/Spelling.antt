@@ -27,13 +27,13 @@ taken fits next [] = false
 taken fits next (b ∷ bs) = fits b && next bs
 
 -- nothing is left
-abbrev pub is_nothing : List ℕ → Bool
-is_nothing [] = true
-is_nothing (b ∷ bs) = false
+abbrev pub is_empty : {A : Type 0} → List A → Bool
+is_empty [] = true
+is_empty (x ∷ xs) = false
 
 -- the same as a test; after a cut the small letters of the run are passed over
 unfoldable pub spells : Bool → List ℕ → List ℕ → Bool
-spells is_cut [] word = is_nothing word
+spells is_cut [] word = is_empty word
 spells is_cut (c ∷ cs) word =
     if is_ascii_lowercase c then (if is_cut then spells true cs word else (taken (λ b. to_ascii_lowercase b == c) (spells false cs) word || spells true cs word))
     else if c == 95 then (taken (λ b. (b == 95) || (b == 45)) (spells false cs) word || spells false cs word)
