@@ -1,7 +1,7 @@
 -- What is read once through is the command that the words say, or the first bad place.
 use Rattle.std.proofs.Common.{◌≡◌, ◌≤◌, ◌+◌, ◌⊎◌, inl, inr, ℕ, Bool, true, false, cond, List, [], ◌∷◌, ◌++◌, Option, Some, None, Result, Ok, Err, refl, sym, ap, subst, ◌∙◌, arith, length, map, string_bytes, String, Global}
-use Rattle.ae_words.specs.Items.{Item, a_plain, a_flag, an_option, a_wrong, Word, plain, flag, written, asks, wrong, word, item, items_from, items, takes_next, valued_item, function, listing}
-use Rattle.ae_words.specs.Meaning.{step, or_bad, may_come, with_plain, with_flag, with_value, blank, is_whole}
+use Rattle.ae_words.specs.Items.{Item, a_plain, a_flag, an_option, a_wrong, Word, plain, flag, written, asks, wrong, word, item, items_from, takes_next, function, listing}
+use Rattle.ae_words.specs.Meaning.{step, or_bad, may_come, with_flag, with_value, blank, is_whole}
 use Rattle.ae_words.specs.Grammar.{IsBadItem, IsBad, IsCommand, IsFirstBad, IsFirstOf, IsFirstIn, or_as_before, said, command, reads, then_read}
 use Rattle.ae_words.specs.Seen.{Gives}
 use Rattle.ae_words.proofs.Formed.{function_read}
@@ -105,11 +105,13 @@ ok_step : (l : Option Listing) (c : Command) (i : Item) (is : List Item) (d : Co
     → (d ≡ said l (or_as_before c r) is) × ((p : ℕ) → IsBadItem l c (i ∷ is) p → ⊥)
 ok_step l c i is d (Err p) s h again = absurd cc
 ok_step l c i is d (Ok x) s h again =
-    let a = again x h in
-    (a.0, λ p bad. elim (bad_cases l c i is p bad) [
-          | inl e ↦ absurd cc
-          | inr later ↦ a.1 p (subst (λ (y : Result Command ℕ). IsBadItem l (or_as_before c y) is p) s later)
-        ])
+    let a = again x h in (
+      a.0,
+      λ p bad. elim (bad_cases l c i is p bad) [
+        | inl e ↦ absurd cc
+        | inr later ↦ a.1 p (subst (λ (y : Result Command ℕ). IsBadItem l (or_as_before c y) is p) s later)
+      ],
+    )
 
 pub reads_ok : (l : Option Listing) (c : Command) (is : List Item) (d : Command) → reads l c is ≡ Ok d → (d ≡ said l c is) × ((p : ℕ) → IsBadItem l c is p → ⊥)
 unfolding reads
@@ -121,24 +123,26 @@ reads_ok l c (i ∷ is) d e = ok_step l c i is d (step l c i) refl e (λ x h. re
 err_step : (l : Option Listing) (c : Command) (at : ℕ) (w : List ℕ) (k : Word) (ws : List (List ℕ)) (p : ℕ) (r : Result Command ℕ)
     → step l c (item at w k ws) ≡ r → then_read (λ x. reads l x (items_from (at + 1) (takes_next k) ws)) r ≡ Err p
     → ((x : Command) → reads l x (items_from (at + 1) (takes_next k) ws) ≡ Err p
-        → IsBadItem l x (items_from (at + 1) (takes_next k) ws) p × ((q : ℕ) → IsBadItem l x (items_from (at + 1) (takes_next k) ws) q → p ≤ q))
+    → IsBadItem l x (items_from (at + 1) (takes_next k) ws) p × ((q : ℕ) → IsBadItem l x (items_from (at + 1) (takes_next k) ws) q → p ≤ q))
     → IsBadItem l c (item at w k ws ∷ items_from (at + 1) (takes_next k) ws) p × ((q : ℕ) → IsBadItem l c (item at w k ws ∷ items_from (at + 1) (takes_next k) ws) q → p ≤ q)
 err_step l c at w k ws p (Ok x) s h again =
     let a = again x h in
-    let rest = items_from (at + 1) (takes_next k) ws in
-    (bad_later l c (item at w k ws) rest p (subst (λ (y : Result Command ℕ). IsBadItem l (or_as_before c y) rest p) (sym s) a.0),
+    let rest = items_from (at + 1) (takes_next k) ws in (
+      bad_later l c (item at w k ws) rest p (subst (λ (y : Result Command ℕ). IsBadItem l (or_as_before c y) rest p) (sym s) a.0),
       λ q bad. elim (bad_cases l c (item at w k ws) rest q bad) [
         | inl e ↦ absurd cc
         | inr later ↦ a.1 q (subst (λ (y : Result Command ℕ). IsBadItem l (or_as_before c y) rest q) s later)
-      ])
+      ],
+    )
 err_step l c at w k ws p (Err o) s h again =
     let stops : step l c (item at w k ws) ≡ Err p = s ∙ h in
-    let rest = items_from (at + 1) (takes_next k) ws in
-    (bad_here l c (item at w k ws) rest p stops,
+    let rest = items_from (at + 1) (takes_next k) ws in (
+      bad_here l c (item at w k ws) rest p stops,
       λ q bad. elim (bad_cases l c (item at w k ws) rest q bad) [
         | inl e ↦ let same : p ≡ q = cc in omega arith
         | inr later ↦ first_high l c (or_as_before c (step l c (item at w k ws))) at w k ws p q stops later
-      ])
+      ],
+    )
 
 pub reads_err : (l : Option Listing) (c : Command) (at : ℕ) (is_value : Bool) (ws : List (List ℕ)) (p : ℕ) → reads l c (items_from at is_value ws) ≡ Err p
     → IsBadItem l c (items_from at is_value ws) p × ((q : ℕ) → IsBadItem l c (items_from at is_value ws) q → p ≤ q)

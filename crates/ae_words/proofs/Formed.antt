@@ -1,11 +1,11 @@
 -- Each command that is read is well formed.
-use Rattle.std.proofs.Common.{◌≡◌, ◌≤◌, ◌+◌, ◌⊎◌, inl, inr, ℕ, zero, suc, Bool, true, false, cond, not, ◌&&◌, ◌||◌, nat_le, nat_eq, eqb, List, [], ◌∷◌, ◌++◌, Option, Some, None, Result, Ok, Err, refl, sym, ap, subst, ◌∙◌, arith, length, is_some}
+use Rattle.std.proofs.Common.{◌≡◌, ◌⊎◌, inl, inr, ℕ, Bool, true, false, cond, not, ◌&&◌, ◌||◌, nat_le, List, [], ◌∷◌, ◌++◌, Option, Some, None, Result, Ok, Err, refl, sym, ap, subst, ◌∙◌, arith, length, is_some}
 use Rattle.std.proofs.lemmas.Bool.Decides.{nat_tests}
 use Rattle.std.proofs.lemmas.List.{length-append}
 use Rattle.std.specs.List.{list_all}
 use Rattle.std.specs.Option.{is_none}
 use Rattle.ae_words.specs.Items.{Item, a_plain, a_flag, an_option, a_wrong, listing_named, listing}
-use Rattle.ae_words.specs.Meaning.{step, or_bad, may_come, with_plain, with_name, with_user, with_path, with_test, with_listing, listed, with_number, numbered, next_number, with_flag, with_value, with_change, with_delta, is_free, blank, is_whole, has_plain}
+use Rattle.ae_words.specs.Meaning.{step, or_bad, may_come, with_plain, with_name, with_user, with_path, with_test, with_listing, listed, numbered, next_number, with_flag, with_value, with_change, with_delta, is_free, blank, is_whole, has_plain}
 use Rattle.ae_words.specs.Table.{row, allows, allows_change, may_take_change, needs_change, needs_attributes}
 use Rattle.ae_words.specs.Formed.{has, AreKinds, AreOptions, are_plain, IsFormed, are_users, are_paths, are_tests, is_no_config, are_numbers}
 use Rattle.ae_words.specs.Spelling.{is_empty}
@@ -484,14 +484,14 @@ users_plain c d w e h =
     let made = some_if _ (record c { users = c.users ++ w ∷ [] }) d e in
     let good = users_more c.users w (second (is_none c.name) (are_users c.users) (is_empty c.paths) (is_none c.listing) (is_empty c.numbers) h) made.0 in
     subst (λ (x : Command). are_plain rows.Users x ≡ true) made.1
-      (swap_second (is_none c.name) (are_users c.users) (are_users (c.users ++ w ∷ [])) (is_empty c.paths) (is_none c.listing) (is_empty c.numbers) h good)
+    (swap_second (is_none c.name) (are_users c.users) (are_users (c.users ++ w ∷ [])) (is_empty c.paths) (is_none c.listing) (is_empty c.numbers) h good)
 
 paths_plain : (c d : Command) (w : List ℕ) → with_path c w ≡ Some d → are_plain rows.Paths c ≡ true → are_plain rows.Paths d ≡ true
 paths_plain c d w e h =
     let made = some_if _ (record c { paths = c.paths ++ w ∷ [] }) d e in
     let good = paths_more c.paths w (third (is_none c.name) (is_empty c.users) (are_paths c.paths) (is_none c.listing) (is_empty c.numbers) h) made.0 in
     subst (λ (x : Command). are_plain rows.Paths x ≡ true) made.1
-      (swap_third (is_none c.name) (is_empty c.users) (are_paths c.paths) (are_paths (c.paths ++ w ∷ [])) (is_none c.listing) (is_empty c.numbers) h good)
+    (swap_third (is_none c.name) (is_empty c.users) (are_paths c.paths) (are_paths (c.paths ++ w ∷ [])) (is_none c.listing) (is_empty c.numbers) h good)
 
 tests_plain : (c d : Command) (w : List ℕ) → with_test c w ≡ Some d → are_plain rows.NewTest c ≡ true → are_plain rows.NewTest d ≡ true
 tests_plain c d w e h =
@@ -499,7 +499,7 @@ tests_plain c d w e h =
     let made = some_if _ (record c { paths = c.paths ++ w ∷ [] }) d t.1 in
     let good = tests_more c.paths w (third (is_none c.name) (is_empty c.users) (are_tests c.paths) (is_none c.listing) (is_empty c.numbers) h) (ap not t.0) made.0 in
     subst (λ (x : Command). are_plain rows.NewTest x ≡ true) made.1
-      (swap_third (is_none c.name) (is_empty c.users) (are_tests c.paths) (are_tests (c.paths ++ w ∷ [])) (is_none c.listing) (is_empty c.numbers) h good)
+    (swap_third (is_none c.name) (is_empty c.users) (are_tests c.paths) (are_tests (c.paths ++ w ∷ [])) (is_none c.listing) (is_empty c.numbers) h good)
 
 listed_plain : (c d : Command) (o : Option Listing) → listed c o ≡ Some d → are_plain rows.Listing c ≡ true → are_plain rows.Listing d ≡ true
 listed_plain c d None e h = absurd cc
@@ -511,7 +511,7 @@ numbered_plain c d w (Some n) f e h =
     let made : record c { numbers = c.numbers ++ n ∷ [] } ≡ d = cc in
     let others = is_none c.name && is_empty c.users && is_empty c.paths && is_none c.listing in
     subst (λ (x : Command). are_plain rows.Numbers x ≡ true) made
-      (joined others (are_numbers (c.numbers ++ n ∷ [])) (front others (are_numbers c.numbers) h) (numbers_more c.numbers w n (last others (are_numbers c.numbers) h) f))
+    (joined others (are_numbers (c.numbers ++ n ∷ [])) (front others (are_numbers c.numbers) h) (numbers_more c.numbers w n (last others (are_numbers c.numbers) h) f))
 
 plain_plain : (r : Row) (c d : Command) (w : List ℕ) → with_plain r c w ≡ Some d → are_plain r c ≡ true → are_plain r d ≡ true
 plain_plain rows.NewProject c d w e h = named_plain c d w e h
@@ -719,13 +719,14 @@ whole_plain : (c : Command) → is_whole c ≡ true → has_plain (row c.functio
 unfolding is_whole
 whole_plain c h =
     front (has_plain (row c.function) c) (not (needs_attributes (row c.function)) || is_some c.attributes)
-      (front (has_plain (row c.function) c && (not (needs_attributes (row c.function)) || is_some c.attributes)) (not (needs_change (row c.function) c.listing) || is_some c.change) h)
+    (front (has_plain (row c.function) c && (not (needs_attributes (row c.function)) || is_some c.attributes)) (not (needs_change (row c.function) c.listing) || is_some c.change) h)
 
 same_listing : (l : Option Listing) (c : Command) → IsListing l c [] → is_whole c ≡ true → row c.function ≡ rows.Listing → l ≡ c.listing
 same_listing l c h whole r = one (h r)
   where
     there : is_some c.listing ≡ true
     there = subst (λ (x : Row). has_plain x c ≡ true) r (whole_plain c whole)
+
     one : ((c.listing ≡ None) × (None ≡ l)) ⊎ ((x : Listing) × (c.listing ≡ Some x) × (l ≡ Some x)) → l ≡ c.listing
     one (inl k) = let no : is_some c.listing ≡ false = rw k.0 refl in absurd (cc (there, no))
     one (inr k) = k.2 ∙ sym k.1

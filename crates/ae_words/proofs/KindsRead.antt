@@ -1,11 +1,11 @@
 -- What options and the name give in a command that is read is of its kind.
-use Rattle.std.proofs.Common.{◌≡◌, ℕ, Bool, true, false, cond, not, ◌&&◌, nat_le, List, [], ◌∷◌, ◌++◌, Option, Some, None, Result, Ok, Err, refl, subst, length, is_some}
-use Rattle.ae_base.specs.Names.{is_project_name, is_path}
+use Rattle.std.proofs.Common.{◌≡◌, ℕ, true, not, nat_le, List, [], ◌∷◌, ◌++◌, Option, Some, None, Result, Ok, Err, refl, subst, length, is_some}
+use Rattle.ae_base.specs.Names.{is_project_name}
 use Rattle.ae_base.specs.Numbers.{change_number, delta_number}
 use Rattle.ae_words.specs.Items.{Item, a_plain, a_flag, an_option, a_wrong, listing_named}
-use Rattle.ae_words.specs.Meaning.{step, or_bad, may_come, with_plain, with_path, with_test, listed, numbered, next_number, with_flag, with_value, with_change, with_delta, blank}
+use Rattle.ae_words.specs.Meaning.{step, or_bad, may_come, with_plain, with_path, listed, numbered, next_number, with_flag, with_value, with_change, with_delta, blank}
 use Rattle.ae_words.specs.Table.{row}
-use Rattle.ae_words.specs.Formed.{AreKinds, is_change_number, is_delta_number}
+use Rattle.ae_words.specs.Formed.{AreKinds}
 use Rattle.ae_words.specs.Grammar.{reads, then_read}
 use Rattle.ae_words.specs.declared.command.Command.{Command}
 use Rattle.ae_words.specs.declared.table.Function.{Function}

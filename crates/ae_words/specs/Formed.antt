@@ -1,5 +1,5 @@
 -- What holds of each command that is read.
-use Rattle.std.specs.Prelude.{ℕ, ◌≡◌, ◌≤◌, List, [], ◌∷◌, Bool, true, false, ◌&&◌, not, if◌then◌else◌, Option, Some, None, length, nat_eq, nat_le, codes, is_some}
+use Rattle.std.specs.Prelude.{ℕ, ◌≡◌, List, [], ◌∷◌, Bool, true, false, ◌&&◌, not, Option, Some, None, length, nat_le, is_some}
 use Rattle.std.specs.List.{list_all}
 use Rattle.std.specs.Option.{is_none}
 use Rattle.ae_words.specs.Spelling.{is_empty}

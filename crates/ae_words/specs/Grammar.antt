@@ -1,5 +1,5 @@
 -- Which words are a command, and which word is the first bad one.
-use Rattle.std.specs.Prelude.{ℕ, ◌+◌, ◌≡◌, ◌≤◌, ◌⊎◌, List, [], ◌∷◌, ◌++◌, Bool, true, false, Option, Some, None, Result, Ok, Err, length, if◌then◌else◌}
+use Rattle.std.specs.Prelude.{ℕ, ◌+◌, ◌≡◌, ◌≤◌, ◌⊎◌, List, [], ◌∷◌, ◌++◌, true, false, Option, Some, None, Result, Ok, Err, length}
 use Rattle.ae_words.specs.Items.{Item, items, function, listing}
 use Rattle.ae_words.specs.Meaning.{blank, step, is_whole}
 use Rattle.ae_words.specs.declared.command.Command.{Command}

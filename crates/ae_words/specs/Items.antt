@@ -1,5 +1,5 @@
 -- Options with their values, and plain words.
-use Rattle.std.specs.Prelude.{ℕ, ◌+◌, List, [], ◌∷◌, Bool, true, false, ◌==◌, ◌&&◌, ◌||◌, not, if◌then◌else◌, Option, Some, None, position, take, drop, find}
+use Rattle.std.specs.Prelude.{ℕ, ◌+◌, List, [], ◌∷◌, Bool, true, false, ◌==◌, if◌then◌else◌, Option, Some, None, position, take, drop, find}
 use Rattle.ae_words.specs.Spelling.{spells}
 use Rattle.ae_words.specs.Table.{function_pattern, all_functions, listing_pattern, all_listings, setting_pattern, all_settings}
 use Rattle.ae_words.specs.declared.table.Function.{Function}

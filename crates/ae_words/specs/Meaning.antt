@@ -1,5 +1,5 @@
 -- What an item says, and when it is bad.
-use Rattle.std.specs.Prelude.{ℕ, zero, suc, ◌+◌, ◌-◌, List, [], ◌∷◌, ◌++◌, Bool, true, false, ◌==◌, ◌&&◌, ◌||◌, not, if◌then◌else◌, Option, Some, None, Result, Ok, Err, length, nat_le, nat_eq, codes, is_some, option_map}
+use Rattle.std.specs.Prelude.{ℕ, List, [], ◌∷◌, ◌++◌, Bool, true, false, ◌==◌, ◌&&◌, ◌||◌, not, if◌then◌else◌, Option, Some, None, Result, Ok, Err, length, nat_le, codes, is_some}
 use Rattle.std.specs.Str.{bytes_eq}
 use Rattle.ae_base.specs.Names.{is_user, is_project_name, is_path}
 use Rattle.ae_base.specs.Numbers.{change_number, delta_number, number_within}

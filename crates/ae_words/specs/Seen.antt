@@ -1,7 +1,6 @@
 -- What contracts see of the reader's own types.
-use Rattle.std.specs.Prelude.{ℕ, ◌+◌, ◌≡◌, List, [], ◌∷◌, Bool, true, false, Option, Some, None, Result, Ok, Err, map, string_bytes, if◌then◌else◌, nat_le}
+use Rattle.std.specs.Prelude.{ℕ, ◌≡◌, Result, Ok, Err}
 use Rattle.ae_words.specs.Items as spec
-use Rattle.ae_words.specs.Grammar.{IsCommand, IsFirstBad}
 use Rattle.ae_words.specs.declared.items.Word.{Word}
 use Rattle.ae_words.specs.declared.items.Word.TheVariants as word
 use Rattle.ae_words.specs.declared.items.Item.{Item}

@@ -1,6 +1,6 @@
 -- How a word spells a pattern. Letters of the word count alike in either case.
 use Rattle.std.specs.Char.{is_ascii_lowercase, to_ascii_lowercase}
-use Rattle.std.specs.Prelude.{◌≡◌, ◌≢◌, ℕ, zero, suc, ◌+◌, List, [], ◌∷◌, Bool, true, false, ◌==◌, ◌&&◌, ◌||◌, if◌then◌else◌, nat_le}
+use Rattle.std.specs.Prelude.{◌≡◌, ◌≢◌, ℕ, List, [], ◌∷◌, Bool, true, false, ◌==◌, ◌&&◌, ◌||◌, if◌then◌else◌}
 
 -- the pattern behind the run of small letters at its front
 abbrev pub behind_run : List ℕ → List ℕ

@@ -295,7 +295,8 @@ impl Command {
             Row::Copy | Row::Paths | Row::NewTest => 0 < self.paths.len(),
             Row::Listing => self.listing.is_some(),
             Row::Numbers => 3 <= self.numbers.len(),
-            Row::Attributes | Row::ChangeAttributes | Row::Change | Row::Test | Row::Nothing => true,
+            Row::Attributes | Row::ChangeAttributes | Row::Change | Row::Test | Row::Nothing =>
+                true,
         }
     }
 
@@ -332,11 +333,7 @@ fn next_number(before: usize, word: &[u8]) -> Option<u64>
 }
 
 /// The command that is read so far, whose words go on with these from the second on.
-pub(crate) fn said(
-    alloc: Global,
-    function: Function,
-    words: &[String],
-) -> Result<Command, Stop>
+pub(crate) fn said(alloc: Global, function: Function, words: &[String]) -> Result<Command, Stop>
     requires { length words.now < 4611686018427387904 }
     ensures { let is = items_from 2 false (map string_bytes words.now) in Gives result (reads (listing is) (blank function) is) }
 {

@@ -131,7 +131,11 @@ pub(crate) fn next_item(at: usize, words: &[String]) -> Option<(Item<'_>, usize,
             return match behind {
                 [] => Some((Item::Wrong, at + 1, behind)),
                 [value, behind @ ..] => {
-                    Some((Item::Valued(option, at + 1, value.as_bytes()), at + 2, behind))
+                    Some((
+                        Item::Valued(option, at + 1, value.as_bytes()),
+                        at + 2,
+                        behind,
+                    ))
                 }
             };
         }

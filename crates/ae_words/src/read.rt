@@ -19,7 +19,11 @@ pub enum WordsError {
 fn told(place: usize) -> u32
     ensures { result ≡ told place }
 {
-    if place <= 4_294_967_295 { place as u32 } else { 4_294_967_295 }
+    if place <= 4_294_967_295 {
+        place as u32
+    } else {
+        4_294_967_295
+    }
 }
 
 // The command that words are whose first is this one.

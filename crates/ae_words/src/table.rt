@@ -212,10 +212,11 @@ impl Function {
     pub(crate) fn find(name: &[u8]) -> Option<Function>
         ensures { result ≡ function_named name.now }
     {
-        Self::ALL
-            .iter()
-            .copied()
-            .find(|function| spells_from(false, function.pattern().as_bytes(), name))
+        Self::ALL.iter().copied().find(|function| spells_from(
+            false,
+            function.pattern().as_bytes(),
+            name,
+        ))
     }
 }
 
@@ -269,10 +270,11 @@ impl Listing {
     pub(crate) fn find(name: &[u8]) -> Option<Listing>
         ensures { result ≡ listing_named name.now }
     {
-        Self::ALL
-            .iter()
-            .copied()
-            .find(|listing| spells_from(false, listing.pattern().as_bytes(), name))
+        Self::ALL.iter().copied().find(|listing| spells_from(
+            false,
+            listing.pattern().as_bytes(),
+            name,
+        ))
     }
 }
 
@@ -314,10 +316,11 @@ impl Setting {
     pub(crate) fn find(name: &[u8]) -> Option<Setting>
         ensures { result ≡ setting_named name.now }
     {
-        Self::ALL
-            .iter()
-            .copied()
-            .find(|option| spells_from(false, option.pattern().as_bytes(), name))
+        Self::ALL.iter().copied().find(|option| spells_from(
+            false,
+            option.pattern().as_bytes(),
+            name,
+        ))
     }
 }
 
@@ -336,8 +339,7 @@ impl Function {
             | Function::RemoveReviewer
             | Function::NewIntegrator
             | Function::RemoveIntegrator => Row::Users,
-            Function::ProjectAttributes
-            | Function::NewChange => Row::Attributes,
+            Function::ProjectAttributes | Function::NewChange => Row::Attributes,
             Function::ChangeAttributes => Row::ChangeAttributes,
             Function::NewChangeUndo
             | Function::DevelopBegin
@@ -376,7 +378,10 @@ impl Function {
         let row = self.row();
         match option {
             Setting::Project => !matches!(row, Row::NewProject | Row::Nothing | Row::Numbers),
-            Setting::File => matches!(row, Row::NewProject | Row::Attributes | Row::ChangeAttributes),
+            Setting::File => matches!(
+                row,
+                Row::NewProject | Row::Attributes | Row::ChangeAttributes
+            ),
             Setting::Change => row.allows_change(listing),
             Setting::Delta | Setting::Overwriting => matches!(row, Row::Copy),
             Setting::Baseline | Setting::Regression => matches!(row, Row::Test),
@@ -428,7 +433,10 @@ impl Listing {
     {
         matches!(
             self,
-            Listing::ChangeDetails | Listing::ChangeFiles | Listing::ChangeHistory | Listing::ChangeEvidence
+            Listing::ChangeDetails
+                | Listing::ChangeFiles
+                | Listing::ChangeHistory
+                | Listing::ChangeEvidence
         )
     }
 }

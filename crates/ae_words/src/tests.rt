@@ -44,7 +44,11 @@ fn answer_of(alloc: Global, written: &str) -> Result<String, Fail> {
 }
 
 // Adds ` paths=a,b`, or nothing where there are none.
-fn push_texts<T: fmt::Display>(text: &mut String, name: &str, items: &[T]) -> Result<(), AllocError> {
+fn push_texts<T: fmt::Display>(
+    text: &mut String,
+    name: &str,
+    items: &[T],
+) -> Result<(), AllocError> {
     let mut between = "=";
     if !items.is_empty() {
         write!(text, " {name}")?;
@@ -56,7 +60,11 @@ fn push_texts<T: fmt::Display>(text: &mut String, name: &str, items: &[T]) -> Re
     Ok(())
 }
 
-fn push_text<T: fmt::Display>(text: &mut String, name: &str, item: Option<&T>) -> Result<(), AllocError> {
+fn push_text<T: fmt::Display>(
+    text: &mut String,
+    name: &str,
+    item: Option<&T>,
+) -> Result<(), AllocError> {
     if let Some(item) = item {
         write!(text, " {name}={item}")?;
     }
@@ -148,7 +156,11 @@ fn worked_examples_of_words(rt: HostRuntime) -> Result<(), Fail> {
     ];
     for (answer, written) in examples {
         let words = words_of(alloc, written)?;
-        assert_eq!(rt; read_text(alloc, words.as_slice())?.as_str(), answer, "{written}");
+        assert_eq!(rt;
+            read_text(alloc, words.as_slice())?.as_str(),
+            answer,
+            "{written}"
+        );
     }
     Ok(())
 }
@@ -156,7 +168,10 @@ fn worked_examples_of_words(rt: HostRuntime) -> Result<(), Fail> {
 #[test]
 fn each_pattern_spells_its_own(rt: HostRuntime) {
     for function in Function::ALL {
-        assert_eq!(rt; Function::read(function.pattern().as_bytes()), Some(function));
+        assert_eq!(rt;
+            Function::read(function.pattern().as_bytes()),
+            Some(function)
+        );
     }
     for listing in Listing::ALL {
         assert_eq!(rt; Listing::read(listing.pattern().as_bytes()), Some(listing));

@@ -1,4 +1,4 @@
-use Rattle.std.proofs.Common.{◌≡◌, false, sym, ◌∙◌}
+use Rattle.std.proofs.Common.{false, sym, ◌∙◌}
 use Rattle.ae_words.proofs.Rule.{sound, complete}
 use Rattle.ae_words.proofs.spelling.matches_option.Goals as goal
 

@@ -1,4 +1,4 @@
-use Rattle.std.proofs.Common.{◌≡◌, ◌<◌, ℕ, sym, subst, ◌∙◌}
+use Rattle.std.proofs.Common.{◌<◌, ℕ, sym, subst, ◌∙◌}
 use Rattle.ae_words.proofs.PathMore.{with_path-read}
 use Rattle.ae_words.proofs.command.Command.with_path.Goals as goal
 
