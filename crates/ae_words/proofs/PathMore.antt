@@ -1,0 +1,19 @@
+-- A path more.
+use Rattle.std.proofs.Common.{◌≡◌, ◌<◌, ℕ, Bool, true, false, cond, not, ◌&&◌, nat_le, List, [], ◌∷◌, ◌++◌, Some, None, sym, ap, ◌∙◌, length, arith}
+use Rattle.std.proofs.lemmas.Bool.Decides.{nat_tests}
+use Rattle.ae_base.specs.Names.{is_path}
+use Rattle.ae_base.specs.Bytes.{read_as}
+use Rattle.ae_words.specs.Meaning.{with_path, most}
+use Rattle.ae_words.specs.declared.command.Command.{Command}
+
+not_full : (n : ℕ) → n < most → nat_le most n ≡ false
+not_full n h = grind (arith, nat_tests)
+
+pub with_path-read : (c : Command) (w p : List ℕ) (ps : List (List ℕ)) → length c.paths < most → Some p ≡ read_as is_path w → ps ≡ c.paths ++ p ∷ []
+    → Some (record c { paths = ps }) ≡ with_path c w
+with_path-read c w p ps room read more = one (nat_le most (length c.paths)) (is_path w) (not_full (length c.paths) room) (sym read)
+  where
+    one : (full is : Bool) → full ≡ false → cond is (Some w) None ≡ Some p → Some (record c { paths = ps }) ≡ cond (not full && is) (Some (record c { paths = c.paths ++ w ∷ [] })) None
+    one true is r e = absurd cc
+    one false true r e = let same : w ≡ p = cc in ap (λ (x : List (List ℕ)). Some (record c { paths = x })) (more ∙ ap (λ (x : List ℕ). c.paths ++ x ∷ []) (sym same))
+    one false false r e = absurd cc

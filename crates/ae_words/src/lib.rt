@@ -1,0 +1,20 @@
+//! The words of a command: how they are spelled, what they mean, and which word is the first bad one.
+#![tactic(auto)]
+
+mod command;
+mod items;
+mod numbers;
+mod read;
+mod spelling;
+mod table;
+
+pub use command::Command;
+pub use numbers::NumberList;
+pub use read::{WordsError, read_words};
+pub use spelling::matches_option;
+pub use table::{Function, Listing, Row, Setting};
+
+#[cfg(test)]
+mod cases;
+#[cfg(test)]
+mod tests;
