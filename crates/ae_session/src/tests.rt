@@ -94,7 +94,8 @@ fn a_project_is_made(rt: HostRuntime) -> Result<(), Fail> {
         b"aegis: project \"demo\": created\n".as_slice()
     );
     assert_eq!(rt; world.out.taken(), b"".as_slice());
-    assert_eq!(rt; world.disk.starved() + world.err.starved(), 0);
+    assert_eq!(rt; world.disk.starved(), 0);
+    assert_eq!(rt; world.err.starved(), 0);
     Ok(())
 }
 
