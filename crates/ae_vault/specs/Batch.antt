@@ -1,0 +1,6 @@
+-- What a batch has.
+use Rattle.std.specs.Prelude.{List}
+use Rattle.ae_vault.specs.declared.entry.Entry.{Entry}
+
+pub record BatchRecord : Type 0 where
+  pub entries : List Entry

@@ -1,0 +1,6 @@
+pub mod Batch
+pub mod Commit
+pub mod Errors
+pub mod Kept
+pub mod Pieces
+pub mod Vault
