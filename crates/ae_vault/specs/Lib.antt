@@ -1,4 +1,5 @@
 pub mod Batch
+pub mod Body
 pub mod Commit
 pub mod Errors
 pub mod Kept

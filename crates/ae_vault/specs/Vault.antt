@@ -1,6 +1,6 @@
 -- The files that an image stands for, where a redo body may lie behind an open gate.
 use Rattle.std.specs.Prelude.{◌≡◌, ◌≢◌, ◌⊎◌, ℕ, zero, suc, ◌+◌, ◌*◌, ◌≤◌, Bool, true, false, not, nat_lt, ◌&&◌, ◌||◌, ◌==◌, nat_le, List, [], ◌∷◌, ◌++◌, length, take, drop, Option, Some, None, unwrap_or, option_and_then, IsTrue, if◌then◌else◌}
-use Rattle.std.specs.Option.{option_map_or}
+use Rattle.std.specs.List.{list_all}
 use Rattle.std.specs.Ordering.{is_lt, nat_cmp}
 use Rattle.std.specs.Cmp.Lexicographic.{slice_cmp}
 use Rattle.std.specs.Str.{bytes_eq}
@@ -60,8 +60,7 @@ names_ascend (e ∷ []) = true
 names_ascend (e ∷ f ∷ entries) = is_lt (slice_cmp nat_cmp e.name f.name) && names_ascend (f ∷ entries)
 
 abbrev pub all_entry_names : List Entry → Bool
-all_entry_names [] = true
-all_entry_names (e ∷ entries) = is_entry_name e.name && all_entry_names entries
+all_entry_names = list_all (λ (e : Entry). is_entry_name e.name)
 
 -- names are those of a disk, none of them the vault's own, and they ascend
 abbrev pub are_entries : List Entry → Bool

@@ -4,7 +4,7 @@ ghost use Rattle.ae_vault.specs.declared.error.VaultError.TheVariants.{DiskFault
 ghost use Rattle.ae_vault.specs.Errors.{read_error};
 
 use ae_outside::{Failed, ReadError};
-use std::alloc::AllocError;
+use std::alloc::{AllocError, AllocFailed};
 use thiserror::Error;
 
 /// Why a disk isn't opened.
@@ -43,6 +43,14 @@ impl From<AllocError> for VaultError {
     ghost from_gives = { λ _ e. e ≡ Memory };
 
     fn from(_: AllocError) -> VaultError {
+        VaultError::Memory
+    }
+}
+
+impl<T: Drop> From<AllocFailed<T>> for VaultError {
+    ghost from_gives = { λ _ e. e ≡ Memory };
+
+    fn from(_: AllocFailed<T>) -> VaultError {
         VaultError::Memory
     }
 }

@@ -1,4 +1,4 @@
-use Rattle.ae_vault.proofs.Names.{utf8_name}
+use Rattle.ae_vault.proofs.DiskNameText.{utf8_name}
 use Rattle.ae_vault.proofs.entry.disk_name.Goals as goal
 
 pub unreachable-requires : goal.unreachable-requires
