@@ -15,3 +15,6 @@ pub use entry::{Entry, EntryList};
 pub use names::are_entries;
 pub use error::VaultError;
 pub use vault::Vault;
+
+#[cfg(test)]
+mod tests;
