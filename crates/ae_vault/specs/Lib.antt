@@ -3,5 +3,6 @@ pub mod Body
 pub mod Commit
 pub mod Errors
 pub mod Kept
+pub mod Packing
 pub mod Pieces
 pub mod Vault

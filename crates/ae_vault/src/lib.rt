@@ -8,11 +8,14 @@ mod error;
 mod get;
 mod names;
 mod open;
+mod packed;
+mod piece;
 mod vault;
 
 pub use batch::Batch;
 pub use entry::{Entry, EntryList};
-pub use names::are_entries;
+pub use names::{are_entries, no_entry_is_pack};
+pub use piece::{Piece, PieceList, are_pieces};
 pub use error::VaultError;
 pub use vault::Vault;
 

@@ -4,9 +4,11 @@ ghost use Rattle.std.specs.Cmp.Lexicographic.{slice_cmp};
 ghost use Rattle.std.specs.List.{list_all};
 ghost use Rattle.std.specs.Ordering.{is_lt, nat_cmp};
 ghost use Rattle.ae_outside.specs.DiskNames.{is_name_byte, is_disk_name};
+ghost use Rattle.ae_vault.specs.Pieces.{no_entry_is_pack};
 ghost use Rattle.ae_vault.specs.Vault.{is_own, is_entry_name, all_entry_names, names_ascend, are_entries};
 
 use crate::Entry;
+use crate::packed::PACK;
 use crate::vault::{BODY, GATE};
 
 fn is_name_byte(b: u8) -> bool
@@ -69,4 +71,11 @@ pub fn are_entries(entries: &[Entry]) -> bool
     ensures { result ≡ are_entries entries.now }
 {
     are_entry_names(entries) && names_ascend(entries)
+}
+
+/// Whether no entry names the packed file.
+pub fn no_entry_is_pack(entries: &[Entry]) -> bool
+    ensures { result ≡ no_entry_is_pack entries.now }
+{
+    entries.iter().all(|entry| entry.name.bytes() != PACK.as_bytes())
 }

@@ -4,7 +4,7 @@ ghost use Rattle.ae_outside.specs.DiskNames.{IsDiskName};
 ghost use Rattle.ae_outside.specs.MemDisk.{state_of};
 ghost use Rattle.ae_vault.specs.Commit.{IsClean};
 
-use crate::{Batch, Entry, EntryList, Vault, are_entries};
+use crate::{Batch, Entry, EntryList, PieceList, Vault, are_entries, no_entry_is_pack};
 use ae_base::Text;
 use ae_outside::{MemDisk, Pick};
 use std::alloc::Global;
@@ -24,8 +24,9 @@ fn entry(alloc: Global, name: &str, bytes: &str) -> Result<Entry, Fail> {
 
 fn batch(rt: &impl Abort, alloc: Global, entries: Vec<Entry>) -> Result<Batch, Fail> {
     assert!(rt; are_entries(entries.as_slice()));
+    assert!(rt; no_entry_is_pack(entries.as_slice()));
     assert!(rt; entries.len() < 10);
-    Ok(Vault::prepare(alloc, EntryList::of(entries))?)
+    Ok(Vault::prepare(alloc, EntryList::of(entries), PieceList::new(alloc))?)
 }
 
 // whether the files "project" and "change.10" hold these texts

@@ -1,59 +1,47 @@
-use Rattle.std.proofs.Common.{◌≡◌, true, Some, List, ℕ, Result, Ok, Err, OnOk, subst}
-use Rattle.ae_vault.specs.declared.entry.Entry.{Entry}
+use Rattle.std.proofs.Common.{◌≡◌, ◌⊎◌, true, List, ap, sym, ◌∙◌, subst}
 use Rattle.ae_outside.specs.Image.{Image}
 use Rattle.ae_outside.specs.State.{reads, MayLeave, GoesOn}
-use Rattle.ae_vault.specs.Vault.{gate, body, body_entries, all_entry_names}
-use Rattle.ae_vault.specs.Commit.{IsAfter, SameOutside, HasEntries}
-use Rattle.ae_vault.proofs.Phases.{stable_as, stable_open}
-use Rattle.ae_vault.proofs.CommitPhases.{through1, through2, through3, through4, all4, read4}
+use Rattle.ae_outside.specs.Time.{continues_then}
+use Rattle.ae_vault.specs.declared.piece.Piece.{Piece}
+use Rattle.ae_vault.specs.Batch.{BatchRecord}
+use Rattle.ae_vault.specs.Commit.{IsAfter}
+use Rattle.ae_vault.specs.Pieces.{pack, no_entry_is_pack, HasPieces, PackedOver, IsAfterBatch}
+use Rattle.ae_vault.proofs.BatchPhases.{through_pieces, through_entries, all_after, read_after, one_read}
+use Rattle.ae_vault.proofs.Results.{on_ok_from}
 use Rattle.ae_vault.proofs.vault.Vault.commit.Goals as goal
 
-on_ok : {T E : Type 0} (r : Result T E) (P : Type 0) → P → OnOk r P
-on_ok (Ok v) P holds = holds
-on_ok (Err e) P holds = tt
-
-pub returns-in_err-replace-clause-any_moment : goal.returns-in_err-replace-clause-any_moment
-returns-in_err-replace-clause-any_moment g c = λ t. through1 c.args.batch.entries c.body.result.now (g.D.Disk.state c.args.disk.now) c.body.ensures.body c.body.ensures.names (c.requires t) (g.D.Disk.state c.replace.new.disk) (c.replace.ensures.change t)
-
-pub returns-in_err-set_gate-clause-any_moment : goal.returns-in_err-set_gate-clause-any_moment
-returns-in_err-set_gate-clause-any_moment g c = λ t. through2 c.args.batch.entries c.body.result.now (g.D.Disk.state c.args.disk.now) c.body.ensures.body c.body.ensures.names (c.requires t) (g.D.Disk.state c.replace.new.disk) (c.replace.ensures.change t)
-      (stable_as body c.body.result.now (g.D.Disk.state c.replace.new.disk) (c.in_ok-replace.ensures.stable t) (c.in_ok-replace.ensures.reads t))
-      (g.D.Disk.state c.set_gate.new.disk) (c.set_gate.ensures.change t)
-
-pub returns-in_err-put_entries-clause-any_moment : goal.returns-in_err-put_entries-clause-any_moment
-returns-in_err-put_entries-clause-any_moment g c = λ t. through3 c.args.batch.entries c.body.result.now (g.D.Disk.state c.args.disk.now) c.body.ensures.body c.body.ensures.names (c.requires t) (g.D.Disk.state c.replace.new.disk) (c.replace.ensures.change t)
-      (stable_as body c.body.result.now (g.D.Disk.state c.replace.new.disk) (c.in_ok-replace.ensures.stable t) (c.in_ok-replace.ensures.reads t))
-      (g.D.Disk.state c.set_gate.new.disk) (c.set_gate.ensures.change t)
-      (stable_open gate true (g.D.Disk.state c.set_gate.new.disk) (c.in_ok-set_gate.ensures.stable t) (c.in_ok-set_gate.ensures.reads t))
-      (g.D.Disk.state c.put_entries.new.disk) (subst (λ (es : List Entry). GoesOn (SameOutside es) (g.D.Disk.state c.set_gate.new.disk) (g.D.Disk.state c.put_entries.new.disk)) c.entries-entries.ensures (c.put_entries.ensures.change t))
+pub returns-in_err-write_pieces-clause-any_moment : goal.returns-in_err-write_pieces-clause-any_moment
+returns-in_err-write_pieces-clause-any_moment g c = λ t.
+    let unnamed : no_entry_is_pack c.args.batch.entries ≡ true = ap (λ (b : BatchRecord). no_entry_is_pack b.entries) (sym c.batch.view_is) ∙ c.batch.invariant.3 in
+    let goes : GoesOn (PackedOver c.args.batch.pieces) (g.D.Disk.state c.args.disk.now) (g.D.Disk.state c.write_pieces.new.disk) = subst (λ (ps : List Piece). GoesOn (PackedOver ps) (g.D.Disk.state c.args.disk.now) (g.D.Disk.state c.write_pieces.new.disk)) c.pieces.ensures.value (c.write_pieces.ensures.change t) in
+    through_pieces c.args.batch unnamed (g.D.Disk.state c.args.disk.now) (c.requires t) (g.D.Disk.state c.write_pieces.new.disk) goes
 
 pub returns-clause-any_moment : goal.returns-clause-any_moment
-returns-clause-any_moment g c = λ t. through4 c.args.batch.entries c.body.result.now (g.D.Disk.state c.args.disk.now) c.body.ensures.body c.body.ensures.names (c.requires t) (g.D.Disk.state c.replace.new.disk) (c.replace.ensures.change t)
-      (stable_as body c.body.result.now (g.D.Disk.state c.replace.new.disk) (c.in_ok-replace.ensures.stable t) (c.in_ok-replace.ensures.reads t))
-      (g.D.Disk.state c.set_gate.new.disk) (c.set_gate.ensures.change t)
-      (stable_open gate true (g.D.Disk.state c.set_gate.new.disk) (c.in_ok-set_gate.ensures.stable t) (c.in_ok-set_gate.ensures.reads t))
-      (g.D.Disk.state c.put_entries.new.disk) (subst (λ (es : List Entry). GoesOn (SameOutside es) (g.D.Disk.state c.set_gate.new.disk) (g.D.Disk.state c.put_entries.new.disk)) c.entries-entries.ensures (c.put_entries.ensures.change t))
-      (subst (λ (es : List Entry). (f : Image) → MayLeave (g.D.Disk.state c.put_entries.new.disk) f → HasEntries es f) c.entries-entries.ensures (c.in_ok-put_entries.ensures.has t))
-      (g.D.Disk.state c.set_gate-2.new.disk) (c.set_gate-2.ensures.change t)
+returns-clause-any_moment g c = λ t.
+    let unnamed : no_entry_is_pack c.args.batch.entries ≡ true = ap (λ (b : BatchRecord). no_entry_is_pack b.entries) (sym c.batch.view_is) ∙ c.batch.invariant.3 in
+    let goes : GoesOn (PackedOver c.args.batch.pieces) (g.D.Disk.state c.args.disk.now) (g.D.Disk.state c.write_pieces.new.disk) = subst (λ (ps : List Piece). GoesOn (PackedOver ps) (g.D.Disk.state c.args.disk.now) (g.D.Disk.state c.write_pieces.new.disk)) c.pieces.ensures.value (c.write_pieces.ensures.change t) in
+    let has : (f : Image) → MayLeave (g.D.Disk.state c.write_pieces.new.disk) f → HasPieces c.args.batch.pieces (f pack) = λ f left. subst (λ (ps : List Piece). HasPieces ps (f pack)) c.pieces.ensures.value (c.in_ok-write_pieces.ensures.has t f left) in
+    through_entries c.args.batch unnamed (g.D.Disk.state c.args.disk.now) (c.requires t) (g.D.Disk.state c.write_pieces.new.disk) goes has (g.D.Disk.state c.put_batch.new.disk) (c.put_batch.ensures.time t) (c.put_batch.ensures.any_moment t)
+
+pub returns-clause-one_of_two : goal.returns-clause-one_of_two
+returns-clause-one_of_two g c = λ t.
+    let unnamed : no_entry_is_pack c.args.batch.entries ≡ true = ap (λ (b : BatchRecord). no_entry_is_pack b.entries) (sym c.batch.view_is) ∙ c.batch.invariant.3 in
+    let goes : GoesOn (PackedOver c.args.batch.pieces) (g.D.Disk.state c.args.disk.now) (g.D.Disk.state c.write_pieces.new.disk) = subst (λ (ps : List Piece). GoesOn (PackedOver ps) (g.D.Disk.state c.args.disk.now) (g.D.Disk.state c.write_pieces.new.disk)) c.pieces.ensures.value (c.write_pieces.ensures.change t) in
+    let has : (f : Image) → MayLeave (g.D.Disk.state c.write_pieces.new.disk) f → HasPieces c.args.batch.pieces (f pack) = λ f left. subst (λ (ps : List Piece). HasPieces ps (f pack)) c.pieces.ensures.value (c.in_ok-write_pieces.ensures.has t f left) in
+    one_read c.args.batch (g.D.Disk.state c.args.disk.now) (g.D.Disk.state c.put_batch.new.disk) (continues_then (g.D.Disk.state c.args.disk.now) (g.D.Disk.state c.write_pieces.new.disk) (g.D.Disk.state c.put_batch.new.disk) goes.time (c.put_batch.ensures.time t)) (through_entries c.args.batch unnamed (g.D.Disk.state c.args.disk.now) (c.requires t) (g.D.Disk.state c.write_pieces.new.disk) goes has (g.D.Disk.state c.put_batch.new.disk) (c.put_batch.ensures.time t) (c.put_batch.ensures.any_moment t))
 
 pub returns-clause-all : goal.returns-clause-all
-returns-clause-all g c = 
-    let all : g.D.Disk.tells → (f : Image) → MayLeave (g.D.Disk.state c.set_gate-2.new.disk) f → (from : Image) × MayLeave (g.D.Disk.state c.args.disk.now) from × IsAfter c.args.batch.entries from f = λ t. all4 c.args.batch.entries c.body.result.now (g.D.Disk.state c.args.disk.now) c.body.ensures.body c.body.ensures.names (c.requires t) (g.D.Disk.state c.replace.new.disk) (c.replace.ensures.change t)
-      (stable_as body c.body.result.now (g.D.Disk.state c.replace.new.disk) (c.in_ok-replace.ensures.stable t) (c.in_ok-replace.ensures.reads t))
-      (g.D.Disk.state c.set_gate.new.disk) (c.set_gate.ensures.change t)
-      (stable_open gate true (g.D.Disk.state c.set_gate.new.disk) (c.in_ok-set_gate.ensures.stable t) (c.in_ok-set_gate.ensures.reads t))
-      (g.D.Disk.state c.put_entries.new.disk) (subst (λ (es : List Entry). GoesOn (SameOutside es) (g.D.Disk.state c.set_gate.new.disk) (g.D.Disk.state c.put_entries.new.disk)) c.entries-entries.ensures (c.put_entries.ensures.change t))
-      (subst (λ (es : List Entry). (f : Image) → MayLeave (g.D.Disk.state c.put_entries.new.disk) f → HasEntries es f) c.entries-entries.ensures (c.in_ok-put_entries.ensures.has t))
-      (g.D.Disk.state c.set_gate-2.new.disk) (c.set_gate-2.ensures.change t) in
-    on_ok c.set_gate-2.result _ all
+returns-clause-all g c =
+    on_ok_from c.put_batch.result _ _ (λ all t.
+    let unnamed : no_entry_is_pack c.args.batch.entries ≡ true = ap (λ (b : BatchRecord). no_entry_is_pack b.entries) (sym c.batch.view_is) ∙ c.batch.invariant.3 in
+    let goes : GoesOn (PackedOver c.args.batch.pieces) (g.D.Disk.state c.args.disk.now) (g.D.Disk.state c.write_pieces.new.disk) = subst (λ (ps : List Piece). GoesOn (PackedOver ps) (g.D.Disk.state c.args.disk.now) (g.D.Disk.state c.write_pieces.new.disk)) c.pieces.ensures.value (c.write_pieces.ensures.change t) in
+    let has : (f : Image) → MayLeave (g.D.Disk.state c.write_pieces.new.disk) f → HasPieces c.args.batch.pieces (f pack) = λ f left. subst (λ (ps : List Piece). HasPieces ps (f pack)) c.pieces.ensures.value (c.in_ok-write_pieces.ensures.has t f left) in
+    all_after c.args.batch unnamed (g.D.Disk.state c.args.disk.now) (c.requires t) (g.D.Disk.state c.write_pieces.new.disk) goes has (g.D.Disk.state c.put_batch.new.disk) (all t)) c.put_batch.ensures.all
 
 pub returns-clause-read : goal.returns-clause-read
-returns-clause-read g c = 
-    let read : g.D.Disk.tells → IsAfter c.args.batch.entries (reads (g.D.Disk.state c.args.disk.now)) (reads (g.D.Disk.state c.set_gate-2.new.disk)) = λ t. read4 c.args.batch.entries c.body.result.now (g.D.Disk.state c.args.disk.now) c.body.ensures.body c.body.ensures.names (c.requires t) (g.D.Disk.state c.replace.new.disk) (c.replace.ensures.change t)
-      (stable_as body c.body.result.now (g.D.Disk.state c.replace.new.disk) (c.in_ok-replace.ensures.stable t) (c.in_ok-replace.ensures.reads t))
-      (g.D.Disk.state c.set_gate.new.disk) (c.set_gate.ensures.change t)
-      (stable_open gate true (g.D.Disk.state c.set_gate.new.disk) (c.in_ok-set_gate.ensures.stable t) (c.in_ok-set_gate.ensures.reads t))
-      (g.D.Disk.state c.put_entries.new.disk) (subst (λ (es : List Entry). GoesOn (SameOutside es) (g.D.Disk.state c.set_gate.new.disk) (g.D.Disk.state c.put_entries.new.disk)) c.entries-entries.ensures (c.put_entries.ensures.change t))
-      (subst (λ (es : List Entry). (f : Image) → MayLeave (g.D.Disk.state c.put_entries.new.disk) f → HasEntries es f) c.entries-entries.ensures (c.in_ok-put_entries.ensures.has t))
-      (g.D.Disk.state c.set_gate-2.new.disk) (c.set_gate-2.ensures.change t) in
-    on_ok c.set_gate-2.result _ read
+returns-clause-read g c =
+    on_ok_from c.put_batch.result _ _ (λ read t.
+    let unnamed : no_entry_is_pack c.args.batch.entries ≡ true = ap (λ (b : BatchRecord). no_entry_is_pack b.entries) (sym c.batch.view_is) ∙ c.batch.invariant.3 in
+    let goes : GoesOn (PackedOver c.args.batch.pieces) (g.D.Disk.state c.args.disk.now) (g.D.Disk.state c.write_pieces.new.disk) = subst (λ (ps : List Piece). GoesOn (PackedOver ps) (g.D.Disk.state c.args.disk.now) (g.D.Disk.state c.write_pieces.new.disk)) c.pieces.ensures.value (c.write_pieces.ensures.change t) in
+    let has : (f : Image) → MayLeave (g.D.Disk.state c.write_pieces.new.disk) f → HasPieces c.args.batch.pieces (f pack) = λ f left. subst (λ (ps : List Piece). HasPieces ps (f pack)) c.pieces.ensures.value (c.in_ok-write_pieces.ensures.has t f left) in
+    read_after c.args.batch unnamed (g.D.Disk.state c.args.disk.now) (c.requires t) (g.D.Disk.state c.write_pieces.new.disk) goes has (reads (g.D.Disk.state c.put_batch.new.disk)) (read t)) c.put_batch.ensures.read
