@@ -78,11 +78,11 @@ module _ (batch : BatchRecord) (unnamed : no_entry_is_pack batch.entries ≡ tru
       let from_is : with_entries batch.entries (effective from) ≡ Some (put batch.entries (files from)) = ap (with_entries batch.entries) (effective_closed from closed) in
       record {
         files =
-          subst (λ (o : Option Image). FilesOver batch.pieces (with_entries batch.entries (effective from)) o) (sym mid_is)
-          (subst (λ (o : Option Image). FilesOver batch.pieces o (Some (put batch.entries (files mid)))) (sym from_is) (put_over batch.entries batch.pieces (files from) (files mid) none (files_over batch.pieces from mid step)));
+            subst (λ (o : Option Image). FilesOver batch.pieces (with_entries batch.entries (effective from)) o) (sym mid_is)
+            (subst (λ (o : Option Image). FilesOver batch.pieces o (Some (put batch.entries (files mid)))) (sym from_is) (put_over batch.entries batch.pieces (files from) (files mid) none (files_over batch.pieces from mid step)));
         has =
-          subst (λ (o : Option Image). FilesHave batch.pieces o) (sym mid_is)
-          (subst (λ (l : List ℕ). HasPieces batch.pieces l) (sym (ap (λ (o : Option (List ℕ)). unwrap_or o (files mid pack)) none)) has);
+            subst (λ (o : Option Image). FilesHave batch.pieces o) (sym mid_is)
+            (subst (λ (l : List ℕ). HasPieces batch.pieces l) (sym (ap (λ (o : Option (List ℕ)). unwrap_or o (files mid pack)) none)) has);
       }
 
   base_closed : IsClosed (reads base)
@@ -92,14 +92,14 @@ module _ (batch : BatchRecord) (unnamed : no_entry_is_pack batch.entries ≡ tru
   at_pieces : (u : ℕ) → base.moment ≤ u → u ≤ s.moment → BatchAt batch base (s.reads_at u) (s.image_at u)
   at_pieces u from till = record {
     settled = λ f g is that opened.
-      let was = goes.images_since u f from till is in
-      let closed = still_closed was.0 f was.2 (clean was.0 was.1) in cc;
+        let was = goes.images_since u f from till is in
+        let closed = still_closed was.0 f was.2 (clean was.0 was.1) in cc;
     each = λ f is.
-      let was = goes.images_since u f from till is in
-      (was.0, was.1, inl (before was.0 f f was.2 (clean was.0 was.1) refl));
+        let was = goes.images_since u f from till is in
+        (was.0, was.1, inl (before was.0 f f was.2 (clean was.0 was.1) refl));
     agrees = λ f is agree.
-      let was = goes.images_since u f from till is in
-      (was.0, was.1, inl (before was.0 f f was.2 (clean was.0 was.1) refl, before (reads base) (s.reads_at u) (s.reads_at u) (goes.reads_since u from till) base_closed refl));
+        let was = goes.images_since u f from till is in
+        (was.0, was.1, inl (before was.0 f f was.2 (clean was.0 was.1) refl, before (reads base) (s.reads_at u) (s.reads_at u) (goes.reads_since u from till) base_closed refl));
   }
 
   pub through_pieces : Throughout (BatchAt batch base) base.moment s
@@ -125,19 +125,25 @@ module _ (batch : BatchRecord) (unnamed : no_entry_is_pack batch.entries ≡ tru
     at_entries r I at = record {
       settled = at.settled;
       each = λ f is.
-        let mid = at.each f is in
-        let was = from_start mid.0 mid.1 in
-        (was.0, was.1, elim mid.2 [
-          | inl is_before ↦ inl (before was.0 mid.0 f was.2 (clean was.0 was.1) is_before)
-          | inr is_after ↦ inr (after was.0 mid.0 f was.2 (clean was.0 was.1) (has mid.0 mid.1) is_after)
-        ]);
+          let mid = at.each f is in
+          let was = from_start mid.0 mid.1 in (
+            was.0,
+            was.1,
+            elim mid.2 [
+              | inl is_before ↦ inl (before was.0 mid.0 f was.2 (clean was.0 was.1) is_before)
+              | inr is_after ↦ inr (after was.0 mid.0 f was.2 (clean was.0 was.1) (has mid.0 mid.1) is_after)
+            ],
+          );
       agrees = λ f is agree.
-        let mid = at.agrees f is agree in
-        let was = from_start mid.0 mid.1 in
-        (was.0, was.1, elim mid.2 [
-          | inl both ↦ inl (before was.0 mid.0 f was.2 (clean was.0 was.1) both.0, before (reads base) (reads s) r read_start base_closed both.1)
-          | inr both ↦ inr (after was.0 mid.0 f was.2 (clean was.0 was.1) (has mid.0 mid.1) both.0, after (reads base) (reads s) r read_start base_closed has_read both.1)
-        ]);
+          let mid = at.agrees f is agree in
+          let was = from_start mid.0 mid.1 in (
+            was.0,
+            was.1,
+            elim mid.2 [
+              | inl both ↦ inl (before was.0 mid.0 f was.2 (clean was.0 was.1) both.0, before (reads base) (reads s) r read_start base_closed both.1)
+              | inr both ↦ inr (after was.0 mid.0 f was.2 (clean was.0 was.1) (has mid.0 mid.1) both.0, after (reads base) (reads s) r read_start base_closed has_read both.1)
+            ],
+          );
     }
 
     pub through_entries : (t : DiskState) → Continues s t → Throughout (CommitAt batch.entries s) s.moment t → Throughout (BatchAt batch base) base.moment t

@@ -56,13 +56,16 @@ long_text name rest e after are is = elim (bool_cases (nat_lt (length rest) 8)) 
         let number : to_le_bytes w64 len ≡ take 8 rest = le_bytes_8 (take 8 rest) len (take_length 8 rest long) (at_each (take 8 rest) (of_take 8 rest are)) refl in
         let measured : length (take len (drop 8 rest)) ≡ len = take_length len (drop 8 rest) fits in
         let text : rest ≡ (to_le_bytes w64 (length (take len (drop 8 rest))) ++ take len (drop 8 rest)) ++ drop len (drop 8 rest) =
-            sym (take-append-drop 8 rest)
-            ∙ ap (λ (l : List ℕ). l ++ drop 8 rest) (sym number ∙ ap (to_le_bytes w64) (sym measured))
-            ∙ ap (λ (l : List ℕ). to_le_bytes w64 (length (take len (drop 8 rest))) ++ l) (sym (take-append-drop len (drop 8 rest)))
-            ∙ sym (append_assoc (to_le_bytes w64 (length (take len (drop 8 rest)))) (take len (drop 8 rest)) (drop len (drop 8 rest))) in
-        (ap (λ (x : Entry). x.name) (sym parts.0),
-         (ap (λ (l : List ℕ). 1 ∷ l) text ∙ ap (λ (x : Entry). content_bytes x.bytes ++ drop len (drop 8 rest)) parts.0 ∙ ap (λ (l : List ℕ). content_bytes e.bytes ++ l) parts.1,
-          subst AreBytes parts.1 (of_drop len (drop 8 rest) (of_drop 8 rest are))))
+        sym (take-append-drop 8 rest)
+        ∙ ap (λ (l : List ℕ). l ++ drop 8 rest) (sym number ∙ ap (to_le_bytes w64) (sym measured))
+        ∙ ap (λ (l : List ℕ). to_le_bytes w64 (length (take len (drop 8 rest))) ++ l) (sym (take-append-drop len (drop 8 rest)))
+        ∙ sym (append_assoc (to_le_bytes w64 (length (take len (drop 8 rest)))) (take len (drop 8 rest)) (drop len (drop 8 rest))) in (
+          ap (λ (x : Entry). x.name) (sym parts.0),
+          (
+            ap (λ (l : List ℕ). 1 ∷ l) text ∙ ap (λ (x : Entry). content_bytes x.bytes ++ drop len (drop 8 rest)) parts.0 ∙ ap (λ (l : List ℕ). content_bytes e.bytes ++ l) parts.1,
+            subst AreBytes parts.1 (of_drop len (drop 8 rest) (of_drop 8 rest are)),
+          ),
+        )
   ]
 ]
   where
@@ -86,8 +89,8 @@ kind_text name (suc (suc k) ∷ rest) e after are is =
     let not_absent : (suc (suc k) == 0) ≡ false = grind (arith, nat_tests) in
     let not_there : (suc (suc k) == 1) ≡ false = grind (arith, nat_tests) in
     let none : kind_read name (suc (suc k) ∷ rest) ≡ None =
-        ap (λ (b : Bool). if b then Some (record { name = name; bytes = None }, rest) else (if suc (suc k) == 1 then bytes_read name rest else None)) not_absent
-        ∙ ap (λ (b : Bool). if b then bytes_read name rest else None) not_there in
+    ap (λ (b : Bool). if b then Some (record { name = name; bytes = None }, rest) else (if suc (suc k) == 1 then bytes_read name rest else None)) not_absent
+    ∙ ap (λ (b : Bool). if b then bytes_read name rest else None) not_there in
     cc
 
 entry_text : (bytes : List ℕ) (e : Entry) (after : List ℕ) → AreBytes bytes → entry_read bytes ≡ Some (e, after) → (bytes ≡ entry_bytes e ++ after) × AreBytes after
@@ -98,10 +101,11 @@ entry_text (n ∷ bytes) e after are is = elim (bool_cases (nat_lt (length bytes
   | inr long ↦
       let some : entry_read (n ∷ bytes) ≡ kind_read (take n bytes) (drop n bytes) = ap (λ (b : Bool). if b then None else kind_read (take n bytes) (drop n bytes)) long in
       let text = kind_text (take n bytes) (drop n bytes) e after (of_drop n bytes are.1) (sym some ∙ is) in
-      let measured : n ≡ length e.name = sym (take_length n bytes long) ∙ ap (λ (l : List ℕ). length l) (sym text.0) in
-      (ap (λ (l : List ℕ). n ∷ l) (sym (take-append-drop n bytes) ∙ ap (λ (l : List ℕ). l ++ drop n bytes) (sym text.0) ∙ ap (λ (l : List ℕ). e.name ++ l) text.1.0 ∙ sym (append_assoc e.name (content_bytes e.bytes) after))
-       ∙ ap (λ (k : ℕ). k ∷ (e.name ++ content_bytes e.bytes) ++ after) measured,
-       text.1.1)
+      let measured : n ≡ length e.name = sym (take_length n bytes long) ∙ ap (λ (l : List ℕ). length l) (sym text.0) in (
+        ap (λ (l : List ℕ). n ∷ l) (sym (take-append-drop n bytes) ∙ ap (λ (l : List ℕ). l ++ drop n bytes) (sym text.0) ∙ ap (λ (l : List ℕ). e.name ++ l) text.1.0 ∙ sym (append_assoc e.name (content_bytes e.bytes) after))
+            ∙ ap (λ (k : ℕ). k ∷ (e.name ++ content_bytes e.bytes) ++ after) measured,
+        text.1.1,
+      )
 ]
 
 some_list : (es fs : List Entry) → Some es ≡ Some fs → es ≡ fs

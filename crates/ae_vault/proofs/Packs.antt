@@ -32,14 +32,14 @@ begun_torn pieces size at n covers f g step = record {
   packed = record {
     no_shorter = let is = length-take size (f pack) in omega (arith, is, step.file.no_shorter);
     same = λ k lt free.
-      let front = in_front size k (f pack) lt in
-      elim (cases_lt k at) [
-        | inl before ↦ torn_at at n k (f pack) (g pack) step.file (inl before) ∙ sym (get_or-take size (f pack) k 0 front.0)
-        | inr after ↦ elim (cases_lt k (at + n)) [
-          | inl within ↦ absurd (free (covers k after within front.0))
-          | inr behind ↦ torn_at at n k (f pack) (g pack) step.file (inr behind) ∙ sym (get_or-take size (f pack) k 0 front.0)
-        ]
-      ];
+        let front = in_front size k (f pack) lt in
+        elim (cases_lt k at) [
+          | inl before ↦ torn_at at n k (f pack) (g pack) step.file (inl before) ∙ sym (get_or-take size (f pack) k 0 front.0)
+          | inr after ↦ elim (cases_lt k (at + n)) [
+            | inl within ↦ absurd (free (covers k after within front.0))
+            | inr behind ↦ torn_at at n k (f pack) (g pack) step.file (inr behind) ∙ sym (get_or-take size (f pack) k 0 front.0)
+          ]
+        ];
   };
 }
 
@@ -49,10 +49,10 @@ begun_weaker ps qs m n le more f g step = record {
   packed = record {
     no_shorter = let one = length-take n (f pack) in let two = length-take m (f pack) in omega (arith, le, one, two, step.packed.no_shorter);
     same = λ k lt free.
-      let front = in_front n k (f pack) lt in
-      let two = length-take m (f pack) in
-      step.packed.same k (omega (arith, le, two, front.0, front.1)) (λ in_ps. free (more k in_ps))
-      ∙ get_or-take m (f pack) k 0 (omega (arith, le, front.0)) ∙ sym (get_or-take n (f pack) k 0 front.0);
+        let front = in_front n k (f pack) lt in
+        let two = length-take m (f pack) in
+        step.packed.same k (omega (arith, le, two, front.0, front.1)) (λ in_ps. free (more k in_ps))
+        ∙ get_or-take m (f pack) k 0 (omega (arith, le, front.0)) ∙ sym (get_or-take n (f pack) k 0 front.0);
   };
 }
 
@@ -62,10 +62,10 @@ begun_then ps n f g h first second = record {
   packed = record {
     no_shorter = let one = length-take n (f pack) in let two = length-take n (g pack) in omega (arith, one, two, first.packed.no_shorter, second.packed.no_shorter);
     same = λ k lt free.
-      let front = in_front n k (f pack) lt in
-      let two = length-take n (g pack) in
-      second.packed.same k (omega (arith, lt, two, front.0, first.packed.no_shorter)) free
-      ∙ get_or-take n (g pack) k 0 front.0 ∙ first.packed.same k lt free;
+        let front = in_front n k (f pack) lt in
+        let two = length-take n (g pack) in
+        second.packed.same k (omega (arith, lt, two, front.0, first.packed.no_shorter)) free
+        ∙ get_or-take n (g pack) k 0 front.0 ∙ first.packed.same k lt free;
   };
 }
 
@@ -152,9 +152,9 @@ piece_same p size to r0 r1 r2 is extended le over k lt out =
 pub extended_on : (at : ℕ) (bytes r0 r1 r2 : List ℕ) → length r0 ≤ at → IsExtended at r0 r1 → Overwritten at bytes r1 r2 → IsExtended (at + length bytes) r0 r2
 extended_on at bytes r0 r1 r2 from extended over = record {
   length_is =
-    let back : length (drop (at + length bytes) r1) ≡ 0 = let n = length-drop (at + length bytes) r1 in omega (arith, n, extended.length_is) in
-    let whole = over_length at bytes r1 r2 (omega (arith, extended.length_is)) over in
-    omega (arith, back, whole);
+      let back : length (drop (at + length bytes) r1) ≡ 0 = let n = length-drop (at + length bytes) r1 in omega (arith, n, extended.length_is) in
+      let whole = over_length at bytes r1 r2 (omega (arith, extended.length_is)) over in
+      omega (arith, back, whole);
   same = λ k lt. over_out at k bytes r1 r2 (omega (arith, extended.length_is)) over (inl (omega (arith, lt, from))) ∙ extended.same k lt;
 }
 
@@ -173,11 +173,13 @@ pub stays : (ps : List Piece) (q : Piece) (size : ℕ) (old new : List ℕ) → 
 stays [] q size old new apart is longer same has = tt
 stays (p ∷ ps) q size old new apart is longer same has =
     let here : are_apart p q ≡ true = grind (arith, nat_tests) in
-    let rest : list_all (λ (x : Piece). are_apart x q) ps ≡ true = grind (arith, nat_tests) in
-    (record {
-      ends = omega (arith, has.0.ends, is, longer);
-      there = λ k lt. same (p.at + k) (omega (arith, has.0.ends, is, lt)) (apart_out p q here k lt) ∙ has.0.there k lt;
-    }, stays ps q size old new rest is longer same has.1)
+    let rest : list_all (λ (x : Piece). are_apart x q) ps ≡ true = grind (arith, nat_tests) in (
+      record {
+        ends = omega (arith, has.0.ends, is, longer);
+        there = λ k lt. same (p.at + k) (omega (arith, has.0.ends, is, lt)) (apart_out p q here k lt) ∙ has.0.there k lt;
+      },
+      stays ps q size old new rest is longer same has.1,
+    )
 
 has_last : (ps : List Piece) (q : Piece) (bytes : List ℕ) → HasPieces ps bytes → HasPiece q bytes → HasPieces (ps ++ q ∷ []) bytes
 has_last [] q bytes has one = (one, tt)
@@ -232,14 +234,14 @@ pub begun_over : (p : Piece) (ps : List Piece) (s t : DiskState) → GoesOn (Pac
 begun_over p ps s t goes = record {
   time = goes.time;
   reads_since = λ u from till.
-    let step = over_step p ps (reads s) (reads s) (t.reads_at u) (goes.reads_since u from till) in
-    record {
-      others = (goes.reads_since u from till).others;
-      packed = subst (λ (l : List ℕ). KeepsOutside (p ∷ ps) l (t.reads_at u pack)) (take_all (length (reads s pack)) (reads s pack) (omega arith)) step.packed;
-    };
+      let step = over_step p ps (reads s) (reads s) (t.reads_at u) (goes.reads_since u from till) in
+      record {
+        others = (goes.reads_since u from till).others;
+        packed = subst (λ (l : List ℕ). KeepsOutside (p ∷ ps) l (t.reads_at u pack)) (take_all (length (reads s pack)) (reads s pack) (omega arith)) step.packed;
+      };
   images_since = λ u f from till is.
-    let was = goes.images_since u f from till is in
-    (cut_to (reads s) pack was.0, s.cut_is_image s.moment pack was.0 (omega arith) was.1, over_step p ps (reads s) was.0 f was.2);
+      let was = goes.images_since u f from till is in
+      (cut_to (reads s) pack was.0, s.cut_is_image s.moment pack was.0 (omega arith) was.1, over_step p ps (reads s) was.0 f was.2);
 }
 
 pub packs_over : (pieces : List Piece) (size : ℕ) (s t : DiskState) → pieces ≢ [] → size ≡ length (reads s pack) → GoesOn (PackBegun pieces size) s t → GoesOn (PackedOver pieces) s t

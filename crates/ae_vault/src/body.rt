@@ -108,7 +108,13 @@ fn read_bytes(alloc: Global, name: Text, rest: &[u8]) -> Result<(Entry, &[u8]), 
     }
     let (bytes, rest) = rest.split_at(len);
     let bytes = copy_text(alloc, bytes)?;
-    Ok((Entry { name, bytes: Some(bytes) }, rest))
+    Ok((
+        Entry {
+            name,
+            bytes: Some(bytes),
+        },
+        rest,
+    ))
 }
 
 fn read_kind(alloc: Global, name: Text, bytes: &[u8]) -> Result<(Entry, &[u8]), VaultError>

@@ -14,9 +14,9 @@ mod vault;
 
 pub use batch::Batch;
 pub use entry::{Entry, EntryList};
+pub use error::VaultError;
 pub use names::{are_entries, no_entry_is_pack};
 pub use piece::{Piece, PieceList, are_pieces};
-pub use error::VaultError;
 pub use vault::Vault;
 
 #[cfg(test)]

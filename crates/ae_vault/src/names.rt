@@ -44,7 +44,9 @@ fn is_entry_name(name: &[u8]) -> bool
 fn are_entry_names(entries: &[Entry]) -> bool
     ensures { result ≡ all_entry_names entries.now }
 {
-    entries.iter().all(|entry| is_entry_name(entry.name.bytes()))
+    entries
+        .iter()
+        .all(|entry| is_entry_name(entry.name.bytes()))
 }
 
 fn precedes(first: &Entry, second: &Entry) -> bool
@@ -77,5 +79,7 @@ pub fn are_entries(entries: &[Entry]) -> bool
 pub fn no_entry_is_pack(entries: &[Entry]) -> bool
     ensures { result ≡ no_entry_is_pack entries.now }
 {
-    entries.iter().all(|entry| entry.name.bytes() != PACK.as_bytes())
+    entries
+        .iter()
+        .all(|entry| entry.name.bytes() != PACK.as_bytes())
 }

@@ -82,11 +82,7 @@ fn is_piece(piece: &Piece) -> bool
     ensures { result ≡ is_piece piece.now }
 {
     let len = len_of(piece);
-    len >= 1
-        && piece.at % 64 == 0
-        && len % 64 == 0
-        && piece.at <= LIMIT
-        && len <= LIMIT - piece.at
+    len >= 1 && piece.at % 64 == 0 && len % 64 == 0 && piece.at <= LIMIT && len <= LIMIT - piece.at
 }
 
 fn ends_before(first: &Piece, second: &Piece) -> bool

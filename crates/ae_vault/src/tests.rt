@@ -191,7 +191,11 @@ fn with_pieces(rt: &impl Abort, alloc: Global) -> Result<MemDisk, Fail>
 {
     let mut disk = MemDisk::new(alloc, &[])?;
     Vault::open(alloc, &mut disk)?;
-    let first = vec![in alloc; unit(alloc, 0, b'a')?, unit(alloc, 64, b'b')?, unit(alloc, 128, b'c')?]?;
+    let first = vec![in alloc;
+        unit(alloc, 0, b'a')?,
+        unit(alloc, 64, b'b')?,
+        unit(alloc, 128, b'c')?,
+    ]?;
     put_pieces(rt, alloc, &mut disk, "old", first)?;
     assert_eq!(rt; disk.calls(), 17);
     let second = vec![in alloc; unit(alloc, 64, b'B')?, unit(alloc, 192, b'D')?]?;
@@ -212,7 +216,13 @@ fn is_before_or_after(alloc: Global, disk: &mut MemDisk) -> Result<bool, Fail> {
 }
 
 // whether that is so wherever an opening of this disk is stopped
-fn however_opened(rt: &impl Abort, alloc: Global, disk: &MemDisk, calls: u64, pick: Pick) -> Result<bool, Fail> {
+fn however_opened(
+    rt: &impl Abort,
+    alloc: Global,
+    disk: &MemDisk,
+    calls: u64,
+    pick: Pick,
+) -> Result<bool, Fail> {
     assert!(rt; calls <= disk.calls());
     let mut left = disk.after_stop(alloc, calls, pick)?;
     Vault::open(alloc, &mut left)?;

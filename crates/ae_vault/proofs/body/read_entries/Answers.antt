@@ -18,4 +18,3 @@ loop-done-preserved c =
     c.loop-done.invariant
     ∙ read_one (c.args.count - c.loop-done.done) (c.args.count - (c.loop-done.done + 1)) c.loop-done.entries.items c.in_ok-entry.entry c.loop-done.rest.now c.in_ok-entry.after.now (omega arith) c.in_ok-entry.ensures.ok
     ∙ ap (λ (es : List Entry). behind es (entries_read (c.args.count - (c.loop-done.done + 1)) c.in_ok-entry.after.now)) (sym c.in_ok-push.ensures.items)
-
