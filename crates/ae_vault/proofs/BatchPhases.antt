@@ -1,20 +1,18 @@
 -- A commit with pieces: first these, and then the entries.
-use Rattle.std.proofs.Common.{◌≡◌, ◌≢◌, ◌⊎◌, inl, inr, ℕ, ◌≤◌, Bool, true, false, not, ◌&&◌, if◌then◌else◌, List, [], ◌∷◌, Option, Some, None, unwrap_or, refl, sym, ◌∙◌, ap, subst, arith}
-use Rattle.std.specs.List.{list_all}
+use Rattle.std.proofs.Common.{◌≡◌, ◌≢◌, ◌⊎◌, inl, inr, ℕ, ◌≤◌, Bool, true, false, if◌then◌else◌, List, [], ◌∷◌, Option, Some, None, unwrap_or, refl, sym, ◌∙◌, ap, subst, arith}
 use Rattle.std.specs.Str.{bytes_eq}
 use Rattle.std.proofs.lemmas.Bool.Decides.{nat_tests}
-use Rattle.ae_outside.specs.Image.{Image, SameElsewhere}
+use Rattle.ae_outside.specs.Image.{Image}
 use Rattle.ae_outside.specs.State.{DiskState, reads, MayLeave, Continues, GoesOn}
 use Rattle.ae_outside.specs.Time.{reads_step}
 use Rattle.ae_vault.specs.declared.entry.Entry.{Entry}
 use Rattle.ae_vault.specs.declared.piece.Piece.{Piece}
 use Rattle.ae_vault.specs.Batch.{BatchRecord}
-use Rattle.ae_vault.specs.Vault.{gate, is_own, is_open, IsOpen, IsClosed, content_of, or_else, put, files, effective}
-use Rattle.ae_vault.specs.Commit.{IsClean, with_entries, IsBefore, IsAfter, CommitAt, Throughout}
+use Rattle.ae_vault.specs.Vault.{gate, is_own, is_open, IsClosed, content_of, or_else, put, files, effective}
+use Rattle.ae_vault.specs.Commit.{IsClean, with_entries, IsAfter, CommitAt, Throughout}
 use Rattle.ae_vault.specs.Pieces.{pack, no_entry_is_pack, HasPieces, IsPacked, PackedOver, FilesOver, FilesHave, IsBeforeBatch, IsAfterBatch, BatchAt}
-use Rattle.ae_vault.proofs.Files.{bool_cases, effective_closed}
-use Rattle.ae_vault.proofs.Phases.{throughout_on, throughout_start}
-use Rattle.ae_vault.proofs.CommitPhases.{nothing_put}
+use Rattle.ae_vault.proofs.Files.{effective_closed}
+use Rattle.ae_vault.proofs.Phases.{throughout_on}
 use Rattle.ae_vault.proofs.Packs.{none_over}
 
 gate_no_pack : gate ≢ pack

@@ -1,9 +1,9 @@
 -- A disk's name is a text.
-use Rattle.std.proofs.Common.{◌≡◌, ℕ, zero, suc, ◌<◌, List, [], ◌∷◌, Bool, true, ◌&&◌, IsTrue, arith, slice_index}
+use Rattle.std.proofs.Common.{◌≡◌, ℕ, zero, suc, ◌<◌, List, [], ◌∷◌, true, arith}
 use Rattle.std.specs.Str.{IsAscii, IsUtf8}
 use Rattle.std.proofs.lemmas.Str.{IsUtf8-from_ascii}
 use Rattle.std.proofs.lemmas.Bool.Decides.{nat_tests}
-use Rattle.ae_outside.specs.DiskNames.{IsDiskName, all_name_bytes, is_name_byte, is_disk_name}
+use Rattle.ae_outside.specs.DiskNames.{IsDiskName, all_name_bytes, is_name_byte}
 
 small : (b : ℕ) → is_name_byte b ≡ true → b < 128
 small b is = grind (arith, nat_tests)

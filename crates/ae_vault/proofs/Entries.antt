@@ -1,5 +1,5 @@
 -- Entries put one after another.
-use Rattle.std.proofs.Common.{◌≡◌, ◌≢◌, ◌⊎◌, inl, inr, ℕ, zero, suc, ◌+◌, ◌<◌, Bool, true, false, ◌&&◌, if◌then◌else◌, List, [], ◌∷◌, ◌++◌, length, get_or, take, Option, Some, None, unwrap_or, refl, sym, ◌∙◌, ap, subst, arith}
+use Rattle.std.proofs.Common.{◌≡◌, ◌≢◌, inl, inr, ℕ, zero, suc, ◌+◌, ◌<◌, Bool, true, if◌then◌else◌, List, [], ◌∷◌, ◌++◌, length, get_or, take, Option, Some, None, unwrap_or, refl, sym, ◌∙◌, ap, subst, arith}
 use Rattle.std.specs.Str.{bytes_eq}
 use Rattle.std.proofs.lemmas.Slice.Eq.{bytes_eq-Decides}
 use Rattle.std.proofs.lemmas.Bool.Decides.{nat_tests}
@@ -9,7 +9,7 @@ use Rattle.ae_outside.specs.Image.{Image, SameElsewhere}
 use Rattle.ae_outside.specs.State.{DiskState, reads, MayLeave, GoesOn, IsStable}
 use Rattle.ae_outside.specs.Time.{goes_on_then, goes_on_weaker}
 use Rattle.ae_vault.specs.declared.entry.Entry.{Entry}
-use Rattle.ae_vault.specs.Vault.{content_of, or_else, all_entry_names, is_entry_name}
+use Rattle.ae_vault.specs.Vault.{content_of, or_else, all_entry_names}
 use Rattle.ae_vault.specs.Commit.{SameOutside, HasEntries}
 use Rattle.ae_vault.proofs.Files.{bool_cases, option_cases}
 

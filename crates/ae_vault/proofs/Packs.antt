@@ -1,5 +1,5 @@
 -- Pieces written one after another.
-use Rattle.std.proofs.Common.{◌≡◌, ◌≢◌, ◌⊎◌, inl, inr, ℕ, zero, suc, ◌+◌, ◌-◌, ◌<◌, ◌≤◌, ◌^◌, Bool, true, false, ◌&&◌, ◌||◌, nat_le, ◌==◌, if◌then◌else◌, List, [], ◌∷◌, ◌++◌, length, get_or, take, drop, refl, sym, ◌∙◌, ap, subst, arith, rules, append_assoc, append-nil, length-append, length-take, length-drop}
+use Rattle.std.proofs.Common.{◌≡◌, ◌≢◌, ◌⊎◌, inl, inr, ℕ, zero, suc, ◌+◌, ◌-◌, ◌<◌, ◌≤◌, ◌^◌, Bool, true, false, ◌&&◌, ◌||◌, ◌==◌, if◌then◌else◌, List, [], ◌∷◌, ◌++◌, length, get_or, take, drop, refl, sym, ◌∙◌, ap, subst, arith, length-append, length-take, length-drop}
 use Rattle.std.specs.List.{list_all}
 use Rattle.std.specs.Str.{bytes_eq}
 use Rattle.std.proofs.lemmas.Bool.{cases_lt}
@@ -7,12 +7,12 @@ use Rattle.std.proofs.lemmas.Bool.Decides.{nat_tests}
 use Rattle.std.proofs.lemmas.Slice.Eq.{bytes_eq-Decides}
 use Rattle.std.proofs.lemmas.List.{get_or-take, get_or-drop, get_or-append-add, take_more, take_all}
 use Rattle.std.proofs.Math.ListN.{get_or-append}
-use Rattle.ae_outside.specs.Image.{Image, IsSame, SameElsewhere, IsTorn, WriteBegun, Overwritten, cut_to}
-use Rattle.ae_outside.specs.State.{DiskState, reads, MayLeave, GoesOn}
+use Rattle.ae_outside.specs.Image.{Image, IsSame, IsTorn, WriteBegun, Overwritten, cut_to}
+use Rattle.ae_outside.specs.State.{DiskState, reads, GoesOn}
 use Rattle.ae_outside.specs.Time.{goes_on_refl, goes_on_weaker, goes_on_then}
 use Rattle.ae_vault.specs.declared.piece.Piece.{Piece}
 use Rattle.ae_vault.specs.Packing.{PackBegun, IsExtended}
-use Rattle.ae_vault.specs.Pieces.{pack, is_piece, are_apart, ends_before, none_meet, are_pieces, IsIn, IsCovered, KeepsOutside, HasPiece, HasPieces, IsPacked, PackedOver}
+use Rattle.ae_vault.specs.Pieces.{pack, is_piece, are_apart, ends_before, none_meet, are_pieces, IsIn, IsCovered, KeepsOutside, HasPiece, HasPieces, PackedOver}
 use Rattle.ae_vault.proofs.Files.{bool_cases}
 
 torn_at : (at n k : ℕ) (old new : List ℕ) → IsTorn at n old new → (k < at) ⊎ (at + n ≤ k) → get_or new k 0 ≡ get_or old k 0

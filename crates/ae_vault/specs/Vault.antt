@@ -1,5 +1,5 @@
 -- The files that an image stands for, where a redo body may lie behind an open gate.
-use Rattle.std.specs.Prelude.{◌≡◌, ◌≢◌, ◌⊎◌, ℕ, zero, suc, ◌+◌, ◌*◌, ◌≤◌, Bool, true, false, not, nat_lt, ◌&&◌, ◌||◌, ◌==◌, nat_le, List, [], ◌∷◌, ◌++◌, length, take, drop, Option, Some, None, unwrap_or, option_and_then, IsTrue, if◌then◌else◌}
+use Rattle.std.specs.Prelude.{◌≡◌, ℕ, zero, suc, Bool, true, false, not, nat_lt, ◌&&◌, ◌||◌, ◌==◌, nat_le, List, [], ◌∷◌, length, take, drop, Option, Some, None, unwrap_or, option_and_then, if◌then◌else◌}
 use Rattle.std.specs.List.{list_all}
 use Rattle.std.specs.Ordering.{is_lt, nat_cmp}
 use Rattle.std.specs.Cmp.Lexicographic.{slice_cmp}
@@ -7,7 +7,6 @@ use Rattle.std.specs.Str.{bytes_eq}
 use Rattle.std.specs.Int.{from_le_bytes, w32, w64}
 use Rattle.ae_outside.specs.Image.{Image}
 use Rattle.ae_outside.specs.DiskNames.{is_disk_name}
-use Rattle.ae_outside.specs.State.{DiskState, reads, MayLeave}
 use Rattle.ae_vault.specs.declared.entry.Entry.{Entry}
 
 -- "gate" and "body"

@@ -1,9 +1,9 @@
-use Rattle.std.proofs.Common.{◌≡◌, ◌-◌, ◌+◌, Err, List, ap, sym, ◌∙◌, rules, arith}
+use Rattle.std.proofs.Common.{◌≡◌, ◌-◌, ◌+◌, Err, List, ap, sym, ◌∙◌, arith}
 use Rattle.std.proofs.lemmas.Result.{err_from_is_err_and}
 use Rattle.ae_vault.specs.declared.entry.Entry.{Entry}
 use Rattle.ae_vault.specs.declared.error.VaultError.TheVariants.{Damaged}
 use Rattle.ae_vault.specs.Vault.{entries_read}
-use Rattle.ae_vault.proofs.BodyText.{behind, read_one, read_none, read_end, read_more}
+use Rattle.ae_vault.proofs.BodyText.{behind, read_one, read_none}
 use Rattle.ae_vault.proofs.body.read_entries.Goals as goal
 
 pub returns-in_err-entry-clause-damaged : goal.returns-in_err-entry-clause-damaged

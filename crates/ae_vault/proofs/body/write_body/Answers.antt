@@ -1,4 +1,4 @@
-use Rattle.std.proofs.Common.{◌≡◌, ◌++◌, List, ℕ, length, take, flat_map, ap, sym, ◌∙◌, rules, arith, append_assoc}
+use Rattle.std.proofs.Common.{◌++◌, List, ℕ, length, take, flat_map, ap, sym, ◌∙◌, arith, append_assoc}
 use Rattle.std.specs.Int.{to_le_bytes, w32}
 use Rattle.ae_vault.specs.Body.{entry_bytes}
 use Rattle.ae_vault.proofs.BodyText.{written_one, fit_one}

@@ -1,4 +1,4 @@
-use Rattle.std.proofs.Common.{◌≡◌, ◌≤◌, ◌+◌, ℕ, [], length, subst, ap, sym, ◌∙◌, arith}
+use Rattle.std.proofs.Common.{◌≤◌, ◌+◌, ℕ, [], length, subst, arith}
 use Rattle.ae_outside.specs.State.{reads}
 use Rattle.ae_vault.specs.Packing.{IsExtended}
 use Rattle.ae_vault.specs.Pieces.{pack}

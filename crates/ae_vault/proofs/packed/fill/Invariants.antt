@@ -1,4 +1,4 @@
-use Rattle.std.proofs.Common.{◌≡◌, ◌≤◌, ◌-◌, [], length}
+use Rattle.std.proofs.Common.{◌≤◌, ◌-◌, []}
 use Rattle.ae_outside.specs.State.{reads, GoesOn}
 use Rattle.ae_vault.specs.Packing.{PackBegun, IsExtended}
 use Rattle.ae_vault.specs.Pieces.{pack}

@@ -1,4 +1,4 @@
-use Rattle.std.proofs.Common.{◌≡◌, ◌≤◌, ◌<◌, length, arith}
+use Rattle.std.proofs.Common.{◌≤◌, length, arith}
 use Rattle.ae_outside.specs.State.{reads}
 use Rattle.ae_vault.specs.Pieces.{pack}
 use Rattle.ae_vault.proofs.Packs.{piece_on, has_one_more}

@@ -1,6 +1,4 @@
 use Rattle.std.proofs.Common.{sym, ◌∙◌}
-use Rattle.ae_outside.specs.State.{reads}
-use Rattle.ae_vault.specs.Pieces.{pack}
 use Rattle.ae_vault.proofs.Packs.{packs_over, none_over, begun_behind, begun_before, no_items, some_items}
 use Rattle.ae_vault.proofs.packed.write_pieces.Goals as goal
 

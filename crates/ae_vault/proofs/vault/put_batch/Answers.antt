@@ -1,8 +1,8 @@
-use Rattle.std.proofs.Common.{◌≡◌, true, Some, List, ℕ, Result, Ok, Err, OnOk, subst}
+use Rattle.std.proofs.Common.{true, List, Result, Ok, Err, OnOk, subst}
 use Rattle.ae_vault.specs.declared.entry.Entry.{Entry}
 use Rattle.ae_outside.specs.Image.{Image}
 use Rattle.ae_outside.specs.State.{reads, MayLeave, GoesOn}
-use Rattle.ae_vault.specs.Vault.{gate, body, body_entries, all_entry_names}
+use Rattle.ae_vault.specs.Vault.{gate, body}
 use Rattle.ae_vault.specs.Commit.{IsAfter, SameOutside, HasEntries}
 use Rattle.ae_vault.proofs.Phases.{stable_as, stable_open}
 use Rattle.ae_vault.proofs.CommitPhases.{through1, through2, through3, through4, all4, read4}

@@ -1,4 +1,4 @@
-use Rattle.std.proofs.Common.{◌≡◌, sym, ◌∙◌, ap}
+use Rattle.std.proofs.Common.{sym, ◌∙◌, ap}
 use Rattle.ae_vault.specs.Batch.{BatchRecord}
 use Rattle.ae_vault.specs.Body.{body_of}
 use Rattle.ae_vault.proofs.BodyBack.{body_text}

@@ -1,11 +1,10 @@
-use Rattle.std.proofs.Common.{◌≡◌, ◌⊎◌, true, List, ap, sym, ◌∙◌, subst}
+use Rattle.std.proofs.Common.{◌≡◌, true, List, ap, sym, ◌∙◌, subst}
 use Rattle.ae_outside.specs.Image.{Image}
 use Rattle.ae_outside.specs.State.{reads, MayLeave, GoesOn}
 use Rattle.ae_outside.specs.Time.{continues_then}
 use Rattle.ae_vault.specs.declared.piece.Piece.{Piece}
 use Rattle.ae_vault.specs.Batch.{BatchRecord}
-use Rattle.ae_vault.specs.Commit.{IsAfter}
-use Rattle.ae_vault.specs.Pieces.{pack, no_entry_is_pack, HasPieces, PackedOver, IsAfterBatch}
+use Rattle.ae_vault.specs.Pieces.{pack, no_entry_is_pack, HasPieces, PackedOver}
 use Rattle.ae_vault.proofs.BatchPhases.{through_pieces, through_entries, all_after, read_after, one_read}
 use Rattle.ae_vault.proofs.Results.{on_ok_from}
 use Rattle.ae_vault.proofs.vault.Vault.commit.Goals as goal
