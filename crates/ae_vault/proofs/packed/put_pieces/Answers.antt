@@ -1,0 +1,22 @@
+use Rattle.std.proofs.Common.{◌≤◌, length, arith}
+use Rattle.ae_outside.specs.State.{reads}
+use Rattle.ae_vault.specs.Pieces.{pack}
+use Rattle.ae_vault.proofs.Packs.{piece_on, has_one_more}
+use Rattle.ae_vault.proofs.packed.put_pieces.Goals as goal
+
+pub returns-in_err-size-clause-change : goal.returns-in_err-size-clause-change
+returns-in_err-size-clause-change g c = λ t.
+    piece_on c.args.pieces.now c.loop-piece.piece-index c.piece-item.result c.loop-piece.size c.args.size _ _ _ (omega arith) c.piece-item.is c.loop-piece.invariant.no_shorter (c.loop-piece.invariant.change t) (c.put_piece.ensures.change t)
+
+pub loop-piece-preserved : goal.loop-piece-preserved
+loop-piece-preserved g c = record {
+  size = c.in_ok-size.ensures.size;
+  no_shorter = omega (arith, c.loop-piece.invariant.no_shorter, c.in_ok-size.ensures.no_shorter);
+  has = λ t.
+      let longer : c.loop-piece.size ≤ length (reads (g.D.Disk.state c.put_piece.new.disk) pack) = let is = c.in_ok-size.ensures.size t in omega (arith, is, c.in_ok-size.ensures.no_shorter) in
+      has_one_more c.args.pieces.now c.loop-piece.piece-index c.piece-item.result c.loop-piece.size (reads (g.D.Disk.state c.loop-piece.disk) pack) (reads (g.D.Disk.state c.put_piece.new.disk) pack)
+      (omega arith) c.piece-item.is c.requires.pieces (c.loop-piece.invariant.size t) longer (c.in_ok-size.ensures.same t) (c.loop-piece.invariant.has t) (c.in_ok-size.ensures.has t);
+  change = λ t.
+      piece_on c.args.pieces.now c.loop-piece.piece-index c.piece-item.result c.loop-piece.size c.args.size _ _ _ (omega arith) c.piece-item.is c.loop-piece.invariant.no_shorter (c.loop-piece.invariant.change t) (c.put_piece.ensures.change t);
+  faults = omega (arith, c.loop-piece.invariant.faults, c.put_piece.ensures.cause.later);
+}
