@@ -1,6 +1,7 @@
 // A site in memory: what its runs do, and which of its calls fail.
 use crate::{Content, Dir, Exit, MemRun, MemRunList, MemSite, Site};
 use ae_base::{ChangeNo, Delta, Path, PathList, Snapshot, SnapshotList, Text};
+use std::alloc::{AllocError, Global};
 use std::test::Fail;
 
 #[test]
@@ -38,13 +39,8 @@ fn a_run_writes_and_removes(rt: HostRuntime) -> Result<(), Fail> {
     Ok(())
 }
 
-#[test]
-fn a_run_is_listed_with_its_directory_before_and_after(rt: HostRuntime) -> Result<(), Fail> {
-    let alloc = rt.alloc();
-    let dir = &Dir::Here;
-    let kept = Path::read(alloc, b"kept")?.ok_or("a path")?;
-    let made = Path::read(alloc, b"made")?.ok_or("a path")?;
-    let gone = Path::read(alloc, b"gone")?.ok_or("a path")?;
+// A script of one run, which answers 3, writes `made`, and takes away `gone`.
+fn one_run(alloc: Global, made: &Path, gone: &Path) -> Result<MemRunList, AllocError> {
     let mut written = Snapshot::new(alloc);
     written.put(gone.copy(alloc)?, None)?;
     written.put(made.copy(alloc)?, Some(Text::of(b"2".to_vec(alloc)?)))?;
@@ -56,7 +52,22 @@ fn a_run_is_listed_with_its_directory_before_and_after(rt: HostRuntime) -> Resul
         writes: SnapshotList::of(writes),
         removes: PathList::of(Vec::new(alloc)),
     })?;
-    let mut site = MemSite::new(alloc, MemRunList::of(script), &[])?;
+    Ok(MemRunList::of(script))
+}
+
+// Whether the rows are two, of these paths.
+fn are_rows_of(rows: &[(Path, Option<Text>)], one: &Path, other: &Path) -> bool {
+    rows.len() == 2 && rows.iter().all(|row| row.0 == *one || row.0 == *other)
+}
+
+#[test]
+fn a_run_is_listed_with_its_directory_before_and_after(rt: HostRuntime) -> Result<(), Fail> {
+    let alloc = rt.alloc();
+    let dir = &Dir::Here;
+    let kept = Path::read(alloc, b"kept")?.ok_or("a path")?;
+    let made = Path::read(alloc, b"made")?.ok_or("a path")?;
+    let gone = Path::read(alloc, b"gone")?.ok_or("a path")?;
+    let mut site = MemSite::new(alloc, one_run(alloc, &made, &gone)?, &[])?;
     assert!(rt; site.write(*dir, &kept, b"1").is_ok());
     assert!(rt; site.write(*dir, &gone, b"").is_ok());
     assert!(rt;
@@ -68,20 +79,8 @@ fn a_run_is_listed_with_its_directory_before_and_after(rt: HostRuntime) -> Resul
     for run in site.runs().as_slice() {
         assert!(rt; run.command.bytes() == b"make all".as_slice());
         assert!(rt; run.exit == Exit::Code(3));
-        assert!(rt; run.before.as_slice().len() == 2);
-        assert!(rt;
-            run.before
-                .as_slice()
-                .iter()
-                .all(|row| row.0 == gone || row.0 == kept)
-        );
-        assert!(rt; run.after.as_slice().len() == 2);
-        assert!(rt;
-            run.after
-                .as_slice()
-                .iter()
-                .all(|row| row.0 == made || row.0 == kept)
-        );
+        assert!(rt; are_rows_of(run.before.as_slice(), &gone, &kept));
+        assert!(rt; are_rows_of(run.after.as_slice(), &made, &kept));
     }
     assert!(rt; site.runs().len() == 1);
     assert!(rt; matches!(site.read(alloc, *dir, &kept, 9), Ok(Content::Absent)));
