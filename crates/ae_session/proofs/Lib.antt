@@ -1,2 +1,3 @@
-pub mod Pieces
+pub mod Asking
 pub mod Endings
+pub mod Pieces

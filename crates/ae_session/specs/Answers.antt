@@ -1,5 +1,5 @@
 -- How a call ends, and what is written of it.
-use Rattle.std.specs.Prelude.{◌≡◌, ◌≢◌, ◌⊎◌, ℕ, List, [], ◌∷◌, ◌++◌, Option, Some, None, codes}
+use Rattle.std.specs.Prelude.{◌≡◌, ◌≢◌, ◌⊎◌, ℕ, List, [], ◌∷◌, ◌++◌, codes}
 use Rattle.std.specs.Fmt.{decimal}
 use Rattle.ae_base.specs.declared.outcome.Outcome.{Outcome}
 use Rattle.ae_base.specs.declared.outcome.Outcome.TheVariants.{Done, RunFailed, Refused, BadWords, BadScript, DiskFault, SiteFault, SinkFault, SourceFault, Damaged, Memory}
@@ -16,15 +16,16 @@ project_file = codes "project"
 abbrev pub files_file : List ℕ
 files_file = codes "files"
 
--- How a call may end, and the cause of each outcome: `bad` is the place of a bad word, `project` what the file of that
--- name held where the disk tells it, and the last two say that the disk's or the sink's count of faults rose.
-pub data EndsAs (bad : Option ℕ) (tells : Type 0) (project : List ℕ) (disk_rose sink_rose : Type 0) : Outcome → Type 0 where
-  bad_words : (place : ℕ) → bad ≡ Some place → EndsAs bad tells project disk_rose sink_rose (BadWords place)
-  exists : bad ≡ None → (tells → project ≢ []) → EndsAs bad tells project disk_rose sink_rose (Refused ProjectExists)
-  created : bad ≡ None → (tells → project ≡ []) → EndsAs bad tells project disk_rose sink_rose Done
-  disk_fault : bad ≡ None → disk_rose → EndsAs bad tells project disk_rose sink_rose DiskFault
-  sink_fault : sink_rose → EndsAs bad tells project disk_rose sink_rose SinkFault
-  memory : EndsAs bad tells project disk_rose sink_rose Memory
+-- How a call may end, and the cause of each outcome: `bad` are the places at which the call is bad, `asks` that it asks
+-- for a project, `project` is what the file of that name held where the disk tells it, and the last two say that the
+-- disk's or the sink's count of faults rose.
+pub data EndsAs (bad : ℕ → Type 0) (asks tells : Type 0) (project : List ℕ) (disk_rose sink_rose : Type 0) : Outcome → Type 0 where
+  bad_words : (place : ℕ) → bad place → EndsAs bad asks tells project disk_rose sink_rose (BadWords place)
+  exists : asks → (tells → project ≢ []) → EndsAs bad asks tells project disk_rose sink_rose (Refused ProjectExists)
+  created : asks → (tells → project ≡ []) → EndsAs bad asks tells project disk_rose sink_rose Done
+  disk_fault : asks → disk_rose → EndsAs bad asks tells project disk_rose sink_rose DiskFault
+  sink_fault : sink_rose → EndsAs bad asks tells project disk_rose sink_rose SinkFault
+  memory : EndsAs bad asks tells project disk_rose sink_rose Memory
 
 abbrev pub created_text : List ℕ → List ℕ
 created_text name = codes "aegis: project \"" ++ (name ++ (codes "\": created" ++ 10 ∷ []))
@@ -38,19 +39,19 @@ disk_fault_text = codes "aegis: disk fault" ++ 10 ∷ []
 abbrev pub memory_text : List ℕ
 memory_text = codes "aegis: out of memory" ++ 10 ∷ []
 
--- what is written of an outcome, for a project of this name
-abbrev pub message_for : List ℕ → Outcome → List ℕ
-message_for name Done = created_text name
-message_for name (Refused refusal) = message_of refusal
-message_for name (BadWords place) = bad_words_text place
-message_for name DiskFault = disk_fault_text
-message_for name Memory = memory_text
-message_for name RunFailed = []
-message_for name (BadScript line) = []
-message_for name SiteFault = []
-message_for name SinkFault = []
-message_for name SourceFault = []
-message_for name (Damaged file) = []
+-- what is written of an outcome: of a project that was made by its name, which the words say
+abbrev pub IsMessage : (List ℕ → Type 0) → Outcome → List ℕ → Type 0
+IsMessage made Done text = (name : List ℕ) × made name × (text ≡ created_text name)
+IsMessage made (Refused refusal) text = text ≡ message_of refusal
+IsMessage made (BadWords place) text = text ≡ bad_words_text place
+IsMessage made DiskFault text = text ≡ disk_fault_text
+IsMessage made Memory text = text ≡ memory_text
+IsMessage made RunFailed text = text ≡ []
+IsMessage made (BadScript line) text = text ≡ []
+IsMessage made SiteFault text = text ≡ []
+IsMessage made SinkFault text = text ≡ []
+IsMessage made SourceFault text = text ≡ []
+IsMessage made (Damaged file) text = text ≡ []
 
 -- the two files of a new project of this name, made by this user
 pub record HoldsProject (name who : List ℕ) (image : Image) : Type 0 where
@@ -95,7 +96,9 @@ IsSaid message (Damaged file) old new faults faults_new = IsTried message old ne
 IsSaid message Memory old new faults faults_new = IsTried message old new faults faults_new
 
 -- The outcome's own message is written, and at a sink's fault a part of the message of the outcome that was meant.
-pub record Says (name : List ℕ) (result : Outcome) (old new : List ℕ) (faults faults_new : ℕ) : Type 0 where
+pub record Says (made : List ℕ → Type 0) (result : Outcome) (old new : List ℕ) (faults faults_new : ℕ) : Type 0 where
   pub meant : Outcome
   pub is : (result ≡ meant) ⊎ (result ≡ SinkFault)
-  pub said : IsSaid (message_for name meant) result old new faults faults_new
+  pub text : List ℕ
+  pub message : IsMessage made meant text
+  pub said : IsSaid text result old new faults faults_new

@@ -3,7 +3,7 @@ ghost use Rattle.std.specs.Prelude.{◌≡◌, ◌≤◌, ◌⊎◌, ◌++◌, �
 ghost use Rattle.ae_base.specs.Refusals.{message_of};
 ghost use Rattle.ae_outside.specs.Causes.{HasRisen, HasCause};
 ghost use Rattle.ae_outside.specs.Streams.{TakesPrefix};
-ghost use Rattle.ae_session.specs.Answers.{message_for, bad_words_text, created_text, IsSaid};
+ghost use Rattle.ae_session.specs.Answers.{IsMessage, bad_words_text, created_text, IsSaid};
 
 use crate::request::Request;
 use ae_base::{Outcome, Refusal};
@@ -113,7 +113,7 @@ fn untold(outcome: Outcome) -> Outcome
 /// The words are bad at this place.
 pub fn bad_words(alloc: Global, place: u32) -> Reply
     ensures outcome { (result.outcome ≡ Outcome.BadWords place) ⊎ (result.outcome ≡ Outcome.Memory) }
-    ensures text { (name : List ℕ) → reply_text result.outcome result.text.items ≡ message_for name result.outcome }
+    ensures text { IsMessage (λ name. ⊥) result.outcome (reply_text result.outcome result.text.items) }
 {
     match not_understood(alloc, place) {
         Ok(text) => Reply::of(Outcome::BadWords(place), text),
@@ -124,7 +124,7 @@ pub fn bad_words(alloc: Global, place: u32) -> Reply
 /// The command is refused.
 pub fn refused(alloc: Global, refusal: Refusal) -> Reply
     ensures outcome { (result.outcome ≡ Outcome.Refused refusal) ⊎ (result.outcome ≡ Outcome.Memory) }
-    ensures text { (name : List ℕ) → reply_text result.outcome result.text.items ≡ message_for name result.outcome }
+    ensures text { IsMessage (λ name. ⊥) result.outcome (reply_text result.outcome result.text.items) }
 {
     match refusal.message(alloc) {
         Ok(text) => Reply::of(Outcome::Refused(refusal), text),

@@ -1,9 +1,10 @@
 // What the words of a call ask for.
-ghost use Rattle.std.specs.Prelude.{◌≡◌, ℕ, Some, None, map, IfOk, IsErrOf, string_bytes};
-ghost use Rattle.ae_session.specs.Request.{asked_name, bad_place};
+ghost use Rattle.std.specs.Prelude.{◌≡◌, ℕ, map, IfOk, IsErrOf, string_bytes};
+ghost use Rattle.ae_session.specs.Request.{project_made, AsksFor, BadAt, NeverBoth};
 ghost use Rattle.ae_session.specs.declared.request.RequestError.TheVariants.{Memory};
 
 use ae_base::{ProjectName, User};
+use ae_words::{Command, Function, WordsError, read_words};
 use std::alloc::{AllocError, Global};
 
 /// The last second of the year 2099.
@@ -31,14 +32,14 @@ impl From<AllocError> for RequestError {
     }
 }
 
-fn read_name(alloc: Global, words: &[String]) -> Result<Option<ProjectName>, AllocError>
-    ensures { IfOk result (λ name. name ≡ asked_name (map string_bytes words.now)) }
+// The name of the project that the command makes. The commands that aren't there yet make none.
+fn project_made(command: Command) -> Option<ProjectName>
+    ensures { result ≡ project_made command }
 {
-    match words {
-        [function, name] if function.as_bytes() == b"-npr".as_slice() => {
-            ProjectName::read(alloc, name.as_bytes())
-        }
-        _ => Ok(None),
+    if command.function == Function::NewProject && command.attributes.is_none() {
+        command.name
+    } else {
+        None
     }
 }
 
@@ -49,10 +50,9 @@ pub fn read_request(
     who: &str,
     now: u64,
 ) -> Result<Request, RequestError>
-    ensures good { IfOk result (λ request. bad_place (map string_bytes words.now) who.now now ≡ None) }
-    ensures name { IfOk result (λ request. asked_name (map string_bytes words.now) ≡ Some request.name) }
+    ensures asks { IfOk result (λ request. AsksFor (map string_bytes words.now) who.now now request.name) }
     ensures who { IfOk result (λ request. request.who ≡ who.now) }
-    ensures bad { (place : ℕ) → IsErrOf result (RequestError.Bad place) → bad_place (map string_bytes words.now) who.now now ≡ Some place }
+    ensures bad { (place : ℕ) → IsErrOf result (RequestError.Bad place) → BadAt (map string_bytes words.now) who.now now place }
 {
     let Some(who) = User::read(alloc, who.as_bytes())? else {
         return Err(RequestError::Bad(0));
@@ -60,8 +60,18 @@ pub fn read_request(
     if now > LAST_MOMENT {
         return Err(RequestError::Bad(0));
     }
-    match read_name(alloc, words)? {
+    let command = match read_words(alloc, words) {
+        Ok(command) => command,
+        Err(WordsError::Bad(place)) => return Err(RequestError::Bad(place)),
+        Err(WordsError::Memory) => return Err(RequestError::Memory),
+    };
+    match project_made(command) {
         Some(name) => Ok(Request { name, who }),
         None => Err(RequestError::Bad(1)),
     }
 }
+
+/// A law: no call both asks for a project and is bad.
+pub fn asks_or_is_bad()
+    ensures { NeverBoth }
+{}

@@ -1,10 +1,10 @@
 // One command, from its words to the disk and the reply.
-ghost use Rattle.std.specs.Prelude.{◌≡◌, ◌≢◌, ◌≤◌, [], None, IsSome, map, string_bytes};
+ghost use Rattle.std.specs.Prelude.{◌≡◌, ◌≢◌, ◌≤◌, ℕ, List, [], map, string_bytes};
 ghost use Rattle.ae_outside.specs.Causes.{HasRisen};
 ghost use Rattle.ae_outside.specs.Image.{IsSame};
 ghost use Rattle.ae_outside.specs.State.{reads, GoesOn};
-ghost use Rattle.ae_session.specs.Request.{bad_place, name_in};
-ghost use Rattle.ae_session.specs.Answers.{EndsAs, Says, HoldsProject, OthersSame, project_file, message_for};
+ghost use Rattle.ae_session.specs.Request.{Make, AsksFor, Asks, BadAt};
+ghost use Rattle.ae_session.specs.Answers.{EndsAs, Says, HoldsProject, OthersSame, project_file, IsMessage};
 ghost use Rattle.ae_session.specs.Replies.{reply_text};
 
 use crate::reply::{Reply, bad_words, refused};
@@ -15,7 +15,8 @@ use ae_outside::{Disk, Sink, Site, Source};
 use std::alloc::Global;
 
 /// Does all that the program does: one command, by its words. `who` is the user's name, `now` the moment in seconds since
-/// 1970. The reply and every message go to `err`. For now the one command is `-npr NAME`, which makes the project.
+/// 1970. The reply and every message go to `err`. For now the one command is `New_PRoject NAME`, which makes the project;
+/// each other command isn't there yet, and is bad at its first word.
 pub fn aegis<D: Disk, S: Site, I: Source, O: Sink, E: Sink>(
     alloc: Global,
     words: &[String],
@@ -28,17 +29,17 @@ pub fn aegis<D: Disk, S: Site, I: Source, O: Sink, E: Sink>(
     err: &mut E,
 ) -> Outcome
     // How the call ends, each outcome with its cause.
-    ensures ends { EndsAs (bad_place (map string_bytes words.now) who.now now) D.tells (reads (D.state disk.old) project_file) (HasRisen (D.faults disk.old) (D.faults disk.new)) (HasRisen (E.faults err.old) (E.faults err.new)) result }
-    ensures said { E.tells → Says (name_in (map string_bytes words.now)) result (E.taken err.old) (E.taken err.new) (E.faults err.old) (E.faults err.new) }
+    ensures ends { EndsAs (BadAt (map string_bytes words.now) who.now now) (Asks (map string_bytes words.now) who.now now) D.tells (reads (D.state disk.old) project_file) (HasRisen (D.faults disk.old) (D.faults disk.new)) (HasRisen (E.faults err.old) (E.faults err.new)) result }
+    ensures said { E.tells → Says (Make (map string_bytes words.now)) result (E.taken err.old) (E.taken err.new) (E.faults err.old) (E.faults err.new) }
 
     // The disk isn't called where the words are bad, and is as before where there is a project or memory is wanting.
-    ensures not_called { IsSome (bad_place (map string_bytes words.now) who.now now) → disk.new ≡ disk.old }
+    ensures not_called { (place : ℕ) → BadAt (map string_bytes words.now) who.now now place → disk.new ≡ disk.old }
     ensures kept { D.tells → reads (D.state disk.old) project_file ≢ [] → GoesOn IsSame (D.state disk.old) (D.state disk.new) }
     ensures memory { result ≡ Outcome.Memory → D.tells → GoesOn IsSame (D.state disk.old) (D.state disk.new) }
 
     // The project is made whole, also where only the reply couldn't be written.
-    ensures made { result ≡ Outcome.Done → D.tells → HoldsProject (name_in (map string_bytes words.now)) who.now (reads (D.state disk.new)) }
-    ensures made_untold { result ≡ Outcome.SinkFault → D.tells → bad_place (map string_bytes words.now) who.now now ≡ None → reads (D.state disk.old) project_file ≡ [] → HoldsProject (name_in (map string_bytes words.now)) who.now (reads (D.state disk.new)) }
+    ensures made { result ≡ Outcome.Done → D.tells → (name : List ℕ) → AsksFor (map string_bytes words.now) who.now now name → HoldsProject name who.now (reads (D.state disk.new)) }
+    ensures made_untold { result ≡ Outcome.SinkFault → D.tells → (name : List ℕ) → AsksFor (map string_bytes words.now) who.now now name → reads (D.state disk.old) project_file ≡ [] → HoldsProject name who.now (reads (D.state disk.new)) }
     ensures others { D.tells → OthersSame (reads (D.state disk.old)) (reads (D.state disk.new)) }
 
     ensures site { site.new ≡ site.old }
@@ -53,10 +54,10 @@ pub fn aegis<D: Disk, S: Site, I: Source, O: Sink, E: Sink>(
 
 // What is to be told, with the project made where the words ask for it.
 fn decide<D: Disk>(alloc: Global, words: &[String], who: &str, now: u64, disk: &mut D) -> Reply
-    ensures ends { EndsAs (bad_place (map string_bytes words.now) who.now now) D.tells (reads (D.state disk.old) project_file) (HasRisen (D.faults disk.old) (D.faults disk.new)) ⊥ result.outcome }
-    ensures text { reply_text result.outcome result.text.items ≡ message_for (name_in (map string_bytes words.now)) result.outcome }
-    ensures not_called { IsSome (bad_place (map string_bytes words.now) who.now now) → disk.new ≡ disk.old }
-    ensures made { result.outcome ≡ Outcome.Done → D.tells → HoldsProject (name_in (map string_bytes words.now)) who.now (reads (D.state disk.new)) }
+    ensures ends { EndsAs (BadAt (map string_bytes words.now) who.now now) (Asks (map string_bytes words.now) who.now now) D.tells (reads (D.state disk.old) project_file) (HasRisen (D.faults disk.old) (D.faults disk.new)) ⊥ result.outcome }
+    ensures text { IsMessage (Make (map string_bytes words.now)) result.outcome (reply_text result.outcome result.text.items) }
+    ensures not_called { (place : ℕ) → BadAt (map string_bytes words.now) who.now now place → disk.new ≡ disk.old }
+    ensures made { result.outcome ≡ Outcome.Done → D.tells → (name : List ℕ) → AsksFor (map string_bytes words.now) who.now now name → HoldsProject name who.now (reads (D.state disk.new)) }
     ensures memory { result.outcome ≡ Outcome.Memory → D.tells → GoesOn IsSame (D.state disk.old) (D.state disk.new) }
     ensures kept { D.tells → reads (D.state disk.old) project_file ≢ [] → GoesOn IsSame (D.state disk.old) (D.state disk.new) }
     ensures others { D.tells → OthersSame (reads (D.state disk.old)) (reads (D.state disk.new)) }
@@ -71,8 +72,8 @@ fn decide<D: Disk>(alloc: Global, words: &[String], who: &str, now: u64, disk: &
 
 // Makes the project, and answers what is to be told.
 fn new_project<D: Disk>(alloc: Global, request: &Request, disk: &mut D) -> Reply
-    ensures ends { EndsAs None D.tells (reads (D.state disk.old) project_file) (HasRisen (D.faults disk.old) (D.faults disk.new)) ⊥ result.outcome }
-    ensures text { reply_text result.outcome result.text.items ≡ message_for request.now.name result.outcome }
+    ensures ends { EndsAs (λ place. ⊥) (Unit {0}) D.tells (reads (D.state disk.old) project_file) (HasRisen (D.faults disk.old) (D.faults disk.new)) ⊥ result.outcome }
+    ensures text { IsMessage (λ name. name ≡ request.now.name) result.outcome (reply_text result.outcome result.text.items) }
     ensures made { result.outcome ≡ Outcome.Done → D.tells → HoldsProject request.now.name request.now.who (reads (D.state disk.new)) }
     ensures memory { result.outcome ≡ Outcome.Memory → D.tells → GoesOn IsSame (D.state disk.old) (D.state disk.new) }
     ensures kept { D.tells → reads (D.state disk.old) project_file ≢ [] → GoesOn IsSame (D.state disk.old) (D.state disk.new) }

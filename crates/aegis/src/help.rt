@@ -6,7 +6,7 @@ const VERSION: &str = "aegis 0.1.0\n";
 
 const HELP: &str = "\
 usage: aegis -FUNCTION WORD..
-Capitals must be typed; small letters may be left out from the right; `_` may be `-` or nothing.
+Capitals must be typed; small letters may be left out from the right; `_` may be `-` or nothing; case doesn't matter.
 
   -New_PRoject NAME [-File PATH]
   -New_Administrator USER..
@@ -23,16 +23,7 @@ Capitals must be typed; small letters may be left out from the right; `_` may be
   -New_Change_Undo -Change N
   -Develop_Begin -Change N
   -Develop_Begin_Undo -Change N
-  -CoPy_file -Change N PATH.. [-DELta N] [-OverWriting]
-  -CoPy_file_Undo -Change N PATH..
-  -New_File -Change N PATH..
-  -New_File_Undo -Change N PATH..
-  -New_Test -Change N PATH..
-  -New_Test_Undo -Change N PATH..
-  -ReMove_file -Change N PATH..
-  -ReMove_file_Undo -Change N PATH..
   -Build -Change N
-  -Test -Change N [-BaseLine | -REGression]
   -Develop_End -Change N
   -Develop_End_Undo -Change N
   -Review_Begin -Change N
@@ -44,12 +35,37 @@ Capitals must be typed; small letters may be left out from the right; `_` may be
   -Integrate_Begin_Undo -Change N
   -Integrate_PASS -Change N
   -Integrate_FAIL -Change N
+  -CoPy_file -Change N PATH.. [-DELta N] [-OverWriting]
+  -CoPy_file_Undo -Change N PATH..
+  -New_File -Change N PATH..
+  -New_File_Undo -Change N PATH..
+  -New_Test -Change N PATH..
+  -New_Test_Undo -Change N PATH..
+  -ReMove_file -Change N PATH..
+  -ReMove_file_Undo -Change N PATH..
+  -Test -Change N [-BaseLine | -REGression]
   -List LISTING [-Change N]
   -SCRipt
   -GENerate START CHANGES FILES
 
+With every function but the first and the last two, `-Project NAME` may be given. The listings:
+
+  Administrators
+  Developers
+  Reviewers
+  Integrators
+  Project_Changes
+  Project_Details
+  Project_Files
+  Project_HIstory
+  Change_Details -Change N
+  Change_Files -Change N
+  Change_History -Change N
+  Change_Evidence -Change N
+  Locks
+
 docs/COMMANDS.md says more.
-By now only `-npr NAME` is there.
+By now only `-New_PRoject NAME` is there.
 ";
 
 /// What `--help` alone and `--version` alone print, and `None` at other words.
@@ -66,8 +82,68 @@ pub fn shown(words: &[String]) -> Option<&'static str>
 #[cfg(test)]
 mod tests {
     use super::*;
-    use std::alloc::AllocError;
+    use ae_words::{Function, Listing, Row};
+    use std::alloc::{AllocError, Global};
     use std::test::*;
+
+    // What the help shows behind a function's pattern.
+    fn words_of(row: Row) -> &'static str {
+        match row {
+            Row::NewProject => " NAME [-File PATH]",
+            Row::Users => " USER..",
+            Row::Attributes => " -File PATH",
+            Row::ChangeAttributes => " -Change N -File PATH",
+            Row::Change => " -Change N",
+            Row::Copy => " -Change N PATH.. [-DELta N] [-OverWriting]",
+            Row::Paths | Row::NewTest => " -Change N PATH..",
+            Row::Test => " -Change N [-BaseLine | -REGression]",
+            Row::Listing => " LISTING [-Change N]",
+            Row::Nothing => "",
+            Row::Numbers => " START CHANGES FILES",
+        }
+    }
+
+    // The line of a function.
+    fn line_of(alloc: Global, function: Function) -> Result<String, AllocError> {
+        let pattern = function.pattern();
+        let words = words_of(function.row());
+        format!(in alloc; "  -{pattern}{words}")
+    }
+
+    // The line of a listing.
+    fn line_of_listing(alloc: Global, listing: Listing) -> Result<String, AllocError> {
+        let pattern = listing.pattern();
+        let words = if listing.is_of_change() {
+            " -Change N"
+        } else {
+            ""
+        };
+        format!(in alloc; "  {pattern}{words}")
+    }
+
+    #[test]
+    fn help_lists_the_table_of_functions(rt: HostRuntime) -> Result<(), Fail> {
+        let mut lines = HELP.lines().filter(|line| line.starts_with("  -"));
+        for function in Function::ALL {
+            let line = line_of(rt.alloc(), function)?;
+            assert_eq!(rt; lines.next(), Some(line.as_str()));
+        }
+        assert_eq!(rt; lines.next(), None);
+        Ok(())
+    }
+
+    #[test]
+    fn help_lists_the_table_of_listings(rt: HostRuntime) -> Result<(), Fail> {
+        let mut lines = HELP
+            .lines()
+            .filter(|line| line.starts_with("  ") && !line.starts_with("  -"));
+        for listing in Listing::ALL {
+            let line = line_of_listing(rt.alloc(), listing)?;
+            assert_eq!(rt; lines.next(), Some(line.as_str()));
+        }
+        assert_eq!(rt; lines.next(), None);
+        Ok(())
+    }
 
     #[test]
     fn help_and_version_stand_alone(rt: HostRuntime) -> Result<(), Fail> {
@@ -75,12 +151,7 @@ mod tests {
         let version = vec![in alloc; "--version".to_string(alloc)?]?;
         assert_eq!(rt; shown(version.as_slice()), Some("aegis 0.1.0\n"));
         let help = vec![in alloc; "--help".to_string(alloc)?]?;
-        let text = shown(help.as_slice()).ok_or("it is shown")?;
-        assert!(rt; text.starts_with("usage: "));
-        assert_eq!(rt;
-            text.lines().filter(|line| line.starts_with("  -")).count(),
-            39
-        );
+        assert_eq!(rt; shown(help.as_slice()), Some(HELP));
         let more = vec![in alloc; "--help".to_string(alloc)?, "-npr".to_string(alloc)?]?;
         assert_eq!(rt; shown(more.as_slice()), None);
         assert_eq!(rt; shown(&[]), None);

@@ -1,15 +1,29 @@
-use Rattle.std.proofs.Common.{◌≡◌, ℕ, List, [], Option, unwrap_or, map, string_bytes, inl, inr, sym, ap, subst, Err}
+use Rattle.std.proofs.Common.{◌≡◌, ℕ, List, map, string_bytes, inl, inr, sym, ap, subst, Err}
 use Rattle.ae_outside.specs.State.{reads}
-use Rattle.ae_session.specs.Request.{name_in}
+use Rattle.ae_session.specs.Request.{Make}
 use Rattle.ae_session.specs.Answers.{bad_words, memory, HoldsProject}
+use Rattle.ae_session.proofs.Asking.{asks_once, asks_or_bad}
+use Rattle.ae_session.proofs.Endings.{ends_for, message_on}
 use Rattle.ae_session.proofs.session.decide.Goals as goal
 
+pub returns-in-Ok-clause-ends : goal.returns-in-Ok-clause-ends
+returns-in-Ok-clause-ends g c = ends_for _ _ _ _ _ _ (c.in-Ok.request.name, c.in-Ok.ensures.asks) c.new_project.ensures.ends
+
+pub returns-in-Ok-clause-text : goal.returns-in-Ok-clause-text
+returns-in-Ok-clause-text g c = message_on _ _ _ _ (λ name is. subst (λ (n : List ℕ). Make (map string_bytes c.args.words.now) n) (sym is) c.in-Ok.ensures.asks.makes) c.new_project.ensures.text
+
+pub returns-in-Ok-clause-not_called : goal.returns-in-Ok-clause-not_called
+returns-in-Ok-clause-not_called g c = λ place bad. absurd (asks_or_bad _ _ _ _ place c.in-Ok.ensures.asks bad)
+
 pub returns-in-Ok-clause-made : goal.returns-in-Ok-clause-made
-returns-in-Ok-clause-made g c = λ done tells.
-    let named : name_in (map string_bytes c.args.words.now) ≡ c.in-Ok.request.name = ap (λ (o : Option (List ℕ)). unwrap_or o []) c.in-Ok.ensures.name in
+returns-in-Ok-clause-made g c = λ done tells name asks.
+    let named : c.in-Ok.request.name ≡ name = asks_once _ _ _ _ _ c.in-Ok.ensures.asks asks in
     let image = reads (g.D.Disk.state c.new_project.new.disk) in
-    subst (λ (n : List ℕ). HoldsProject n c.args.who.now image) (sym named)
+    subst (λ (n : List ℕ). HoldsProject n c.args.who.now image) named
     (subst (λ (w : List ℕ). HoldsProject c.in-Ok.request.name w image) c.in-Ok.ensures.who (c.new_project.ensures.made done tells))
+
+pub returns-in-Err-Bad-clause-text : goal.returns-in-Err-Bad-clause-text
+returns-in-Err-Bad-clause-text g c = message_on _ _ _ _ (λ name none. absurd none) c.bad_words.ensures.text
 
 pub returns-in-Err-Bad-clause-ends : goal.returns-in-Err-Bad-clause-ends
 returns-in-Err-Bad-clause-ends g c = elim c.bad_words.ensures.outcome [
