@@ -29,19 +29,19 @@ option_place : (b : Bool) (at v_at : ℕ) (o : Option Command) (p : ℕ) → con
 option_place true at v_at o p e = inr (or_bad_place v_at o p e)
 option_place false at v_at o p e = inl cc
 
-in_option : (l : Option Listing) (c : Command) (at : ℕ) (o : Setting) (v_at : ℕ) (v : List ℕ) (p : ℕ) → step l c (an_option at o v_at v) ≡ Err p → (p ≡ at) ⊎ (p ≡ v_at)
+pub in_option : (l : Option Listing) (c : Command) (at : ℕ) (o : Setting) (v_at : ℕ) (v : List ℕ) (p : ℕ) → step l c (an_option at o v_at v) ≡ Err p → (p ≡ at) ⊎ (p ≡ v_at)
 unfolding step
 in_option l c at o v_at v p e = option_place (may_come l c o) at v_at (with_value o c v) p e
 
-in_plain : (l : Option Listing) (c : Command) (at : ℕ) (w : List ℕ) (p : ℕ) → step l c (a_plain at w) ≡ Err p → p ≡ at
+pub in_plain : (l : Option Listing) (c : Command) (at : ℕ) (w : List ℕ) (p : ℕ) → step l c (a_plain at w) ≡ Err p → p ≡ at
 unfolding step
 in_plain l c at w p e = or_bad_place at _ p e
 
-in_flag : (l : Option Listing) (c : Command) (at : ℕ) (o : Setting) (p : ℕ) → step l c (a_flag at o) ≡ Err p → p ≡ at
+pub in_flag : (l : Option Listing) (c : Command) (at : ℕ) (o : Setting) (p : ℕ) → step l c (a_flag at o) ≡ Err p → p ≡ at
 unfolding step
 in_flag l c at o p e = flag_place (may_come l c o) (with_flag o c) at p e
 
-in_wrong : (l : Option Listing) (c : Command) (at p : ℕ) → step l c (a_wrong at) ≡ Err p → p ≡ at
+pub in_wrong : (l : Option Listing) (c : Command) (at p : ℕ) → step l c (a_wrong at) ≡ Err p → p ≡ at
 unfolding step
 in_wrong l c at p e = cc
 

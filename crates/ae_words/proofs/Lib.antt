@@ -2,5 +2,6 @@ pub mod Apart
 pub mod FirstBad
 pub mod Formed
 pub mod KindsRead
+pub mod OneAnswer
 pub mod PathMore
 pub mod Rule

@@ -1,5 +1,5 @@
 -- What the reader answers.
-use Rattle.std.specs.Prelude.{ℕ, ◌≡◌, List, Result, Ok, Err, if◌then◌else◌, nat_le}
+use Rattle.std.specs.Prelude.{ℕ, ◌≡◌, ◌≤◌, ◌+◌, List, length, Result, Ok, Err, if◌then◌else◌, nat_le}
 use Rattle.ae_words.specs.Grammar.{IsCommand, IsFirstBad}
 use Rattle.ae_words.specs.declared.command.Command.{Command}
 use Rattle.ae_words.specs.declared.read.WordsError.{WordsError}
@@ -20,3 +20,19 @@ abbrev pub IsReadAs : Command → Result Command WordsError → Type 0
 IsReadAs c (Ok d) = d ≡ c
 IsReadAs c (Err (error.Bad p)) = ⊥
 IsReadAs c (Err error.Memory) = Unit {0}
+
+-- words are at most one command
+abbrev pub OneCommand : Type 0
+OneCommand = (words : List (List ℕ)) (c d : Command) → IsCommand words c → IsCommand words d → c ≡ d
+
+-- words have at most one first bad place
+abbrev pub OnePlace : Type 0
+OnePlace = (words : List (List ℕ)) (p q : ℕ) → IsFirstBad words p → IsFirstBad words q → p ≡ q
+
+-- the words of a command have none
+abbrev pub NeverBoth : Type 0
+NeverBoth = (words : List (List ℕ)) (c : Command) (place : ℕ) → IsCommand words c → IsFirstBad words place → ⊥
+
+-- it is at most one past the last
+abbrev pub PlaceWithin : Type 0
+PlaceWithin = (words : List (List ℕ)) (place : ℕ) → IsFirstBad words place → place ≤ length words + 1

@@ -10,7 +10,7 @@ mod table;
 
 pub use command::Command;
 pub use numbers::NumberList;
-pub use read::{WordsError, read_words};
+pub use read::{WordsError, read_words, words_have_one_answer};
 pub use spelling::matches_option;
 pub use table::{Function, Listing, Row, Setting};
 

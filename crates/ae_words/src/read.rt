@@ -1,7 +1,7 @@
 // Reading the words of a command.
 ghost use Rattle.std.specs.Prelude.{◌≡◌, ◌+◌, ◌<◌, ◌∷◌, map, length, string_bytes, IfOk};
 ghost use Rattle.ae_words.specs.Formed.{IsFormed};
-ghost use Rattle.ae_words.specs.Answer.{IsAnswer, IsReadAs, told};
+ghost use Rattle.ae_words.specs.Answer.{IsAnswer, IsReadAs, OneCommand, OnePlace, NeverBoth, PlaceWithin, told};
 ghost use Rattle.ae_words.specs.Grammar.{IsCommand};
 
 use crate::command::{Command, Stop, said};
@@ -60,3 +60,12 @@ pub fn read_words(alloc: Global, words: &[String]) -> Result<Command, WordsError
         [first, behind @ ..] => read_function(alloc, first.as_bytes(), behind),
     }
 }
+
+/// Laws: words are at most one command, have at most one first bad place, never both, and that place is at most one past
+/// the last word.
+pub fn words_have_one_answer()
+    ensures command { OneCommand }
+    ensures place { OnePlace }
+    ensures never_both { NeverBoth }
+    ensures within { PlaceWithin }
+{}
