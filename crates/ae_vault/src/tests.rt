@@ -240,6 +240,20 @@ fn however_opened(
 }
 
 #[test]
+fn the_packed_file_is_filled_with_zero_bytes_up_to_a_piece(rt: HostRuntime) -> Result<(), Fail> {
+    let alloc = rt.alloc();
+    let mut disk = MemDisk::new(alloc, &[])?;
+    Vault::open(alloc, &mut disk)?;
+    let pieces = vec![in alloc; unit(alloc, 640, b'a')?]?;
+    put_pieces(&rt, alloc, &mut disk, "old", pieces)?;
+    for at in [0, 64, 448, 512, 576] {
+        assert!(rt; has_unit(alloc, &mut disk, at, 0)?);
+    }
+    assert!(rt; has_unit(alloc, &mut disk, 640, b'a')?);
+    Ok(())
+}
+
+#[test]
 fn every_stop_with_pieces_leaves_the_files_before_or_after(rt: HostRuntime) -> Result<(), Fail> {
     let alloc = rt.alloc();
     let disk = with_pieces(&rt, alloc)?;

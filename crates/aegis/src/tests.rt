@@ -1,10 +1,12 @@
 // The disk and the directories over real files, each test in a folder of its own.
 use crate::disk::RealDisk;
 use crate::site::RealSite;
-use ae_base::{ChangeNo, Delta, Path};
+use ae_base::{ChangeNo, Delta, Path, Text};
 use ae_outside::{Content, Dir, Disk, Exit, Failed, Site};
+use ae_vault::{Batch, Entry, EntryList, PieceList, Vault, are_entries, no_entry_is_pack};
 use std::alloc::Global;
 use std::os::unix::fs::symlink;
+use std::process::Abort;
 use std::test::*;
 use std::{env, fs, process};
 
@@ -249,5 +251,59 @@ fn the_site_runs_commands(rt: HostRuntime) -> Result<(), Fail> {
     assert!(rt; fs::exists(&rt, "aegis.d/integrate.1/made")?);
     assert_eq!(rt; site.clear(there), Ok(()));
     assert!(rt; !fs::exists(&rt, "aegis.d/integrate.1/made")?);
+    leave(&rt, folder)
+}
+
+fn entry(alloc: Global, name: &str, bytes: &str) -> Result<Entry, Fail> {
+    Ok(Entry {
+        name: Text::of(Vec::from_slice(alloc, name.as_bytes())?),
+        bytes: Some(Text::of(Vec::from_slice(alloc, bytes.as_bytes())?)),
+    })
+}
+
+// A batch that puts these texts into two files.
+fn two_files(rt: &impl Abort, alloc: Global, change: &str, project: &str) -> Result<Batch, Fail> {
+    let first = entry(alloc, "change.10", change)?;
+    let second = entry(alloc, "project", project)?;
+    let entries = vec![in alloc; first, second]?;
+    assert!(rt; are_entries(entries.as_slice()));
+    assert!(rt; no_entry_is_pack(entries.as_slice()));
+    assert!(rt; entries.len() < 10);
+    Ok(Vault::prepare(alloc, EntryList::of(entries), PieceList::new(alloc))?)
+}
+
+// Whether the two files hold these texts, as the vault and the file system have them.
+fn are_two_files(
+    rt: &HostRuntime,
+    disk: &mut TheDisk<'_>,
+    change: &str,
+    project: &str,
+) -> Result<bool, Fail> {
+    let first = Vault::get(rt.alloc(), disk, "change.10")?;
+    let second = fs::read(rt, "aegis.d/store/project")?;
+    Ok(first.as_slice() == change.as_bytes() && second.as_slice() == project.as_bytes())
+}
+
+// What a stop right behind the gate's opening leaves.
+fn stop_behind_the_gate(disk: &mut TheDisk<'_>, batch: &Batch) -> Result<(), Failed> {
+    disk.write_at("body", 0, batch.body())?;
+    disk.cut("body", batch.body().len() as u64)?;
+    disk.sync("body")?;
+    disk.write_at("gate", 0, &[1])?;
+    disk.sync("gate")
+}
+
+#[test]
+fn the_vault_commits_and_recovers_real_files(rt: HostRuntime) -> Result<(), Fail> {
+    let alloc = rt.alloc();
+    let folder = enter(&rt, "vault")?;
+    let mut disk = RealDisk::new(&rt, alloc);
+    Vault::open(alloc, &mut disk)?;
+    Vault::commit(&mut disk, two_files(&rt, alloc, "ten", "old")?)?;
+    assert!(rt; are_two_files(&rt, &mut disk, "ten", "old")?);
+    stop_behind_the_gate(&mut disk, &two_files(&rt, alloc, "more", "new")?)?;
+    assert!(rt; are_two_files(&rt, &mut disk, "ten", "old")?);
+    Vault::open(alloc, &mut disk)?;
+    assert!(rt; are_two_files(&rt, &mut disk, "more", "new")?);
     leave(&rt, folder)
 }
