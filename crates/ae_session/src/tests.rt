@@ -2,6 +2,7 @@
 use super::*;
 use ae_outside::{Disk, MemDisk, MemRunList, MemSink, MemSite, MemSource, ReadError};
 use std::alloc::{AllocError, Global};
+use std::process::Abort;
 use std::test::Fail;
 
 // What a call is made over.
@@ -129,33 +130,54 @@ fn told_of(alloc: Global, said: &[&str], who: &str, now: u64) -> Result<(u8, Vec
     Ok((status, message, world.disk.calls()))
 }
 
+// The message of a call with this line's words, where its place is bad.
+fn is_told(rt: &impl Abort, alloc: Global, line: &str, place: &str) -> Result<(), Fail> {
+    let mut said = Vec::new(alloc);
+    for word in line.split(' ') {
+        said.push(word)?;
+    }
+    let (status, told, calls) = told_of(alloc, said.as_slice(), "bob", 4_102_444_799)?;
+    let message = format!(in alloc; "aegis: word {place} is not understood\n")?;
+    assert_eq!(rt; told.as_slice(), message.as_bytes());
+    assert_eq!(rt; status, 2);
+    assert_eq!(rt; calls, 0);
+    Ok(())
+}
+
 #[test]
 fn bad_words_are_told_by_their_place(rt: HostRuntime) -> Result<(), Fail> {
-    for (who, now, function, message) in [
-        (
-            "Bob",
-            0,
-            "-npr",
-            b"aegis: word 0 is not understood\n".as_slice(),
-        ),
-        (
-            "bob",
-            4_102_444_800,
-            "-npr",
-            b"aegis: word 0 is not understood\n",
-        ),
-        (
-            "bob",
-            4_102_444_799,
-            "-nprx",
-            b"aegis: word 1 is not understood\n",
-        ),
-    ] {
-        let (status, told, calls) = told_of(rt.alloc(), &[function, "demo"], who, now)?;
+    for (line, place) in [("-nprx demo", "1"), ("-npr", "2"), ("-npr demo -c 10", "3")] {
+        is_told(&rt, rt.alloc(), line, place)?;
+    }
+    Ok(())
+}
+
+#[test]
+fn a_command_that_is_not_there_yet_is_bad_at_its_function(rt: HostRuntime) -> Result<(), Fail> {
+    for line in ["-na alice", "-npr demo -f attributes", "-l locks"] {
+        is_told(&rt, rt.alloc(), line, "1")?;
+    }
+    Ok(())
+}
+
+#[test]
+fn who_and_when_come_before_the_words(rt: HostRuntime) -> Result<(), Fail> {
+    for (who, now) in [("Bob", 0), ("bob", 4_102_444_800)] {
+        let (status, told, calls) = told_of(rt.alloc(), &["-nprx"], who, now)?;
         assert_eq!(rt; status, 2);
-        assert_eq!(rt; told.as_slice(), message);
+        assert_eq!(rt;
+            told.as_slice(),
+            b"aegis: word 0 is not understood\n".as_slice()
+        );
         assert_eq!(rt; calls, 0);
     }
+    Ok(())
+}
+
+#[test]
+fn a_function_may_be_written_out(rt: HostRuntime) -> Result<(), Fail> {
+    let (status, _, _) = told_of(rt.alloc(), &["--New-Project", "demo"], "alice", 0)?;
+    assert_eq!(rt; status, 0);
     Ok(())
 }
 
