@@ -13,3 +13,4 @@ pub mod Names
 pub mod Errors
 pub mod EveryText
 pub mod GoodWords
+pub mod Again

@@ -6,6 +6,7 @@ pub mod Token
 pub mod Grammar
 pub mod Wrong
 pub mod Answering
+pub mod Printing
 pub mod Pushdown
 pub mod Names
 pub mod Steps
