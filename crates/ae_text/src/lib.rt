@@ -18,4 +18,6 @@ pub use read::{Parsed, TextError, read_tree};
 pub use tree::{Field, FieldList, Tree, TreeList};
 
 #[cfg(test)]
+mod cases;
+#[cfg(test)]
 mod tests;
