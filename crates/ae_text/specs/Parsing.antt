@@ -7,6 +7,7 @@ use Rattle.ae_text.specs.Pushdown as spec
 use Rattle.ae_text.specs.Pushdown.{State, Fault, start, step, run}
 use Rattle.ae_text.specs.Scan.{next, Leads}
 
+-- the text has ended
 abbrev pub is_done : spec.Place → Bool
 is_done (spec.at_name fs) = false
 is_done (spec.at_equals fs k) = false

@@ -12,11 +12,13 @@ use Rattle.ae_text.specs.declared.pushdown.Stop.TheVariants as stops
 use Rattle.ae_text.specs.declared.read.Fault.{Fault}
 use Rattle.ae_text.specs.declared.read.Fault.TheVariants.{Syntax, TooDeep, Memory}
 
+-- the fault of a token that begins at this place
 abbrev pub fault_of : Stop → ℕ → Fault
 fault_of stops.Syntax at = Syntax at
 fault_of stops.TooDeep at = TooDeep at
 fault_of stops.Memory at = Memory
 
+-- the reader stopped for this reason
 abbrev pub IsFault : List ℕ → Fault → Type 0
 IsFault bytes (Syntax at) = Stopped bytes at spec.syntax
 IsFault bytes (TooDeep at) = Stopped bytes at spec.too_deep

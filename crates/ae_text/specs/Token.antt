@@ -3,6 +3,7 @@ use Rattle.std.specs.Prelude.{◌≡◌, ◌≢◌, ℕ, zero, suc, ◌+◌, ◌
 use Rattle.ae_base.specs.Names.{is_digit}
 use Rattle.ae_text.specs.WellFormed.{begins_word, goes_on_word, is_word}
 
+-- a word or a string by its bytes, a number, a sign by its byte
 pub data Token : Type 0 where
   word : List ℕ → Token
   number : ℕ → Token
@@ -13,12 +14,15 @@ pub data Token : Type 0 where
   -- what is no token
   bad : Token
 
+-- a space, a tab, a carriage return or a line end
 abbrev pub is_blank : ℕ → Bool
 is_blank b = (b == 32) || (b == 9) || (b == 13) || (b == 10)
 
+-- one of `=` `;` `,` `[` `]` `{` `}`
 abbrev pub is_sign : ℕ → Bool
 is_sign b = (b == 61) || (b == 59) || (b == 44) || (b == 91) || (b == 93) || (b == 123) || (b == 125)
 
+-- the first byte is c
 abbrev pub begins_with : ℕ → List ℕ → Bool
 begins_with c [] = false
 begins_with c (b ∷ bs) = b == c
@@ -39,19 +43,24 @@ abbrev pub stops : List ℕ → Bool
 stops [] = true
 stops (b ∷ bs) = if goes_on_word b then false else true
 
+-- each byte is a digit
 abbrev pub all_digits : List ℕ → Bool
 all_digits [] = true
 all_digits (b ∷ bs) = is_digit b && all_digits bs
 
+-- one or more digits
 abbrev pub AreDigits : List ℕ → Type 0
 AreDigits s = (s ≢ []) × (all_digits s ≡ true)
 
+-- the number that the digits write, leading zeros and all
 abbrev pub value_of : List ℕ → ℕ
 value_of = fold (λ n b. 10 * n + (b - 48)) 0
 
+-- a byte that stands for itself in a string
 abbrev pub IsPlain : ℕ → Type 0
 IsPlain b = (b ≢ 34) × (b ≢ 92)
 
+-- `0` to `7`
 abbrev pub IsOctal : ℕ → Type 0
 IsOctal b = (48 ≤ b) × (b < 56)
 
@@ -64,6 +73,7 @@ pub data IsPiece : List ℕ → ℕ → Type 0 where
   backslash : IsPiece (92 ∷ 92 ∷ []) 92
   octal : {x y z b : ℕ} → IsOctal x → IsOctal y → IsOctal z → b ≡ 64 * (x - 48) + 8 * (y - 48) + (z - 48) → b < 256 → IsPiece (92 ∷ x ∷ y ∷ z ∷ []) b
 
+-- s is pieces one after another, which stand for these bytes
 abbrev pub ArePieces : List ℕ → List ℕ → Type 0
 ArePieces s [] = s ≡ []
 ArePieces s (b ∷ bs) = (front : List ℕ) × (rest : List ℕ) × (s ≡ front ++ rest) × IsPiece front b × ArePieces rest bs

@@ -12,40 +12,53 @@ use crate::tree::{Tree, TreeList};
 use ae_base::Text;
 use std::alloc::{AllocError, AllocFailed, Global};
 
+/// A token, and what else may stand in its place.
 #[derive(Drop, Debug)]
 pub(crate) enum Token {
     Word(Text),
     Number(u64),
     Str(Text),
+    /// One of `=` `;` `,` `[` `]` `{` `}`.
     Sign(u8),
+    /// The end of the bytes.
     End,
+    /// What is no token.
     Bad,
 }
 
 /// What waits for a value.
 #[derive(Drop, Debug)]
 pub(crate) enum Frame {
+    /// A list, with its values so far.
     InList(Vec<Tree>),
+    /// A structure, with its fields so far and the name of the next.
     InFields(OpenFields, Text),
 }
 
 /// What may stand next.
 #[derive(Drop, Debug)]
 pub(crate) enum Place {
+    /// A name, or the end of the structure or of the text.
     AtName(OpenFields),
     AtEquals(OpenFields, Text),
     AtValue(OpenFields, Text),
     AtSemicolon(OpenFields, Text, Tree),
+    /// A value, or the end of the list.
     AtItem(Vec<Tree>),
+    /// A comma, or the end of the list.
     AtComma(Vec<Tree>),
+    /// Nothing: the text has ended.
     Done(OpenFields),
 }
 
+/// What is open, after the tokens so far.
 #[derive(Drop, Debug)]
 pub(crate) struct State {
-    /// The innermost is the last.
+    /// What waits for the innermost; the last waits for it itself.
     pub(crate) outer: Vec<Frame>,
+    /// What may stand next, in the innermost.
     pub(crate) place: Place,
+    /// How many bytes stand before the name of each field of the text's own.
     pub(crate) starts: Vec<usize>,
 }
 
@@ -73,7 +86,7 @@ impl<T: Drop> From<AllocFailed<T>> for Stop {
     }
 }
 
-/// A value has ended: what waited for it goes on.
+// A value has ended: what waited for it goes on.
 fn delivered(value: Tree, frame: Frame) -> Result<Place, AllocError>
     ensures { IfOk result (λ p. place_of p ≡ deliver (node value) (frame_of frame)) }
 {
@@ -102,6 +115,7 @@ fn closed(mut outer: Vec<Frame>, starts: Vec<usize>, value: Tree) -> Result<Stat
     }
 }
 
+// How deep lists and structures may nest.
 const MAX_DEPTH: usize = 16;
 
 fn opened(
@@ -139,7 +153,7 @@ fn taken(
     })
 }
 
-/// A value begins, for which the frame waits.
+// A value begins, for which the frame waits.
 fn begin_value(
     alloc: Global,
     outer: Vec<Frame>,
@@ -189,6 +203,7 @@ fn end_text(outer: Vec<Frame>, starts: Vec<usize>, fields: OpenFields) -> Result
     }
 }
 
+// The places of names, with this one where it is of a field of the text's own.
 fn noted_start(outer: &[Frame], mut starts: Vec<usize>, at: usize) -> Result<Vec<usize>, AllocError>
     ensures { IfOk result (λ v. v.items ≡ noted (frames_of outer.now) starts.items at) }
 {

@@ -1,4 +1,4 @@
-//! The first token of bytes.
+// The first token of bytes.
 ghost use Rattle.std.specs.Prelude.{◌≡◌, ◌<◌, ◌≤◌, ◌++◌, length, option_map, IfSome, IfOk, take, drop, slice_index, true};
 ghost use Rattle.ae_base.specs.Names.{is_digit};
 ghost use Rattle.ae_text.specs.WellFormed.{begins_word, goes_on_word};
@@ -40,6 +40,7 @@ fn goes_on_byte(b: u8) -> bool
     is_letter_byte(b) || is_digit_byte(b)
 }
 
+// The bytes behind the first `*/`.
 fn behind_end(bytes: &[u8]) -> Option<&[u8]>
     ensures value { option_map (λ s. s.now) result ≡ after_end bytes.now }
     ensures shorter { IfSome result (λ s. length s.now < length bytes.now) }
@@ -56,6 +57,7 @@ fn behind_end(bytes: &[u8]) -> Option<&[u8]>
     None
 }
 
+// The bytes behind one blank or comment.
 #[tactic(auto, unfolding(crate::specs::Scan::after_one))]
 fn behind_one(bytes: &[u8]) -> Option<&[u8]>
     ensures value { option_map (λ s. s.now) result ≡ after_one bytes.now }
@@ -74,6 +76,7 @@ fn behind_one(bytes: &[u8]) -> Option<&[u8]>
     }
 }
 
+// How many letters, digits and `_` stand at the front.
 fn run_of(bytes: &[u8]) -> usize
     ensures value { result ≡ run_length bytes.now }
     ensures within { result ≤ length bytes.now }
@@ -87,6 +90,7 @@ fn run_of(bytes: &[u8]) -> usize
     bytes.len()
 }
 
+// The number of these digits, where it fits.
 fn number_of(bytes: &[u8]) -> Option<u64>
     ensures { result ≡ number_from 0 bytes.now }
 {
@@ -100,6 +104,7 @@ fn number_of(bytes: &[u8]) -> Option<u64>
     Some(n)
 }
 
+// The byte of three octal digits, where there is one.
 fn octal_of(x: u8, y: u8, z: u8) -> Option<u8>
     ensures { result ≡ octal_byte x y z }
 {
@@ -130,6 +135,7 @@ fn read_octal(bytes: &[u8]) -> Option<(u8, &[u8])>
     }
 }
 
+// The byte of an escape behind its `\`, and the bytes behind it.
 #[tactic(auto, unfolding(crate::specs::Scan::escape_at))]
 fn read_escape(bytes: &[u8]) -> Option<(u8, &[u8])>
     ensures value { option_map (λ p. (p.0, p.1.now)) result ≡ escape_at bytes.now }
@@ -145,6 +151,7 @@ fn read_escape(bytes: &[u8]) -> Option<(u8, &[u8])>
     }
 }
 
+// The byte that a piece of a string stands for, and the bytes behind it.
 #[tactic(auto, unfolding(crate::specs::Scan::piece_at))]
 fn read_piece(bytes: &[u8]) -> Option<(u8, &[u8])>
     ensures value { option_map (λ p. (p.0, p.1.now)) result ≡ piece_at bytes.now }
@@ -170,7 +177,7 @@ pub(crate) fn skip_gap(bytes: &[u8]) -> &[u8]
     rest
 }
 
-/// What the pieces stand for, and the bytes behind the closing quote.
+// What the pieces stand for, and the bytes behind the closing quote.
 fn read_string(alloc: Global, bytes: &[u8]) -> Result<Option<(Text, &[u8])>, AllocError>
     ensures value { IfOk result (λ o. option_map (λ p. (p.0, p.1.now)) o ≡ string_at bytes.now) }
     ensures shorter { IfOk result (λ o. IfSome o (λ p. length p.1.now < length bytes.now)) }
