@@ -2,3 +2,14 @@ pub mod Tree
 pub mod View
 pub mod Canonical
 pub mod WellFormed
+pub mod Token
+pub mod Grammar
+pub mod Wrong
+pub mod Answering
+pub mod Printing
+pub mod Pushdown
+pub mod Names
+pub mod Steps
+pub mod Scan
+pub mod Parsing
+pub mod Reading

@@ -1,9 +1,11 @@
 // The canonical text of a tree.
-ghost use Rattle.std.specs.Prelude.{◌≡◌, ◌++◌, [], OnOk, IfOk};
+ghost use Rattle.std.specs.Prelude.{◌≡◌, ◌<◌, ◌^◌, ◌++◌, [], ℕ, List, OnOk, IfOk};
 ghost use Rattle.std.specs.Fmt.{decimal};
 ghost use Rattle.ae_text.specs.View.{node, items_seen, members_seen};
 ghost use Rattle.ae_text.specs.Canonical.{piece, quoted, value_text, items_text, field_text, spaced_fields_text, fields_text, text};
 ghost use Rattle.ae_text.specs.WellFormed.{IsWellFormed};
+ghost use Rattle.ae_text.specs.Grammar.{Reads};
+ghost use Rattle.ae_text.specs.Printing.{FitsTypes, ItemsFitTypes, MembersFitTypes};
 
 use crate::tree::{Field, Tree};
 use std::alloc::{AllocError, Global};
@@ -34,7 +36,8 @@ fn put_string(out: &mut Vec<u8>, s: &[u8]) -> Result<(), AllocError>
 }
 
 fn put_number(out: &mut Vec<u8>, n: u64) -> Result<(), AllocError>
-    ensures { OnOk result (out.new.items ≡ out.old.items ++ decimal n) }
+    ensures text { OnOk result (out.new.items ≡ out.old.items ++ decimal n) }
+    ensures fits { n < 2 ^ 64 }
 {
     let mut buffer = itoa::Buffer::new();
     out.extend_from_slice(buffer.format(n).as_bytes())
@@ -42,7 +45,8 @@ fn put_number(out: &mut Vec<u8>, n: u64) -> Result<(), AllocError>
 
 #[cycle(value)]
 fn put_value(out: &mut Vec<u8>, tree: &Tree) -> Result<(), AllocError>
-    ensures { OnOk result (out.new.items ≡ out.old.items ++ value_text (node tree.now)) }
+    ensures text { OnOk result (out.new.items ≡ out.old.items ++ value_text (node tree.now)) }
+    ensures types { OnOk result (FitsTypes (node tree.now)) }
 {
     match tree {
         Tree::Word(text) => out.extend_from_slice(text.bytes()),
@@ -64,7 +68,8 @@ fn put_value(out: &mut Vec<u8>, tree: &Tree) -> Result<(), AllocError>
 
 #[cycle(value)]
 fn put_items(out: &mut Vec<u8>, trees: &[Tree]) -> Result<(), AllocError>
-    ensures { OnOk result (out.new.items ≡ out.old.items ++ items_text [] (items_seen trees.now)) }
+    ensures text { OnOk result (out.new.items ≡ out.old.items ++ items_text [] (items_seen trees.now)) }
+    ensures types { OnOk result (ItemsFitTypes (items_seen trees.now)) }
 {
     let mut before: &[u8] = b"";
     for tree in trees {
@@ -77,7 +82,8 @@ fn put_items(out: &mut Vec<u8>, trees: &[Tree]) -> Result<(), AllocError>
 
 #[cycle(value)]
 fn put_spaced_fields(out: &mut Vec<u8>, fields: &[Field]) -> Result<(), AllocError>
-    ensures { OnOk result (out.new.items ≡ out.old.items ++ spaced_fields_text (members_seen fields.now)) }
+    ensures text { OnOk result (out.new.items ≡ out.old.items ++ spaced_fields_text (members_seen fields.now)) }
+    ensures types { OnOk result (MembersFitTypes (members_seen fields.now)) }
 {
     for field in fields {
         out.push(b' ')?;
@@ -88,7 +94,8 @@ fn put_spaced_fields(out: &mut Vec<u8>, fields: &[Field]) -> Result<(), AllocErr
 
 #[cycle(value)]
 fn put_field(out: &mut Vec<u8>, field: &Field) -> Result<(), AllocError>
-    ensures { OnOk result (out.new.items ≡ out.old.items ++ field_text field.now.name (value_text (node field.now.value))) }
+    ensures text { OnOk result (out.new.items ≡ out.old.items ++ field_text field.now.name (value_text (node field.now.value))) }
+    ensures types { OnOk result (FitsTypes (node field.now.value)) }
 {
     out.extend_from_slice(field.name.bytes())?;
     out.extend_from_slice(b" = ")?;
@@ -98,7 +105,8 @@ fn put_field(out: &mut Vec<u8>, field: &Field) -> Result<(), AllocError>
 }
 
 fn put_fields(out: &mut Vec<u8>, fields: &[Field]) -> Result<(), AllocError>
-    ensures { OnOk result (out.new.items ≡ out.old.items ++ fields_text (members_seen fields.now)) }
+    ensures text { OnOk result (out.new.items ≡ out.old.items ++ fields_text (members_seen fields.now)) }
+    ensures types { OnOk result (MembersFitTypes (members_seen fields.now)) }
 {
     for field in fields {
         put_field(out, field)?;
@@ -107,15 +115,26 @@ fn put_fields(out: &mut Vec<u8>, fields: &[Field]) -> Result<(), AllocError>
     Ok(())
 }
 
+fn put_text(out: &mut Vec<u8>, tree: &Tree) -> Result<(), AllocError>
+    requires { IsWellFormed (node tree.now) }
+    ensures text { OnOk result (out.new.items ≡ out.old.items ++ text (node tree.now)) }
+    ensures types { OnOk result (FitsTypes (node tree.now)) }
+{
+    match tree {
+        Tree::Fields(fields) => put_fields(out, fields.items.as_slice()),
+        _ => Ok(()),
+    }
+}
+
 /// The canonical text of a tree of fields: each as `name = value;` and a line end.
 pub fn print_tree(alloc: Global, tree: &Tree) -> Result<Vec<u8>, AllocError>
     // The words are words, no name of a structure repeats, and nothing nests more than 16 deep.
     requires { IsWellFormed (node tree.now) }
     ensures value { IfOk result (λ printed. printed.items ≡ text (node tree.now)) }
+    // What is printed is a text of the same tree.
+    ensures again { IfOk result (λ printed. (lines : List ℕ) × Reads printed.items (node tree.now) lines) }
 {
     let mut out = Vec::new(alloc);
-    if let Tree::Fields(fields) = tree {
-        put_fields(&mut out, fields.items.as_slice())?;
-    }
+    put_text(&mut out, tree)?;
     Ok(out)
 }
