@@ -34,7 +34,7 @@ last_same (a ∷ c ∷ front) [] p q e = absurd cc
 last_same (a ∷ front) (b ∷ other) p q e = let tail : front ++ p ∷ [] ≡ other ++ q ∷ [] = cc in last_same front other p q tail
 
 -- what begins a row that goes on goes on
-goes_before : (depth : ℕ) (front more : List Placed) → GoesOn depth (front ++ more) → GoesOn depth front
+pub goes_before : (depth : ℕ) (front more : List Placed) → GoesOn depth (front ++ more) → GoesOn depth front
 goes_before depth front more (rest, ms, places, sentence, names_differ, nests) =
     (more ++ rest, ms, places, subst (λ (ps : List Placed). IsSentence ps ms places) (append_assoc front more rest) sentence, names_differ, nests)
 

@@ -260,7 +260,7 @@ mutual
   fields_shaped_more no_members a b le h = tt
   fields_shaped_more (member k j ms) a b le h = (h.0, shaped_more j a b le h.1, fields_shaped_more ms a b le h.2)
 
-run_one : (limit : ℕ) (front : List Placed) (s : State) (p : Placed) (r : Result State Fault) → run limit (Ok start) front ≡ Ok s → step limit s p ≡ r → run limit (Ok start) (front ++ p ∷ []) ≡ r
+pub run_one : (limit : ℕ) (front : List Placed) (s : State) (p : Placed) (r : Result State Fault) → run limit (Ok start) front ≡ Ok s → step limit s p ≡ r → run limit (Ok start) (front ++ p ∷ []) ≡ r
 unfolding run
 run_one limit front s p r e one = run-append limit (Ok start) front (p ∷ []) ∙ ap (λ (x : Result State Fault). run limit x (p ∷ [])) e ∙ one
 
@@ -286,15 +286,15 @@ deep_value limit outer starts f (sign b) le e = by_sign (eqb b 91) (eqb b 123) e
 deep_value limit outer starts f end le e = absurd cc
 deep_value limit outer starts f bad le e = absurd cc
 
-close_not_deep : (outer : List Frame) (starts : List ℕ) (v : Node) → close_step outer starts v ≡ Err too_deep → ⊥
+pub close_not_deep : (outer : List Frame) (starts : List ℕ) (v : Node) → close_step outer starts v ≡ Err too_deep → ⊥
 close_not_deep [] starts v e = cc
 close_not_deep (f ∷ outer) starts v e = cc
 
-cond_not_deep : (b : Bool) (x y : Result State Fault) → (x ≡ Err too_deep → ⊥) → (y ≡ Err too_deep → ⊥) → cond b x y ≡ Err too_deep → ⊥
+pub cond_not_deep : (b : Bool) (x y : Result State Fault) → (x ≡ Err too_deep → ⊥) → (y ≡ Err too_deep → ⊥) → cond b x y ≡ Err too_deep → ⊥
 cond_not_deep true x y p q e = p e
 cond_not_deep false x y p q e = q e
 
-name_not_deep : (outer : List Frame) (starts : List ℕ) (fs : List (List ℕ × Node)) (at : ℕ) (t : Token) → name_step outer starts fs at t ≡ Err too_deep → ⊥
+pub name_not_deep : (outer : List Frame) (starts : List ℕ) (fs : List (List ℕ × Node)) (at : ℕ) (t : Token) → name_step outer starts fs at t ≡ Err too_deep → ⊥
 name_not_deep outer starts fs at (word k) e = cond_not_deep (has_name k fs) _ _ (λ h. cc) (λ h. cc) e
 name_not_deep outer starts fs at (number n) e = cc
 name_not_deep outer starts fs at (string w) e = cc
