@@ -1,13 +1,13 @@
 -- Where a text is too deep, its first wrong token opens one level too many.
-use Rattle.std.proofs.Common.{◌≡◌, ℕ, suc, ◌+◌, ◌-◌, ◌<◌, ◌≤◌, ◌⊎◌, inl, inr, Bool, true, false, cond, eqb, ltb, ◌||◌, length, arith, List, [], ◌∷◌, ◌++◌, Result, Ok, Err, refl, sym, ap, ◌∙◌}
+use Rattle.std.proofs.Common.{◌≡◌, ℕ, suc, ◌+◌, ◌-◌, ◌≤◌, inl, inr, Bool, true, false, cond, eqb, ltb, length, arith, List, [], ◌∷◌, ◌++◌, Result, Ok, Err, refl, sym, ap, ◌∙◌}
 use Rattle.std.proofs.lemmas.Bool.{ltb-false}
 use Rattle.ae_text.specs.Tree.{Node}
 use Rattle.ae_text.specs.Token.{Token, word, number, string, sign, end, bad, Placed}
 use Rattle.ae_text.specs.WellFormed.{max_depth}
-use Rattle.ae_text.specs.Wrong.{GoesOn, IsWrongAt, IsTooDeep, opens, level_behind_one, level_behind, OpensOneTooMany}
-use Rattle.ae_text.specs.Pushdown.{Frame, in_list, in_fields, Place, at_name, at_equals, at_value, at_semicolon, at_item, at_comma, done, State, Fault, syntax, too_deep, moved, fields_of, list_of, has_name, value_step, open_step, close_step, name_step, place_step, is_sign_of, step, start, run}
+use Rattle.ae_text.specs.Wrong.{GoesOn, IsTooDeep, opens, level_behind_one, level_behind, OpensOneTooMany}
+use Rattle.ae_text.specs.Pushdown.{Frame, in_list, in_fields, Place, at_name, at_equals, at_value, at_semicolon, at_item, at_comma, done, State, Fault, syntax, too_deep, moved, list_of, value_step, open_step, close_step, place_step, is_sign_of, step, start, run}
 use Rattle.ae_text.proofs.Complete.{sentence_goes, Fresh-nil}
-use Rattle.ae_text.proofs.Sound.{run-err, ends_one, IsPlainValue, Opens, value_opens, needs_sign, is_moved, names, lists, commas}
+use Rattle.ae_text.proofs.Sound.{run-err, ends_one, IsPlainValue, value_opens, needs_sign, is_moved, names, lists, commas}
 use Rattle.ae_text.proofs.Viable.{run-append, run_reaches, taken_goes_on, run_one, syntax_ends, close_not_deep, cond_not_deep, name_not_deep}
 use Rattle.ae_text.proofs.Shaped.{shaped}
 use Rattle.ae_text.proofs.Errors.{goes_before}
@@ -104,6 +104,7 @@ step_full limit s p e = by_place s.outer s.starts s.place e where
   by_item : (b : Bool) (outer : List Frame) (starts : List ℕ) (vs : List Node) → cond b (close_step outer starts (list_of vs)) (value_step limit outer starts (in_list vs) p.token) ≡ Err too_deep → IsOneTooMany limit outer p.token
   by_item true outer starts vs e = absurd (close_not_deep outer starts (list_of vs) e)
   by_item false outer starts vs e = value_full limit outer starts (in_list vs) p.token e
+
   by_place : (outer : List Frame) (starts : List ℕ) (place : Place) → place_step limit outer starts place p.at p.token ≡ Err too_deep → IsOneTooMany limit outer p.token
   by_place outer starts (at_name fs) e = absurd (name_not_deep outer starts fs p.at p.token e)
   by_place outer starts (at_equals fs k) e = absurd (cond_not_deep (is_sign_of 61 p.token) _ _ (λ h. cc) (λ h. cc) e)
@@ -117,19 +118,19 @@ step_full limit s p e = by_place s.outer s.starts s.place e where
 front_taken : (limit : ℕ) (front : List Placed) → GoesOn limit front → (s : State) × (run limit (Ok start) front ≡ Ok s)
 front_taken limit front (more, ms, places, sentence, names_differ, nests) =
     by_result (run limit (Ok start) front) refl (sym (run-append limit (Ok start) front more) ∙ sentence_goes ms limit [] [] (front ++ more) places sentence (shaped ms limit names_differ nests) (Fresh-nil ms)) where
-  by_result : (r : Result State Fault) → run limit (Ok start) front ≡ r → {last : State} → run limit (run limit (Ok start) front) more ≡ Ok last → (s : State) × (run limit (Ok start) front ≡ Ok s)
-  by_result (Ok s) e read = (s, e)
-  by_result (Err f) e {last} read = absurd (let never : Err f ≡ Ok last = sym (run-err limit f more) ∙ ap (λ (r : Result State Fault). run limit r more) (sym e) ∙ read in cc)
+      by_result : (r : Result State Fault) → run limit (Ok start) front ≡ r → {last : State} → run limit (run limit (Ok start) front) more ≡ Ok last → (s : State) × (run limit (Ok start) front ≡ Ok s)
+      by_result (Ok s) e read = (s, e)
+      by_result (Err f) e {last} read = absurd (let never : Err f ≡ Ok last = sym (run-err limit f more) ∙ ap (λ (r : Result State Fault). run limit r more) (sym e) ∙ read in cc)
 
 pub one_too_many : (bytes : List ℕ) (line : ℕ) → IsTooDeep bytes line → OpensOneTooMany bytes line
 one_too_many bytes line (front, p, w, depth, goes) =
     let f = front_taken max_depth front (goes_before max_depth front (w.can_go_on.0 ∷ []) w.can_go_on.1) in
     by_step f.0 f.1 (step max_depth f.0 p) refl where
-  by_step : (s : State) → run max_depth (Ok start) front ≡ Ok s → (r : Result State Fault) → step max_depth s p ≡ r → OpensOneTooMany bytes line
-  by_step s e (Ok t) one = absurd (w.cannot_stand (taken_goes_on max_depth (front ++ p ∷ []) t (run_one max_depth front s p (Ok t) e one)))
-  by_step s e (Err syntax) one = absurd (syntax_ends max_depth depth front s p e one goes)
-  by_step s e (Err too_deep) one =
-      let full = step_full max_depth s p one in
-      let reached = run_reaches max_depth start front s (tt, omega arith) e in
-      let level = run_counts max_depth start front s e in
-      (front, p, w, full.0, omega (arith, full.1, reached.1, level))
+      by_step : (s : State) → run max_depth (Ok start) front ≡ Ok s → (r : Result State Fault) → step max_depth s p ≡ r → OpensOneTooMany bytes line
+      by_step s e (Ok t) one = absurd (w.cannot_stand (taken_goes_on max_depth (front ++ p ∷ []) t (run_one max_depth front s p (Ok t) e one)))
+      by_step s e (Err syntax) one = absurd (syntax_ends max_depth depth front s p e one goes)
+      by_step s e (Err too_deep) one =
+          let full = step_full max_depth s p one in
+          let reached = run_reaches max_depth start front s (tt, omega arith) e in
+          let level = run_counts max_depth start front s e in
+          (front, p, w, full.0, omega (arith, full.1, reached.1, level))
