@@ -1,6 +1,5 @@
 -- The canonical text is in the grammar.
-use Rattle.std.proofs.Common.{◌≡◌, ◌≢◌, ℕ, zero, suc, ◌+◌, ◌-◌, ◌*◌, ◌/◌, ◌%◌, ◌^◌, ◌<◌, ◌≤◌, ◌⊎◌, inl, inr, Bool, true, false, cond, eqb, leb, ltb, ◌||◌, ◌&&◌, length, arith, List, [], ◌∷◌, ◌++◌, refl, sym, ap, subst, ◌∙◌, append_assoc, map, flat_map}
-use Rattle.std.specs.Prelude.{fold}
+use Rattle.std.proofs.Common.{◌≡◌, ◌≢◌, ℕ, ◌+◌, ◌-◌, ◌*◌, ◌/◌, ◌%◌, ◌^◌, ◌<◌, inl, Bool, true, false, cond, eqb, leb, ◌&&◌, length, arith, List, [], ◌∷◌, ◌++◌, refl, sym, ap, subst, ◌∙◌, append_assoc, map, flat_map}
 use Rattle.std.specs.Fmt.{decimal}
 use Rattle.std.proofs.lemmas.Fmt.{decimal_by_steps}
 use Rattle.std.proofs.lemmas.Bool.{eqb-true, eqb-false}
@@ -8,14 +7,14 @@ use Rattle.std.proofs.lemmas.Bool.Decides.{nat_tests}
 use Rattle.std.proofs.lemmas.List.Concat.{flat_map-cons}
 use Rattle.ae_text.specs.Tree.{Node, list, fields, Items, no_items, item, Members, no_members, member}
 use Rattle.ae_text.specs.Tree as tree
-use Rattle.ae_text.specs.Token.{Token, word, number, string, sign, end, bad, is_sign, Placed, Begins, IsGap, none, blank, stops, AreDigits, all_digits, IsPiece, plain, line_end, tab, quote, backslash, octal, ArePieces}
+use Rattle.ae_text.specs.Token.{word, number, string, sign, end, is_sign, Placed, Begins, IsGap, none, blank, stops, all_digits, IsPiece, plain, line_end, tab, quote, backslash, octal, ArePieces}
 use Rattle.ae_base.specs.Names.{is_digit}
 use Rattle.ae_text.specs.Canonical.{piece, quoted, field_text, value_text, items_text, spaced_fields_text, fields_text, text}
 use Rattle.ae_text.specs.WellFormed.{is_word, HasGoodWords, ItemsHaveGoodWords, MembersHaveGoodWords, MembersHaveDistinctNames, MembersFitDepth, max_depth, IsWellFormed}
 use Rattle.ae_text.specs.Printing.{FitsTypes, ItemsFitTypes, MembersFitTypes}
 use Rattle.ae_base.specs.Bytes.{AreBytes}
 use Rattle.ae_text.specs.Grammar.{IsValue, AreItems, AreMoreItems, AreFields, IsSentence, ReadsFields, Reads, line_of}
-use Rattle.ae_text.proofs.Pieces.{value_from, together}
+use Rattle.ae_text.proofs.Pieces.{value_from}
 
 -- ---- words, numbers and strings in one
 
@@ -86,6 +85,7 @@ unfolding piece
 piece_is b lt = by_test (eqb b 10) (eqb b 9) (eqb b 34) (eqb b 92) (leb 32 b && leb b 126) refl refl refl refl where
   octals : IsPiece (92 ∷ (48 + b / 64) ∷ (48 + b / 8 % 8) ∷ (48 + b % 8) ∷ []) b
   octals = octal (omega arith, omega arith) (omega arith, omega arith) (omega arith, omega arith) (omega arith) lt
+
   by_test : (p q r s t : Bool) → eqb b 10 ≡ p → eqb b 9 ≡ q → eqb b 34 ≡ r → eqb b 92 ≡ s
       → IsPiece (cond p (92 ∷ 110 ∷ []) (cond q (92 ∷ 116 ∷ []) (cond r (92 ∷ 34 ∷ []) (cond s (92 ∷ 92 ∷ []) (cond t (b ∷ []) (92 ∷ (48 + b / 64) ∷ (48 + b / 8 % 8) ∷ (48 + b % 8) ∷ [])))))) b
   by_test true q r s t hp hq hr hs = subst (λ (x : ℕ). IsPiece (92 ∷ 110 ∷ []) x) (sym (eqb-true b 10 hp)) line_end
@@ -133,9 +133,16 @@ named : (k : List ℕ) (gap tail : List ℕ) (Q : List Placed → Type 0) → is
 named k gap tail Q h g rest from =
     let name : Placed = record { at = from + length gap; token = word k } in
     let e = signed 61 Q (32 ∷ []) (32 ∷ tail) space refl rest ((from + length gap) + length k) in
-    let row : e.0 ≡ e.1.0 ∷ e.1.1 = e.1.2 in
-    (name, e.1.0, e.1.1, refl, e.1.3, refl, e.1.4,
-      (gap, k, 32 ∷ 61 ∷ 32 ∷ tail, refl, g, refl, (refl, h, refl), subst (λ (xs : List Placed). Begins ((from + length gap) + length k) (32 ∷ 61 ∷ 32 ∷ tail) xs) row e.2))
+    let row : e.0 ≡ e.1.0 ∷ e.1.1 = e.1.2 in (
+      name,
+      e.1.0,
+      e.1.1,
+      refl,
+      e.1.3,
+      refl,
+      e.1.4,
+      (gap, k, 32 ∷ 61 ∷ 32 ∷ tail, refl, g, refl, (refl, h, refl), subst (λ (xs : List Placed). Begins ((from + length gap) + length k) (32 ∷ 61 ∷ 32 ∷ tail) xs) row e.2),
+    )
 
 mutual
   value_begins : (v : Node) → IsSpellable v → (gap : List ℕ) → IsGap gap → (after : List ℕ) → stops after ≡ true → (Q : List Placed → Type 0) → After Q after → (from : ℕ)
@@ -158,30 +165,42 @@ mutual
       let i = items_begin js h (93 ∷ after) refl (Signed 93 Q) (signed 93 Q [] after none refl rest) ((from + length gap) + 1) in
       let close = i.3 in
       let text : items_text [] js ++ 93 ∷ after ≡ (items_text [] js ++ 93 ∷ []) ++ after = sym (append_assoc (items_text [] js) (93 ∷ []) after) in
-      let row : o ∷ (i.0 ++ i.1) ≡ (o ∷ (i.0 ++ close.0 ∷ [])) ++ close.1 = ap (λ (xs : List Placed). o ∷ xs) (ap (λ (xs : List Placed). i.0 ++ xs) close.2 ∙ sym (append_assoc i.0 (close.0 ∷ []) close.1)) in
-      (o ∷ (i.0 ++ close.0 ∷ []), close.1, (o, i.0, close.0, refl, refl, close.3, i.2), close.4,
+      let row : o ∷ (i.0 ++ i.1) ≡ (o ∷ (i.0 ++ close.0 ∷ [])) ++ close.1 = ap (λ (xs : List Placed). o ∷ xs) (ap (λ (xs : List Placed). i.0 ++ xs) close.2 ∙ sym (append_assoc i.0 (close.0 ∷ []) close.1)) in (
+        o ∷ (i.0 ++ close.0 ∷ []),
+        close.1,
+        (o, i.0, close.0, refl, refl, close.3, i.2),
+        close.4,
         subst (λ (xs : List Placed). Begins from (gap ++ (91 ∷ ((items_text [] js ++ 93 ∷ []) ++ after))) xs) row
-        (gap, 91 ∷ [], (items_text [] js ++ 93 ∷ []) ++ after, refl, g, refl, (refl, refl), subst (λ (xs : List ℕ). Begins ((from + length gap) + 1) xs (i.0 ++ i.1)) text i.4))
+            (gap, 91 ∷ [], (items_text [] js ++ 93 ∷ []) ++ after, refl, g, refl, (refl, refl), subst (λ (xs : List ℕ). Begins ((from + length gap) + 1) xs (i.0 ++ i.1)) text i.4),
+      )
   value_begins (fields ms) h gap g after stop Q rest from =
       let o : Placed = record { at = from + length gap; token = sign 123 } in
       let i = spaced_begin ms h (32 ∷ 125 ∷ after) (Signed 125 Q) (signed 125 Q (32 ∷ []) after space refl rest) ((from + length gap) + 1) in
       let close = i.3 in
       let text : spaced_fields_text ms ++ 32 ∷ 125 ∷ after ≡ (spaced_fields_text ms ++ 32 ∷ 125 ∷ []) ++ after = sym (append_assoc (spaced_fields_text ms) (32 ∷ 125 ∷ []) after) in
-      let row : o ∷ (i.0 ++ i.1) ≡ (o ∷ (i.0 ++ close.0 ∷ [])) ++ close.1 = ap (λ (xs : List Placed). o ∷ xs) (ap (λ (xs : List Placed). i.0 ++ xs) close.2 ∙ sym (append_assoc i.0 (close.0 ∷ []) close.1)) in
-      (o ∷ (i.0 ++ close.0 ∷ []), close.1, (o, i.0, close.0, refl, refl, close.3, i.2), close.4,
+      let row : o ∷ (i.0 ++ i.1) ≡ (o ∷ (i.0 ++ close.0 ∷ [])) ++ close.1 = ap (λ (xs : List Placed). o ∷ xs) (ap (λ (xs : List Placed). i.0 ++ xs) close.2 ∙ sym (append_assoc i.0 (close.0 ∷ []) close.1)) in (
+        o ∷ (i.0 ++ close.0 ∷ []),
+        close.1,
+        (o, i.0, close.0, refl, refl, close.3, i.2),
+        close.4,
         subst (λ (xs : List Placed). Begins from (gap ++ (123 ∷ ((spaced_fields_text ms ++ 32 ∷ 125 ∷ []) ++ after))) xs) row
-        (gap, 123 ∷ [], (spaced_fields_text ms ++ 32 ∷ 125 ∷ []) ++ after, refl, g, refl, (refl, refl), subst (λ (xs : List ℕ). Begins ((from + length gap) + 1) xs (i.0 ++ i.1)) text i.4))
+            (gap, 123 ∷ [], (spaced_fields_text ms ++ 32 ∷ 125 ∷ []) ++ after, refl, g, refl, (refl, refl), subst (λ (xs : List ℕ). Begins ((from + length gap) + 1) xs (i.0 ++ i.1)) text i.4),
+      )
 
   items_begin : (js : Items) → AreSpellable js → (after : List ℕ) → stops after ≡ true → (Q : List Placed → Type 0) → After Q after → (from : ℕ) → Whole (λ ps. AreItems ps js) Q from (items_text [] js ++ after)
   items_begin no_items h after stop Q rest from = let c = rest from in ([], c.0, refl, c.1, c.2)
   items_begin (item j js) h after stop Q rest from =
       let more = λ (k : ℕ). more_begin js h.1 after stop Q rest k in
       let v = value_begins j h.0 [] none (items_text (44 ∷ 32 ∷ []) js ++ after) (more_stops js after stop) (λ ps. (a : List Placed) × (b : List Placed) × (ps ≡ a ++ b) × AreMoreItems a js × Q b)
-          (λ k. ((more k).0 ++ (more k).1, ((more k).0, (more k).1, refl, (more k).2, (more k).3), (more k).4)) from in
+      (λ k. ((more k).0 ++ (more k).1, ((more k).0, (more k).1, refl, (more k).2, (more k).3), (more k).4)) from in
       let text : value_text j ++ (items_text (44 ∷ 32 ∷ []) js ++ after) ≡ (value_text j ++ items_text (44 ∷ 32 ∷ []) js) ++ after = sym (append_assoc (value_text j) (items_text (44 ∷ 32 ∷ []) js) after) in
-      let row : v.0 ++ v.1 ≡ (v.0 ++ v.3.0) ++ v.3.1 = ap (λ (xs : List Placed). v.0 ++ xs) v.3.2 ∙ sym (append_assoc v.0 v.3.0 v.3.1) in
-      (v.0 ++ v.3.0, v.3.1, (v.0, v.3.0, refl, v.2, v.3.3), v.3.4,
-        subst (λ (xs : List Placed). Begins from ((value_text j ++ items_text (44 ∷ 32 ∷ []) js) ++ after) xs) row (subst (λ (xs : List ℕ). Begins from xs (v.0 ++ v.1)) text v.4))
+      let row : v.0 ++ v.1 ≡ (v.0 ++ v.3.0) ++ v.3.1 = ap (λ (xs : List Placed). v.0 ++ xs) v.3.2 ∙ sym (append_assoc v.0 v.3.0 v.3.1) in (
+        v.0 ++ v.3.0,
+        v.3.1,
+        (v.0, v.3.0, refl, v.2, v.3.3),
+        v.3.4,
+        subst (λ (xs : List Placed). Begins from ((value_text j ++ items_text (44 ∷ 32 ∷ []) js) ++ after) xs) row (subst (λ (xs : List ℕ). Begins from xs (v.0 ++ v.1)) text v.4),
+      )
 
   more_begin : (js : Items) → AreSpellable js → (after : List ℕ) → stops after ≡ true → (Q : List Placed → Type 0) → After Q after → (from : ℕ)
       → Whole (λ ps. AreMoreItems ps js) Q from (items_text (44 ∷ 32 ∷ []) js ++ after)
@@ -190,13 +209,17 @@ mutual
       let comma : Placed = record { at = from + 0; token = sign 44 } in
       let more = λ (k : ℕ). more_begin js h.1 after stop Q rest k in
       let v = value_begins j h.0 (32 ∷ []) space (items_text (44 ∷ 32 ∷ []) js ++ after) (more_stops js after stop) (λ ps. (a : List Placed) × (b : List Placed) × (ps ≡ a ++ b) × AreMoreItems a js × Q b)
-          (λ k. ((more k).0 ++ (more k).1, ((more k).0, (more k).1, refl, (more k).2, (more k).3), (more k).4)) ((from + 0) + 1) in
+      (λ k. ((more k).0 ++ (more k).1, ((more k).0, (more k).1, refl, (more k).2, (more k).3), (more k).4)) ((from + 0) + 1) in
       let text : 32 ∷ (value_text j ++ (items_text (44 ∷ 32 ∷ []) js ++ after)) ≡ 32 ∷ ((value_text j ++ items_text (44 ∷ 32 ∷ []) js) ++ after) =
-          ap (λ (xs : List ℕ). 32 ∷ xs) (sym (append_assoc (value_text j) (items_text (44 ∷ 32 ∷ []) js) after)) in
-      let row : comma ∷ (v.0 ++ v.1) ≡ (comma ∷ (v.0 ++ v.3.0)) ++ v.3.1 = ap (λ (xs : List Placed). comma ∷ xs) (ap (λ (xs : List Placed). v.0 ++ xs) v.3.2 ∙ sym (append_assoc v.0 v.3.0 v.3.1)) in
-      (comma ∷ (v.0 ++ v.3.0), v.3.1, (comma, v.0, v.3.0, refl, refl, v.2, v.3.3), v.3.4,
+      ap (λ (xs : List ℕ). 32 ∷ xs) (sym (append_assoc (value_text j) (items_text (44 ∷ 32 ∷ []) js) after)) in
+      let row : comma ∷ (v.0 ++ v.1) ≡ (comma ∷ (v.0 ++ v.3.0)) ++ v.3.1 = ap (λ (xs : List Placed). comma ∷ xs) (ap (λ (xs : List Placed). v.0 ++ xs) v.3.2 ∙ sym (append_assoc v.0 v.3.0 v.3.1)) in (
+        comma ∷ (v.0 ++ v.3.0),
+        v.3.1,
+        (comma, v.0, v.3.0, refl, refl, v.2, v.3.3),
+        v.3.4,
         subst (λ (xs : List Placed). Begins from (44 ∷ 32 ∷ ((value_text j ++ items_text (44 ∷ 32 ∷ []) js) ++ after)) xs) row
-        ([], 44 ∷ [], 32 ∷ ((value_text j ++ items_text (44 ∷ 32 ∷ []) js) ++ after), refl, none, refl, (refl, refl), subst (λ (xs : List ℕ). Begins ((from + 0) + 1) xs (v.0 ++ v.1)) text v.4))
+            ([], 44 ∷ [], 32 ∷ ((value_text j ++ items_text (44 ∷ 32 ∷ []) js) ++ after), refl, none, refl, (refl, refl), subst (λ (xs : List ℕ). Begins ((from + 0) + 1) xs (v.0 ++ v.1)) text v.4),
+      )
 
   spaced_begin : (ms : Members) → FieldsAreSpellable ms → (after : List ℕ) → (Q : List Placed → Type 0) → After Q after → (from : ℕ) → Whole (λ ps. AreFields ps ms) Q from (spaced_fields_text ms ++ after)
   spaced_begin no_members h after Q rest from = let c = rest from in ([], c.0, refl, c.1, c.2)
@@ -207,18 +230,21 @@ mutual
       let tail : List ℕ = value_text j ++ 59 ∷ (spaced_fields_text ms ++ after) in
       let Q2 : List Placed → Type 0 = λ ps. (a : List Placed) × (b : List Placed) × (ps ≡ a ++ b) × IsValue a j × Signed 59 Q1 b in
       let after2 : After Q2 (32 ∷ tail) = λ n.
-          let v = value_begins j h.1 (32 ∷ []) space (59 ∷ (spaced_fields_text ms ++ after)) refl (Signed 59 Q1) (signed 59 Q1 [] (spaced_fields_text ms ++ after) none refl after1) n in
-          (v.0 ++ v.1, (v.0, v.1, refl, v.2, v.3), v.4) in
+      let v = value_begins j h.1 (32 ∷ []) space (59 ∷ (spaced_fields_text ms ++ after)) refl (Signed 59 Q1) (signed 59 Q1 [] (spaced_fields_text ms ++ after) none refl after1) n in
+      (v.0 ++ v.1, (v.0, v.1, refl, v.2, v.3), v.4) in
       let f = named k (32 ∷ []) tail Q2 h.0 space after2 from in
       let v = f.6 in
       let s = v.4 in
       let o = s.4 in
       let row : f.0 ∷ f.1 ∷ f.2 ≡ (f.0 ∷ f.1 ∷ (v.0 ++ s.0 ∷ o.0)) ++ o.1 =
-          ap (λ (xs : List Placed). f.0 ∷ f.1 ∷ xs) (v.2 ∙ ap (λ (xs : List Placed). v.0 ++ xs) (s.2 ∙ ap (λ (xs : List Placed). s.0 ∷ xs) o.2) ∙ sym (append_assoc v.0 (s.0 ∷ o.0) o.1)) in
-      let text : 32 ∷ (k ++ 32 ∷ 61 ∷ 32 ∷ tail) ≡ spaced_fields_text (member k j ms) ++ after = ap (λ (xs : List ℕ). 32 ∷ xs) (sym (append_assoc (field_text k (value_text j)) (spaced_fields_text ms) after ∙ field_row k (value_text j) (spaced_fields_text ms ++ after))) in
-      (f.0 ∷ f.1 ∷ (v.0 ++ s.0 ∷ o.0), o.1, (f.0, f.1, v.0, s.0, o.0, refl, f.3, f.4, s.3, v.3, o.3), o.4,
-        subst (λ (xs : List Placed). Begins from (spaced_fields_text (member k j ms) ++ after) xs) row (subst (λ (xs : List ℕ). Begins from xs (f.0 ∷ f.1 ∷ f.2)) text f.7))
-
+      ap (λ (xs : List Placed). f.0 ∷ f.1 ∷ xs) (v.2 ∙ ap (λ (xs : List Placed). v.0 ++ xs) (s.2 ∙ ap (λ (xs : List Placed). s.0 ∷ xs) o.2) ∙ sym (append_assoc v.0 (s.0 ∷ o.0) o.1)) in
+      let text : 32 ∷ (k ++ 32 ∷ 61 ∷ 32 ∷ tail) ≡ spaced_fields_text (member k j ms) ++ after = ap (λ (xs : List ℕ). 32 ∷ xs) (sym (append_assoc (field_text k (value_text j)) (spaced_fields_text ms) after ∙ field_row k (value_text j) (spaced_fields_text ms ++ after))) in (
+        f.0 ∷ f.1 ∷ (v.0 ++ s.0 ∷ o.0),
+        o.1,
+        (f.0, f.1, v.0, s.0, o.0, refl, f.3, f.4, s.3, v.3, o.3),
+        o.4,
+        subst (λ (xs : List Placed). Begins from (spaced_fields_text (member k j ms) ++ after) xs) row (subst (λ (xs : List ℕ). Begins from xs (f.0 ∷ f.1 ∷ f.2)) text f.7),
+      )
 
 -- the fields of a text, each on a line
 text_begins : (ms : Members) → FieldsAreSpellable ms → (gap : List ℕ) → IsGap gap → (from : ℕ) → (ps : List Placed) × (places : List ℕ) × IsSentence ps ms places × Begins from (gap ++ fields_text ms) ps
@@ -231,16 +257,19 @@ text_begins (member k j ms) h gap g from =
     let tail : List ℕ = value_text j ++ 59 ∷ 10 ∷ fields_text ms in
     let Q2 : List Placed → Type 0 = λ ps. (a : List Placed) × (b : List Placed) × (ps ≡ a ++ b) × IsValue a j × Signed 59 Q1 b in
     let after2 : After Q2 (32 ∷ tail) = λ n.
-        let v = value_begins j h.1 (32 ∷ []) space (59 ∷ 10 ∷ fields_text ms) refl (Signed 59 Q1) (signed 59 Q1 [] (10 ∷ fields_text ms) none refl after1) n in
-        (v.0 ++ v.1, (v.0, v.1, refl, v.2, v.3), v.4) in
+    let v = value_begins j h.1 (32 ∷ []) space (59 ∷ 10 ∷ fields_text ms) refl (Signed 59 Q1) (signed 59 Q1 [] (10 ∷ fields_text ms) none refl after1) n in
+    (v.0 ++ v.1, (v.0, v.1, refl, v.2, v.3), v.4) in
     let f = named k gap tail Q2 h.0 g after2 from in
     let v = f.6 in
     let s = v.4 in
     let o = s.4 in
     let row : f.0 ∷ f.1 ∷ f.2 ≡ f.0 ∷ f.1 ∷ (v.0 ++ s.0 ∷ s.1) = ap (λ (xs : List Placed). f.0 ∷ f.1 ∷ xs) (v.2 ∙ ap (λ (xs : List Placed). v.0 ++ xs) s.2) in
-    let text : gap ++ (k ++ 32 ∷ 61 ∷ 32 ∷ tail) ≡ gap ++ fields_text (member k j ms) = ap (λ (xs : List ℕ). gap ++ xs) (sym (field_row k (value_text j) (10 ∷ fields_text ms))) in
-    (f.0 ∷ f.1 ∷ (v.0 ++ s.0 ∷ s.1), f.0.at ∷ o.0, (f.0, f.1, v.0, s.0, s.1, refl, f.3, f.4, s.3, v.3, refl, o.1),
-      subst (λ (xs : List Placed). Begins from (gap ++ fields_text (member k j ms)) xs) row (subst (λ (xs : List ℕ). Begins from xs (f.0 ∷ f.1 ∷ f.2)) text f.7))
+    let text : gap ++ (k ++ 32 ∷ 61 ∷ 32 ∷ tail) ≡ gap ++ fields_text (member k j ms) = ap (λ (xs : List ℕ). gap ++ xs) (sym (field_row k (value_text j) (10 ∷ fields_text ms))) in (
+      f.0 ∷ f.1 ∷ (v.0 ++ s.0 ∷ s.1),
+      f.0.at ∷ o.0,
+      (f.0, f.1, v.0, s.0, s.1, refl, f.3, f.4, s.3, v.3, refl, o.1),
+      subst (λ (xs : List Placed). Begins from (gap ++ fields_text (member k j ms)) xs) row (subst (λ (xs : List ℕ). Begins from xs (f.0 ∷ f.1 ∷ f.2)) text f.7),
+    )
 
 -- the canonical text reads as its tree
 canonical_reads : (ms : Members) → FieldsAreSpellable ms → MembersHaveDistinctNames ms → MembersFitDepth max_depth ms → (lines : List ℕ) × ReadsFields (fields_text ms) ms lines

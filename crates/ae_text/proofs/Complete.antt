@@ -1,18 +1,17 @@
 -- What is in the grammar is read.
-use Rattle.std.proofs.Common.{◌≡◌, ◌≢◌, ℕ, zero, suc, ◌+◌, ◌-◌, ◌<◌, ◌≤◌, ◌⊎◌, inl, inr, Bool, true, false, cond, ◌||◌, length, arith, List, [], ◌∷◌, ◌++◌, Result, Ok, Err, refl, sym, ap, subst, ◌∙◌, append_assoc, rules}
-use Rattle.std.specs.Prelude.{nat_lt}
+use Rattle.std.proofs.Common.{◌≡◌, ◌≢◌, ℕ, suc, ◌+◌, ◌-◌, ◌<◌, inl, inr, Bool, true, false, ◌||◌, length, arith, List, [], ◌∷◌, ◌++◌, Result, refl, ap, ◌∙◌, append_assoc}
 use Rattle.std.specs.Str.{bytes_eq}
 use Rattle.std.proofs.lemmas.Slice.Eq.{bytes_eq-Decides}
 use Rattle.std.proofs.lemmas.Bool.Decides.{nat_tests}
 use Rattle.std.proofs.lemmas.List.{append-nil}
 use Rattle.ae_text.specs.Tree.{Node, list, fields, Items, no_items, item, Members, no_members, member}
 use Rattle.ae_text.specs.Tree as tree
-use Rattle.ae_text.specs.Token.{Token, word, number, string, sign, end, bad, Placed}
+use Rattle.ae_text.specs.Token.{Token, word, number, string, sign, Placed}
 use Rattle.ae_text.specs.WellFormed.{LacksName}
 use Rattle.ae_text.proofs.Shaped.{IsShaped, AreShaped, FieldsAreShaped}
 use Rattle.ae_text.specs.Grammar.{IsValue, AreItems, AreMoreItems, AreFields, IsSentence}
 use Rattle.ae_text.specs.View.{items_of, members_of}
-use Rattle.ae_text.specs.Pushdown.{Frame, in_list, in_fields, Place, at_name, at_equals, at_value, at_semicolon, at_item, at_comma, done, State, Fault, moved, deliver, fields_of, list_of, has_name, noted, value_step, open_step, place_step, is_sign_of, step, start, and_step, run}
+use Rattle.ae_text.specs.Pushdown.{Frame, in_list, in_fields, Place, at_name, at_equals, at_value, at_semicolon, at_item, at_comma, done, State, Fault, moved, deliver, fields_of, list_of, has_name, noted, value_step, open_step, is_sign_of, step, and_step, run}
 
 -- the place of what waits for a value
 abbrev pub waits : Frame → Place
@@ -137,14 +136,14 @@ mutual
   value_goes (list js) limit depth outer starts f ps rest (o, inner, c, e, eo, ec, hs) shaped deep =
       rw (e, append_assoc inner (c ∷ []) rest)
       (begins limit outer starts f o (sign 91) _ (inner ++ c ∷ rest) eo refl (opened limit outer starts f (at_item []) (omega arith))
-          ∙ items_go js limit (depth - 1) outer starts f [] inner c rest hs shaped.1 ec (omega arith)
-          ∙ ap (λ (xs : Items). run limit (moved outer starts (deliver (list xs) f)) rest) (items_list-back js))
+      ∙ items_go js limit (depth - 1) outer starts f [] inner c rest hs shaped.1 ec (omega arith)
+      ∙ ap (λ (xs : Items). run limit (moved outer starts (deliver (list xs) f)) rest) (items_list-back js))
   value_goes (fields ms) limit depth outer starts f ps rest (o, inner, c, e, eo, ec, hs) shaped deep =
       rw (e, append_assoc inner (c ∷ []) rest)
       (begins limit outer starts f o (sign 123) _ (inner ++ c ∷ rest) eo refl (opened limit outer starts f (at_name []) (omega arith))
-          ∙ fields_go ms limit (depth - 1) outer starts f [] inner (c ∷ rest) hs shaped.1 (Fresh-nil ms) (omega arith)
-          ∙ fields_close limit outer starts f (members_list ms) c rest ec
-          ∙ ap (λ (m : Members). run limit (moved outer starts (deliver (fields m) f)) rest) (members_list-back ms))
+      ∙ fields_go ms limit (depth - 1) outer starts f [] inner (c ∷ rest) hs shaped.1 (Fresh-nil ms) (omega arith)
+      ∙ fields_close limit outer starts f (members_list ms) c rest ec
+      ∙ ap (λ (m : Members). run limit (moved outer starts (deliver (fields m) f)) rest) (members_list-back ms))
 
   items_go : (js : Items) (limit depth : ℕ) (outer : List Frame) (starts : List ℕ) (f : Frame) (vs : List Node) (ps : List Placed) (c : Placed) (rest : List Placed)
       → AreItems ps js → AreShaped depth js → c.token ≡ sign 93 → length outer + suc depth ≡ limit
@@ -154,8 +153,8 @@ mutual
   items_go (item j js) limit depth outer starts f vs ps c rest (first, later, e, hv, hm) shaped ec deep =
       rw (e, with_rest first later c rest)
       (value_goes j limit depth (f ∷ outer) starts (in_list vs) first (later ++ c ∷ rest) hv shaped.0 (omega arith)
-          ∙ more_go js limit depth outer starts f (vs ++ j ∷ []) later c rest hm shaped.1 ec deep
-          ∙ ap (λ (xs : List Node). run limit (moved outer starts (deliver (list (items_of xs)) f)) rest) (append_assoc vs (j ∷ []) (items_list js)))
+      ∙ more_go js limit depth outer starts f (vs ++ j ∷ []) later c rest hm shaped.1 ec deep
+      ∙ ap (λ (xs : List Node). run limit (moved outer starts (deliver (list (items_of xs)) f)) rest) (append_assoc vs (j ∷ []) (items_list js)))
 
   more_go : (js : Items) (limit depth : ℕ) (outer : List Frame) (starts : List ℕ) (f : Frame) (vs : List Node) (ps : List Placed) (c : Placed) (rest : List Placed)
       → AreMoreItems ps js → AreShaped depth js → c.token ≡ sign 93 → length outer + suc depth ≡ limit
@@ -167,9 +166,9 @@ mutual
   more_go (item j js) limit depth outer starts f vs ps c rest (comma, first, later, e, ek, hv, hm) shaped ec deep =
       rw (e, with_rest first later c rest)
       (comma_goes limit (f ∷ outer) starts vs comma (first ++ (later ++ c ∷ rest)) ek
-          ∙ value_goes j limit depth (f ∷ outer) starts (in_list vs) first (later ++ c ∷ rest) hv shaped.0 (omega arith)
-          ∙ more_go js limit depth outer starts f (vs ++ j ∷ []) later c rest hm shaped.1 ec deep
-          ∙ ap (λ (xs : List Node). run limit (moved outer starts (deliver (list (items_of xs)) f)) rest) (append_assoc vs (j ∷ []) (items_list js)))
+      ∙ value_goes j limit depth (f ∷ outer) starts (in_list vs) first (later ++ c ∷ rest) hv shaped.0 (omega arith)
+      ∙ more_go js limit depth outer starts f (vs ++ j ∷ []) later c rest hm shaped.1 ec deep
+      ∙ ap (λ (xs : List Node). run limit (moved outer starts (deliver (list (items_of xs)) f)) rest) (append_assoc vs (j ∷ []) (items_list js)))
 
   fields_go : (ms : Members) (limit depth : ℕ) (outer : List Frame) (starts : List ℕ) (f : Frame) (fs : List (List ℕ × Node)) (ps rest : List Placed)
       → AreFields ps ms → FieldsAreShaped depth ms → Fresh fs ms → length outer + suc depth ≡ limit
@@ -178,9 +177,9 @@ mutual
   fields_go (member k j ms) limit depth outer starts f fs ps rest (name, equals, value, semicolon, later, e, ek, ee, es, hv, hm) shaped fresh deep =
       rw (e, append_assoc value (semicolon ∷ later) rest)
       (field_goes limit (f ∷ outer) starts fs k j name equals semicolon value (later ++ rest) ek ee es fresh.0
-          (value_goes j limit depth (f ∷ outer) starts (in_fields fs k) value (semicolon ∷ (later ++ rest)) hv shaped.1 (omega arith))
-          ∙ fields_go ms limit depth outer starts f (fs ++ (k, j) ∷ []) later rest hm shaped.2 (Fresh-push fs k j ms fresh.1 shaped.0) deep
-          ∙ ap (λ (xs : List (List ℕ × Node)). run limit (moved (f ∷ outer) starts (at_name xs)) rest) (append_assoc fs ((k, j) ∷ []) (members_list ms)))
+      (value_goes j limit depth (f ∷ outer) starts (in_fields fs k) value (semicolon ∷ (later ++ rest)) hv shaped.1 (omega arith))
+      ∙ fields_go ms limit depth outer starts f (fs ++ (k, j) ∷ []) later rest hm shaped.2 (Fresh-push fs k j ms fresh.1 shaped.0) deep
+      ∙ ap (λ (xs : List (List ℕ × Node)). run limit (moved (f ∷ outer) starts (at_name xs)) rest) (append_assoc fs ((k, j) ∷ []) (members_list ms)))
 
 -- a whole text
 pub sentence_goes : (ms : Members) (limit : ℕ) (starts : List ℕ) (fs : List (List ℕ × Node)) (ps : List Placed) (places : List ℕ) → IsSentence ps ms places → FieldsAreShaped limit ms → Fresh fs ms
@@ -193,7 +192,7 @@ sentence_goes (member k j ms) limit starts fs ps [] h shaped fresh = absurd h
 sentence_goes (member k j ms) limit starts fs ps (at ∷ places) (name, equals, value, semicolon, later, e, ek, ee, es, hv, ea, hm) shaped fresh =
     rw e
     (field_goes limit [] starts fs k j name equals semicolon value later ek ee es fresh.0
-        (value_goes j limit limit [] (starts ++ name.at ∷ []) (in_fields fs k) value (semicolon ∷ later) hv shaped.1 (omega arith))
-        ∙ sentence_goes ms limit (starts ++ name.at ∷ []) (fs ++ (k, j) ∷ []) later places hm shaped.2 (Fresh-push fs k j ms fresh.1 shaped.0)
-        ∙ ap (λ (xs : List (List ℕ × Node)). moved [] ((starts ++ name.at ∷ []) ++ places) (done xs)) (append_assoc fs ((k, j) ∷ []) (members_list ms))
-        ∙ ap (λ (xs : List ℕ). moved [] xs (done (fs ++ (k, j) ∷ members_list ms))) (append_assoc starts (name.at ∷ []) places ∙ ap (λ (x : ℕ). starts ++ x ∷ places) ea))
+    (value_goes j limit limit [] (starts ++ name.at ∷ []) (in_fields fs k) value (semicolon ∷ later) hv shaped.1 (omega arith))
+    ∙ sentence_goes ms limit (starts ++ name.at ∷ []) (fs ++ (k, j) ∷ []) later places hm shaped.2 (Fresh-push fs k j ms fresh.1 shaped.0)
+    ∙ ap (λ (xs : List (List ℕ × Node)). moved [] ((starts ++ name.at ∷ []) ++ places) (done xs)) (append_assoc fs ((k, j) ∷ []) (members_list ms))
+    ∙ ap (λ (xs : List ℕ). moved [] xs (done (fs ++ (k, j) ∷ members_list ms))) (append_assoc starts (name.at ∷ []) places ∙ ap (λ (x : ℕ). starts ++ x ∷ places) ea))

@@ -1,5 +1,5 @@
 -- A text that is read has no error line, and no text has two.
-use Rattle.std.proofs.Common.{◌≡◌, ◌≢◌, ℕ, zero, suc, ◌+◌, ◌-◌, ◌<◌, ◌≤◌, ◌⊎◌, inl, inr, Bool, true, false, length, arith, List, [], ◌∷◌, ◌++◌, Result, Ok, Err, refl, sym, ap, subst, ◌∙◌, append_assoc}
+use Rattle.std.proofs.Common.{◌≡◌, ℕ, inl, inr, length, arith, List, [], ◌∷◌, ◌++◌, Result, Ok, refl, sym, ap, subst, ◌∙◌, append_assoc}
 use Rattle.std.proofs.lemmas.List.{append-nil}
 use Rattle.ae_text.specs.Tree.{Node, list, fields, Members}
 use Rattle.ae_text.specs.Tree as tree
@@ -7,7 +7,7 @@ use Rattle.ae_text.specs.Token.{Placed}
 use Rattle.ae_text.specs.WellFormed.{max_depth}
 use Rattle.ae_text.specs.Grammar.{IsSentence, ReadsFields, Reads, line_of}
 use Rattle.ae_text.specs.Wrong.{GoesOn, IsWrongAt, IsSyntax, IsTooDeep, IsError}
-use Rattle.ae_text.specs.Pushdown.{State, Fault, done, start, run, moved}
+use Rattle.ae_text.specs.Pushdown.{State, Fault, done, start, run}
 use Rattle.ae_text.proofs.Complete.{members_list, sentence_goes, Fresh-nil}
 use Rattle.ae_text.proofs.Viable.{run-append}
 use Rattle.ae_text.proofs.Tokens.{begins_leads}
@@ -34,7 +34,7 @@ last_same (a ∷ c ∷ front) [] p q e = absurd cc
 last_same (a ∷ front) (b ∷ other) p q e = let tail : front ++ p ∷ [] ≡ other ++ q ∷ [] = cc in last_same front other p q tail
 
 -- what begins a row that goes on goes on
-goes_before : (depth : ℕ) (front more : List Placed) → GoesOn depth (front ++ more) → GoesOn depth front
+pub goes_before : (depth : ℕ) (front more : List Placed) → GoesOn depth (front ++ more) → GoesOn depth front
 goes_before depth front more (rest, ms, places, sentence, names_differ, nests) =
     (more ++ rest, ms, places, subst (λ (ps : List Placed). IsSentence ps ms places) (append_assoc front more rest) sentence, names_differ, nests)
 
@@ -42,17 +42,17 @@ sentence_ends : (bytes : List ℕ) (ms : Members) (lines : List ℕ) (h : ReadsF
 sentence_ends bytes ms lines h more other (rest, others, places, sentence, names_differ, nests) =
     let tail : List Placed = (more ++ other ∷ []) ++ rest in
     let row : ((h.all ++ more) ++ other ∷ []) ++ rest ≡ h.all ++ tail =
-        ap (λ (ps : List Placed). ps ++ rest) (append_assoc h.all more (other ∷ [])) ∙ append_assoc h.all (more ++ other ∷ []) rest in
+    ap (λ (ps : List Placed). ps ++ rest) (append_assoc h.all more (other ∷ [])) ∙ append_assoc h.all (more ++ other ∷ []) rest in
     let last : State = record { outer = []; place = done (members_list ms); starts = h.places } in
     let end : State = record { outer = []; place = done (members_list others); starts = places } in
     let read : run max_depth (Ok start) (((h.all ++ more) ++ other ∷ []) ++ rest) ≡ Ok end = sentence_goes others max_depth [] [] (((h.all ++ more) ++ other ∷ []) ++ rest) places sentence (shaped others max_depth names_differ nests) (Fresh-nil others) in
     let on : run max_depth (Ok last) tail ≡ Ok end =
-        ap (λ (r : Result State Fault). run max_depth r tail) (sym (sentence_run bytes ms lines h)) ∙ sym (run-append max_depth (Ok start) h.all tail) ∙ ap (run max_depth (Ok start)) (sym row) ∙ read in
+    ap (λ (r : Result State Fault). run max_depth r tail) (sym (sentence_run bytes ms lines h)) ∙ sym (run-append max_depth (Ok start) h.all tail) ∙ ap (run max_depth (Ok start)) (sym row) ∙ read in
     let nothing : tail ≡ [] = (done_stops last refl tail end on).0 in
     not_nothing more nothing where
-  not_nothing : (more : List Placed) → (more ++ other ∷ []) ++ rest ≡ [] → ⊥
-  not_nothing [] e = cc
-  not_nothing (m ∷ more) e = cc
+      not_nothing : (more : List Placed) → (more ++ other ∷ []) ++ rest ≡ [] → ⊥
+      not_nothing [] e = cc
+      not_nothing (m ∷ more) e = cc
 
 -- a text in the grammar has no wrong token
 pub never_wrong : (bytes : List ℕ) (ms : Members) (lines : List ℕ) (line : ℕ) (front : List Placed) (p : Placed) → ReadsFields bytes ms lines → IsWrongAt bytes line front p → ⊥
@@ -63,13 +63,13 @@ never_wrong bytes ms lines line front p h w =
       | inl m ↦ w.cannot_stand (m.0, ms, h.places, subst (λ (ps : List Placed). IsSentence ps ms h.places) m.1 h.sentence, h.names_differ, h.nests)
       | inr m ↦ by_more m.0 m.1
     ] where
-  by_more : (more : List Placed) → front ++ p ∷ [] ≡ h.all ++ more → ⊥
-  by_more [] e =
-      let row : h.all ≡ (front ++ p ∷ []) ++ [] = sym (append-nil h.all) ∙ sym e ∙ sym (append-nil (front ++ p ∷ [])) in
-      w.cannot_stand ([], ms, h.places, subst (λ (ps : List Placed). IsSentence ps ms h.places) row h.sentence, h.names_differ, h.nests)
-  by_more (x ∷ more) e =
-      let o = before_last h.all front p x more e in
-      sentence_ends bytes ms lines h o.0 w.can_go_on.0 (subst (λ (ps : List Placed). GoesOn max_depth (ps ++ w.can_go_on.0 ∷ [])) o.1 w.can_go_on.1)
+      by_more : (more : List Placed) → front ++ p ∷ [] ≡ h.all ++ more → ⊥
+      by_more [] e =
+          let row : h.all ≡ (front ++ p ∷ []) ++ [] = sym (append-nil h.all) ∙ sym e ∙ sym (append-nil (front ++ p ∷ [])) in
+          w.cannot_stand ([], ms, h.places, subst (λ (ps : List Placed). IsSentence ps ms h.places) row h.sentence, h.names_differ, h.nests)
+      by_more (x ∷ more) e =
+          let o = before_last h.all front p x more e in
+          sentence_ends bytes ms lines h o.0 w.can_go_on.0 (subst (λ (ps : List Placed). GoesOn max_depth (ps ++ w.can_go_on.0 ∷ [])) o.1 w.can_go_on.1)
 
 -- of two wrong tokens none stands behind the other
 not_behind : (bytes : List ℕ) (a b : ℕ) (front other : List Placed) (p q : Placed) → IsWrongAt bytes a front p → IsWrongAt bytes b other q → (more : List Placed) → other ++ q ∷ [] ≡ (front ++ p ∷ []) ++ more

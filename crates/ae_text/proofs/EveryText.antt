@@ -1,15 +1,15 @@
 -- Every text is in the grammar or has an error line.
-use Rattle.std.proofs.Common.{◌≡◌, ◌≢◌, ℕ, zero, suc, ◌+◌, ◌-◌, ◌<◌, ◌≤◌, ◌⊎◌, inl, inr, Bool, true, false, cond, length, arith, List, [], ◌∷◌, ◌++◌, Result, Ok, Err, refl, sym, ap, subst, ◌∙◌, map}
+use Rattle.std.proofs.Common.{◌≡◌, ℕ, zero, suc, ◌+◌, ◌<◌, ◌⊎◌, inl, inr, Bool, true, false, length, arith, List, [], ◌∷◌, ◌++◌, Result, Ok, Err, refl, ap, ◌∙◌, map}
 use Rattle.std.proofs.lemmas.List.{length-append}
 use Rattle.ae_text.specs.Tree.{Node, fields}
-use Rattle.ae_text.specs.Token.{Token, word, number, string, sign, end, bad, Placed, Stands}
+use Rattle.ae_text.specs.Token.{Token, word, number, string, sign, end, bad, Stands}
 use Rattle.ae_text.specs.WellFormed.{is_word, max_depth}
 use Rattle.ae_text.specs.Grammar.{Reads, line_of}
 use Rattle.ae_text.specs.Wrong.{IsError}
 use Rattle.ae_text.specs.View.{members_of}
 use Rattle.ae_text.specs.Pushdown.{State, Fault, syntax, too_deep, start, step}
 use Rattle.ae_text.specs.Scan.{is_moving, gapless, next, behind}
-use Rattle.ae_text.specs.Parsing.{Taken, Stopped, is_done}
+use Rattle.ae_text.specs.Parsing.{Taken, is_done}
 use Rattle.ae_text.specs.Reading.{left}
 use Rattle.ae_text.proofs.Tokens.{next_found}
 use Rattle.ae_text.proofs.Reader.{falls, taken_more, taken_none}
@@ -39,8 +39,8 @@ turn_falls total s t rest e going =
     let f = next_found rest in
     let len : length (gapless rest) ≡ length f.1 + length (behind rest) = ap length f.5 ∙ length-append f.1 (behind rest) in
     falls max_depth s t (next total rest) rest (gapless rest) (behind rest) e
-      (λ m. let some = some_bytes f.1 (behind rest) (next total rest).token f.6 m in omega (arith, len, some))
-      (omega (arith, len)) (omega (arith, f.4)) going
+    (λ m. let some = some_bytes f.1 (behind rest) (next total rest).token f.6 m in omega (arith, len, some))
+    (omega (arith, len)) (omega (arith, f.4)) going
 
 abbrev Again : List ℕ → List ℕ → State → Type 0
 Again bytes rest s = (t : State) → Taken bytes (behind rest) t → left t (behind rest) < left s rest → IsOneOf bytes

@@ -1,10 +1,10 @@
 -- The words of a text that is read are words.
-use Rattle.std.proofs.Common.{◌≡◌, ℕ, ◌+◌, ◌⊎◌, inl, inr, Bool, true, length, List, [], ◌∷◌, ◌++◌, refl, sym, ap, subst, ◌∙◌}
+use Rattle.std.proofs.Common.{◌≡◌, ℕ, ◌+◌, true, length, List, [], ◌∷◌, ◌++◌, subst}
 use Rattle.ae_text.specs.Tree.{Node, list, fields, Items, no_items, item, Members, no_members, member}
 use Rattle.ae_text.specs.Tree as tree
 use Rattle.ae_text.specs.Token.{Token, word, number, string, sign, end, bad, Placed, Begins, Stands}
 use Rattle.ae_text.specs.WellFormed.{is_word, HasGoodWords, ItemsHaveGoodWords, MembersHaveGoodWords, IsWellFormed}
-use Rattle.ae_text.specs.Grammar.{IsValue, AreItems, AreMoreItems, AreFields, IsSentence, ReadsFields, Reads}
+use Rattle.ae_text.specs.Grammar.{IsValue, AreItems, AreMoreItems, AreFields, IsSentence, Reads}
 
 -- a token that is a word is a word by its letters
 abbrev IsGood : Token → Type 0

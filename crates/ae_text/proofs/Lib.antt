@@ -14,3 +14,4 @@ pub mod Errors
 pub mod EveryText
 pub mod GoodWords
 pub mod Again
+pub mod Deep

@@ -1,5 +1,5 @@
 -- Words, numbers and strings.
-use Rattle.std.proofs.Common.{◌≡◌, ◌≢◌, ℕ, zero, suc, ◌+◌, ◌-◌, ◌*◌, ◌^◌, ◌<◌, ◌≤◌, ◌⊎◌, inl, inr, Bool, true, false, cond, eqb, leb, ltb, ◌||◌, ◌&&◌, length, take, drop, arith, List, [], ◌∷◌, ◌++◌, Option, Some, None, refl, sym, ap, subst, ◌∙◌, append_assoc}
+use Rattle.std.proofs.Common.{◌≡◌, ℕ, zero, suc, ◌+◌, ◌-◌, ◌*◌, ◌^◌, ◌<◌, ◌≤◌, Bool, true, false, cond, eqb, ltb, ◌||◌, ◌&&◌, length, take, drop, arith, List, [], ◌∷◌, ◌++◌, Option, Some, None, refl, sym, ap, subst, ◌∙◌, append_assoc}
 use Rattle.std.specs.Prelude.{fold}
 use Rattle.std.proofs.lemmas.Bool.{eqb-true, eqb-false, ltb-true, lt-ltb, ne_eqb}
 use Rattle.std.proofs.lemmas.Bool.Decides.{nat_tests}
@@ -7,7 +7,7 @@ use Rattle.std.proofs.lemmas.List.{length-append, append-nil}
 use Rattle.std.specs.List.{list_all}
 use Rattle.ae_base.specs.Names.{is_digit}
 use Rattle.ae_text.specs.WellFormed.{begins_word, goes_on_word}
-use Rattle.ae_text.specs.Token.{stops, all_digits, value_of, IsPlain, IsOctal, IsPiece, plain, line_end, tab, quote, backslash, octal, ArePieces}
+use Rattle.ae_text.specs.Token.{stops, all_digits, IsOctal, IsPiece, plain, line_end, tab, quote, backslash, octal, ArePieces}
 use Rattle.ae_text.specs.Scan.{run_length, number_from, is_octal, octal_value, octal_byte, with_rest, octal_at, escape_at, piece_at, closed_string, string_step, string_in}
 use Rattle.ae_text.proofs.Gaps.{some, some_is}
 use Rattle.ae_text.proofs.Turns.{string_turn, string_end}
@@ -180,6 +180,7 @@ string_found (suc n) front bytes w r e = by_piece (piece_at bytes) refl e (λ p 
     by_quote : (t : Bool) → eqb b 34 ≡ t → cond {A = Option (List ℕ × List ℕ)} t (Some (front, bs)) None ≡ Some (w, r) → (inner : List ℕ) × (v : List ℕ) × (w ≡ front ++ v) × (b ∷ bs ≡ inner ++ 34 ∷ r) × ArePieces inner v
     by_quote true h e = let is = text_is front w bs r e in ([], [], sym is.0 ∙ sym (append-nil front), rw (eqb-true b 34 h, is.1) refl, refl)
     by_quote false h e = absurd cc
+
   by_piece : (o : Option (ℕ × List ℕ)) → piece_at bytes ≡ o → string_step (string_in n) front bytes o ≡ Some (w, r)
       → ((p : ℕ × List ℕ) → string_in n (front ++ p.0 ∷ []) p.1 ≡ Some (w, r) → (inner : List ℕ) × (v : List ℕ) × (w ≡ (front ++ p.0 ∷ []) ++ v) × (p.1 ≡ inner ++ 34 ∷ r) × ArePieces inner v)
       → (inner : List ℕ) × (v : List ℕ) × (w ≡ front ++ v) × (bytes ≡ inner ++ 34 ∷ r) × ArePieces inner v

@@ -1,10 +1,10 @@
 -- The loop over the tokens.
-use Rattle.std.proofs.Common.{◌≡◌, ℕ, zero, suc, ◌+◌, ◌-◌, ◌<◌, ◌≤◌, Bool, true, false, cond, length, arith, List, [], ◌∷◌, ◌++◌, Result, Ok, Err, refl, sym, ap, subst, ◌∙◌}
+use Rattle.std.proofs.Common.{◌≡◌, ℕ, ◌<◌, ◌≤◌, Bool, true, false, cond, length, arith, List, [], ◌∷◌, ◌++◌, Result, Ok, refl, sym, ap, ◌∙◌}
 use Rattle.ae_text.specs.Token.{Token, word, number, string, sign, end, bad, Placed}
 use Rattle.ae_text.specs.WellFormed.{max_depth}
-use Rattle.ae_text.specs.Pushdown.{Frame, in_list, in_fields, Place, at_name, at_equals, at_value, at_semicolon, at_item, at_comma, done, State, Fault, place_step, step, start, run}
+use Rattle.ae_text.specs.Pushdown.{Frame, Place, at_name, at_equals, at_value, at_semicolon, at_item, at_comma, done, State, Fault, place_step, step, start, run}
 use Rattle.ae_text.specs.Scan.{is_moving, next, behind, Leads}
-use Rattle.ae_text.specs.Parsing.{Taken, Stopped, is_done}
+use Rattle.ae_text.specs.Parsing.{Taken, is_done}
 use Rattle.ae_text.specs.Reading.{left}
 use Rattle.ae_text.proofs.Viable.{run-append}
 

@@ -1,5 +1,5 @@
 -- Distinct names and depth, in one.
-use Rattle.std.proofs.Common.{ℕ, ◌-◌, ◌<◌, List}
+use Rattle.std.proofs.Common.{ℕ, ◌-◌, ◌<◌}
 use Rattle.ae_text.specs.Tree.{Node, list, fields, Items, no_items, item, Members, no_members, member}
 use Rattle.ae_text.specs.Tree as tree
 use Rattle.ae_text.specs.WellFormed.{LacksName, HasDistinctNames, ItemsHaveDistinctNames, MembersHaveDistinctNames, FitsDepth, ItemsFitDepth, MembersFitDepth}

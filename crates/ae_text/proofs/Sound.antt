@@ -1,10 +1,9 @@
 -- What is read is in the grammar.
-use Rattle.std.proofs.Common.{◌≡◌, ◌≢◌, ℕ, zero, suc, ◌+◌, ◌-◌, ◌<◌, ◌≤◌, ◌⊎◌, inl, inr, Bool, true, false, cond, eqb, ltb, ◌||◌, length, arith, List, [], ◌∷◌, ◌++◌, Result, Ok, Err, refl, sym, ap, subst, ◌∙◌, append_assoc, rules}
+use Rattle.std.proofs.Common.{◌≡◌, ◌≢◌, ℕ, zero, suc, ◌+◌, ◌-◌, ◌<◌, ◌⊎◌, inl, inr, Bool, true, false, cond, eqb, ltb, length, arith, List, [], ◌∷◌, ◌++◌, Result, Ok, Err, refl, sym, ap, subst, ◌∙◌, append_assoc}
 use Rattle.std.specs.Str.{bytes_eq}
 use Rattle.std.proofs.lemmas.Slice.Eq.{bytes_eq-Decides}
 use Rattle.std.proofs.lemmas.Bool.{eqb-true, ltb-true}
-use Rattle.std.proofs.lemmas.Bool.Decides.{nat_tests}
-use Rattle.std.proofs.lemmas.List.{append-nil, length-append}
+use Rattle.std.proofs.lemmas.List.{append-nil}
 use Rattle.ae_text.specs.Tree.{Node, list, fields, Items, no_items, item, Members, no_members, member}
 use Rattle.ae_text.specs.Tree as tree
 use Rattle.ae_text.specs.Token.{Token, word, number, string, sign, end, bad, Placed}
@@ -12,8 +11,8 @@ use Rattle.ae_text.specs.WellFormed.{LacksName}
 use Rattle.ae_text.proofs.Shaped.{IsShaped, AreShaped, FieldsAreShaped}
 use Rattle.ae_text.specs.Grammar.{IsValue, AreItems, AreMoreItems, AreFields, IsSentence}
 use Rattle.ae_text.specs.View.{items_of, members_of}
-use Rattle.ae_text.specs.Pushdown.{Frame, in_list, in_fields, Place, at_name, at_equals, at_value, at_semicolon, at_item, at_comma, done, State, Fault, syntax, too_deep, moved, deliver, fields_of, list_of, has_name, noted, value_step, open_step, close_step, name_step, item_step, comma_step, place_step, is_sign_of, step, start, and_step, run}
-use Rattle.ae_text.proofs.Complete.{waits, waits-step, items_list, members_list, items_list-back, members_list-back, Fresh, goes_one, neither}
+use Rattle.ae_text.specs.Pushdown.{Frame, in_list, in_fields, Place, at_name, at_equals, at_value, at_semicolon, at_item, at_comma, done, State, Fault, syntax, too_deep, moved, deliver, fields_of, list_of, has_name, noted, value_step, open_step, close_step, name_step, item_step, comma_step, is_sign_of, step, run}
+use Rattle.ae_text.proofs.Complete.{items_list, members_list, items_list-back, members_list-back, Fresh, neither}
 
 pub run-err : (limit : ℕ) (e : Fault) (ps : List Placed) → run limit (Err e) ps ≡ Err e
 unfolding run
@@ -223,22 +222,23 @@ module _ (limit : ℕ) (last : State) (is_done : IsDone last) (n : ℕ) (found :
             let left : Ends limit outer starts (deliver (tree.fields i.0) f) i.3 last = subst (λ (ms : Members). Ends limit outer starts (deliver (tree.fields ms) f) i.3 last) (members_list-back i.0) i.9.0 in
             (tree.fields i.0, p ∷ (i.1 ++ i.2 ∷ []), i.3, ap (λ (xs : List Placed). p ∷ xs) (i.4 ∙ sym (append_assoc i.1 (i.2 ∷ []) i.3)), (p, i.1, i.2, refl, h.0, i.5, i.6), (omega arith, i.7), (left, omega (arith, i.9.1)))
       ] where
-    plain : (p : Placed) (v : Node) → IsPlainValue p.token v → IsValue (p ∷ []) v
-    plain p v h = of_token p p.token v refl h where
-      of_token : (p : Placed) (t : Token) (v : Node) → p.token ≡ t → IsPlainValue t v → IsValue (p ∷ []) v
-      of_token p (word w) v e h = subst (λ (x : Node). IsValue (p ∷ []) x) (sym h) (p, refl, e)
-      of_token p (number k) v e h = subst (λ (x : Node). IsValue (p ∷ []) x) (sym h) (p, refl, e)
-      of_token p (string w) v e h = subst (λ (x : Node). IsValue (p ∷ []) x) (sym h) (p, refl, e)
-      of_token p (sign b) v e h = absurd h
-      of_token p end v e h = absurd h
-      of_token p bad v e h = absurd h
-    shaped : (depth : ℕ) (t : Token) (v : Node) → IsPlainValue t v → IsShaped depth v
-    shaped depth (word w) v h = subst (λ (x : Node). IsShaped depth x) (sym h) tt
-    shaped depth (number k) v h = subst (λ (x : Node). IsShaped depth x) (sym h) tt
-    shaped depth (string w) v h = subst (λ (x : Node). IsShaped depth x) (sym h) tt
-    shaped depth (sign b) v h = absurd h
-    shaped depth end v h = absurd h
-    shaped depth bad v h = absurd h
+        plain : (p : Placed) (v : Node) → IsPlainValue p.token v → IsValue (p ∷ []) v
+        plain p v h = of_token p p.token v refl h where
+          of_token : (p : Placed) (t : Token) (v : Node) → p.token ≡ t → IsPlainValue t v → IsValue (p ∷ []) v
+          of_token p (word w) v e h = subst (λ (x : Node). IsValue (p ∷ []) x) (sym h) (p, refl, e)
+          of_token p (number k) v e h = subst (λ (x : Node). IsValue (p ∷ []) x) (sym h) (p, refl, e)
+          of_token p (string w) v e h = subst (λ (x : Node). IsValue (p ∷ []) x) (sym h) (p, refl, e)
+          of_token p (sign b) v e h = absurd h
+          of_token p end v e h = absurd h
+          of_token p bad v e h = absurd h
+
+        shaped : (depth : ℕ) (t : Token) (v : Node) → IsPlainValue t v → IsShaped depth v
+        shaped depth (word w) v h = subst (λ (x : Node). IsShaped depth x) (sym h) tt
+        shaped depth (number k) v h = subst (λ (x : Node). IsShaped depth x) (sym h) tt
+        shaped depth (string w) v h = subst (λ (x : Node). IsShaped depth x) (sym h) tt
+        shaped depth (sign b) v h = absurd h
+        shaped depth end v h = absurd h
+        shaped depth bad v h = absurd h
 
   -- a first value, and those behind it
   item_then : (depth : ℕ) (outer : List Frame) (starts : List ℕ) (f : Frame) (vs : List Node) (p : Placed) (ps : List Placed) → length (p ∷ ps) < suc n → length outer + suc depth ≡ limit
@@ -249,7 +249,7 @@ module _ (limit : ℕ) (last : State) (is_done : IsDone last) (n : ℕ) (found :
       let v = value_next depth (f ∷ outer) starts (in_list vs) p ps short (omega arith) s e ends in
       let m = found.more depth outer starts f (vs ++ v.0 ∷ []) v.2 (omega (arith, v.6.1)) deep v.6.0 in
       let left : Ends limit outer starts (deliver (list (items_of (vs ++ v.0 ∷ items_list m.0))) f) m.3 last =
-          subst (λ (xs : List Node). Ends limit outer starts (deliver (list (items_of xs)) f) m.3 last) (append_assoc vs (v.0 ∷ []) (items_list m.0)) m.8.0 in
+      subst (λ (xs : List Node). Ends limit outer starts (deliver (list (items_of xs)) f) m.3 last) (append_assoc vs (v.0 ∷ []) (items_list m.0)) m.8.0 in
       let parts : p ∷ ps ≡ (v.1 ++ m.1) ++ m.2 ∷ m.3 = v.3 ∙ ap (λ (xs : List Placed). v.1 ++ xs) m.4 ∙ sym (append_assoc v.1 m.1 (m.2 ∷ m.3)) in
       (v.0, m.0, v.1, m.1, m.2, m.3, parts, m.5, v.4, m.6, v.5, m.7, (left, omega (arith, v.6.1, m.8.1)))
 
@@ -286,17 +286,17 @@ module _ (limit : ℕ) (last : State) (is_done : IsDone last) (n : ℕ) (found :
             let left : Ends limit outer starts (deliver (list_of vs) f) ps last = rw (same.0, same.1, ← h.4) o.2 in
             (no_items, [], p, ps, refl, h.0, inl refl, tt, (subst (λ (xs : List Node). Ends limit outer starts (deliver (list_of xs) f) ps last) (sym (append-nil vs)) left, omega arith))
       ] where
-    behind_comma : (depth : ℕ) (outer : List Frame) (starts : List ℕ) (f : Frame) (vs : List Node) (p : Placed) (ps : List Placed) → length (p ∷ ps) < suc n → length outer + suc depth ≡ limit → p.token ≡ sign 44
-        → Ends limit (f ∷ outer) starts (at_item vs) ps last → MoreFound limit depth outer starts f vs (p ∷ ps) last
-    behind_comma depth outer starts f vs p ps short deep comma ends =
-        let i = found.items depth outer starts f vs ps (omega arith) deep ends in
-        by_items i.0 i.1 i.2 i.3 i.4 i.5 i.6 i.7 i.8.0 (omega (arith, i.8.1)) where
-      by_items : (js : Items) (inner : List Placed) (c : Placed) (rest : List Placed) → ps ≡ inner ++ c ∷ rest → c.token ≡ sign 93 → AreItems inner js → AreShaped depth js
-          → Ends limit outer starts (deliver (list (items_of (vs ++ items_list js))) f) rest last → length rest < length (p ∷ ps) → MoreFound limit depth outer starts f vs (p ∷ ps) last
-      by_items no_items inner c rest e ec h shaped ends less =
-          (no_items, p ∷ [], c, rest, ap (λ (xs : List Placed). p ∷ xs) (e ∙ ap (λ (xs : List Placed). xs ++ c ∷ rest) h), ec, inr (p, refl, comma), tt, (ends, less))
-      by_items (item j js) inner c rest e ec h shaped ends less =
-          (item j js, p ∷ inner, c, rest, ap (λ (xs : List Placed). p ∷ xs) e, ec, (p, h.0, h.1, ap (λ (xs : List Placed). p ∷ xs) h.2, comma, h.3, h.4), shaped, (ends, less))
+        behind_comma : (depth : ℕ) (outer : List Frame) (starts : List ℕ) (f : Frame) (vs : List Node) (p : Placed) (ps : List Placed) → length (p ∷ ps) < suc n → length outer + suc depth ≡ limit → p.token ≡ sign 44
+            → Ends limit (f ∷ outer) starts (at_item vs) ps last → MoreFound limit depth outer starts f vs (p ∷ ps) last
+        behind_comma depth outer starts f vs p ps short deep comma ends =
+            let i = found.items depth outer starts f vs ps (omega arith) deep ends in
+            by_items i.0 i.1 i.2 i.3 i.4 i.5 i.6 i.7 i.8.0 (omega (arith, i.8.1)) where
+              by_items : (js : Items) (inner : List Placed) (c : Placed) (rest : List Placed) → ps ≡ inner ++ c ∷ rest → c.token ≡ sign 93 → AreItems inner js → AreShaped depth js
+                  → Ends limit outer starts (deliver (list (items_of (vs ++ items_list js))) f) rest last → length rest < length (p ∷ ps) → MoreFound limit depth outer starts f vs (p ∷ ps) last
+              by_items no_items inner c rest e ec h shaped ends less =
+                  (no_items, p ∷ [], c, rest, ap (λ (xs : List Placed). p ∷ xs) (e ∙ ap (λ (xs : List Placed). xs ++ c ∷ rest) h), ec, inr (p, refl, comma), tt, (ends, less))
+              by_items (item j js) inner c rest e ec h shaped ends less =
+                  (item j js, p ∷ inner, c, rest, ap (λ (xs : List Placed). p ∷ xs) e, ec, (p, h.0, h.1, ap (λ (xs : List Placed). p ∷ xs) h.2, comma, h.3, h.4), shaped, (ends, less))
 
   -- a field, up to its `;`
   field_then : (depth : ℕ) (outer : List Frame) (starts : List ℕ) (fs : List (List ℕ × Node)) (k : List ℕ) (name : Placed) (ps : List Placed) → length ps < n → length outer + depth ≡ limit
@@ -312,34 +312,36 @@ module _ (limit : ℕ) (last : State) (is_done : IsDone last) (n : ℕ) (found :
       let g = needs_sign 61 equals.token (moved outer starts (at_value fs k)) o.0 (step_equals o.0 o.1) in
       let inside : Ends limit outer starts (at_value fs k) ps last = let at_once = is_moved outer starts (at_value fs k) o.0 g.1 in rw at_once at o.2 in
       with_value ps (omega arith) g.0 inside where
-    step_equals : (s : State) → step limit (record { outer = outer; place = at_equals fs k; starts = starts }) equals ≡ Ok s → cond (is_sign_of 61 equals.token) (moved outer starts (at_value fs k)) (Err syntax) ≡ Ok s
-    step_equals s e = e
-    with_value : (ps : List Placed) → length (equals ∷ ps) < n → equals.token ≡ sign 61 → Ends limit outer starts (at_value fs k) ps last
-        → (j : Node) × (equals' : Placed) × (value : List Placed) × (semicolon : Placed) × (later : List Placed) × (name ∷ equals ∷ ps ≡ name ∷ equals' ∷ (value ++ semicolon ∷ later))
-        × (equals'.token ≡ sign 61) × (semicolon.token ≡ sign 59) × IsValue value j × IsShaped depth j × Left limit outer starts (at_name (fs ++ (k, j) ∷ [])) later (equals ∷ ps) last
-    with_value [] short eq ends =
-        let at = not_at_end limit last outer starts (at_value fs k) ends in
-        absurd (let never : done is_done.0 ≡ at_value fs k = sym is_done.1 ∙ ap (λ (s : State). s.place) at in cc)
-    with_value (p ∷ ps) short eq ends =
-        let o = ends_one limit outer starts (at_value fs k) p ps last ends in
-        let v = found.value depth outer starts (in_fields fs k) p ps (omega arith) deep o.0 (step_value o.0 o.1) o.2 in
-        with_end v.0 v.1 v.2 v.3 v.4 v.5 v.6.0 (omega (arith, v.6.1)) where
-      step_value : (s : State) → step limit (record { outer = outer; place = at_value fs k; starts = starts }) p ≡ Ok s → value_step limit outer starts (in_fields fs k) p.token ≡ Ok s
-      step_value s e = e
-      with_end : (j : Node) (value rest : List Placed) → p ∷ ps ≡ value ++ rest → IsValue value j → IsShaped depth j → Ends limit outer starts (at_semicolon fs k j) rest last → length rest < length (p ∷ ps)
-          → (j : Node) × (equals' : Placed) × (value : List Placed) × (semicolon : Placed) × (later : List Placed) × (name ∷ equals ∷ p ∷ ps ≡ name ∷ equals' ∷ (value ++ semicolon ∷ later))
-          × (equals'.token ≡ sign 61) × (semicolon.token ≡ sign 59) × IsValue value j × IsShaped depth j × Left limit outer starts (at_name (fs ++ (k, j) ∷ [])) later (equals ∷ p ∷ ps) last
-      with_end j value [] e hv shaped ends less =
-          let at = not_at_end limit last outer starts (at_semicolon fs k j) ends in
-          absurd (let never : done is_done.0 ≡ at_semicolon fs k j = sym is_done.1 ∙ ap (λ (s : State). s.place) at in cc)
-      with_end j value (semicolon ∷ later) e hv shaped ends less =
-          let o = ends_one limit outer starts (at_semicolon fs k j) semicolon later last ends in
-          let g = needs_sign 59 semicolon.token (moved outer starts (at_name (fs ++ (k, j) ∷ []))) o.0 (step_semicolon o.0 o.1) in
-          let left : Ends limit outer starts (at_name (fs ++ (k, j) ∷ [])) later last = let at_once = is_moved outer starts (at_name (fs ++ (k, j) ∷ [])) o.0 g.1 in rw at_once at o.2 in
-          (j, equals, value, semicolon, later, ap (λ (xs : List Placed). name ∷ equals ∷ xs) e, eq, g.0, hv, shaped, (left, omega arith)) where
-        step_semicolon : (s : State) → step limit (record { outer = outer; place = at_semicolon fs k j; starts = starts }) semicolon ≡ Ok s
-            → cond (is_sign_of 59 semicolon.token) (moved outer starts (at_name (fs ++ (k, j) ∷ []))) (Err syntax) ≡ Ok s
-        step_semicolon s e = e
+        step_equals : (s : State) → step limit (record { outer = outer; place = at_equals fs k; starts = starts }) equals ≡ Ok s → cond (is_sign_of 61 equals.token) (moved outer starts (at_value fs k)) (Err syntax) ≡ Ok s
+        step_equals s e = e
+
+        with_value : (ps : List Placed) → length (equals ∷ ps) < n → equals.token ≡ sign 61 → Ends limit outer starts (at_value fs k) ps last
+            → (j : Node) × (equals' : Placed) × (value : List Placed) × (semicolon : Placed) × (later : List Placed) × (name ∷ equals ∷ ps ≡ name ∷ equals' ∷ (value ++ semicolon ∷ later))
+            × (equals'.token ≡ sign 61) × (semicolon.token ≡ sign 59) × IsValue value j × IsShaped depth j × Left limit outer starts (at_name (fs ++ (k, j) ∷ [])) later (equals ∷ ps) last
+        with_value [] short eq ends =
+            let at = not_at_end limit last outer starts (at_value fs k) ends in
+            absurd (let never : done is_done.0 ≡ at_value fs k = sym is_done.1 ∙ ap (λ (s : State). s.place) at in cc)
+        with_value (p ∷ ps) short eq ends =
+            let o = ends_one limit outer starts (at_value fs k) p ps last ends in
+            let v = found.value depth outer starts (in_fields fs k) p ps (omega arith) deep o.0 (step_value o.0 o.1) o.2 in
+            with_end v.0 v.1 v.2 v.3 v.4 v.5 v.6.0 (omega (arith, v.6.1)) where
+              step_value : (s : State) → step limit (record { outer = outer; place = at_value fs k; starts = starts }) p ≡ Ok s → value_step limit outer starts (in_fields fs k) p.token ≡ Ok s
+              step_value s e = e
+
+              with_end : (j : Node) (value rest : List Placed) → p ∷ ps ≡ value ++ rest → IsValue value j → IsShaped depth j → Ends limit outer starts (at_semicolon fs k j) rest last → length rest < length (p ∷ ps)
+                  → (j : Node) × (equals' : Placed) × (value : List Placed) × (semicolon : Placed) × (later : List Placed) × (name ∷ equals ∷ p ∷ ps ≡ name ∷ equals' ∷ (value ++ semicolon ∷ later))
+                  × (equals'.token ≡ sign 61) × (semicolon.token ≡ sign 59) × IsValue value j × IsShaped depth j × Left limit outer starts (at_name (fs ++ (k, j) ∷ [])) later (equals ∷ p ∷ ps) last
+              with_end j value [] e hv shaped ends less =
+                  let at = not_at_end limit last outer starts (at_semicolon fs k j) ends in
+                  absurd (let never : done is_done.0 ≡ at_semicolon fs k j = sym is_done.1 ∙ ap (λ (s : State). s.place) at in cc)
+              with_end j value (semicolon ∷ later) e hv shaped ends less =
+                  let o = ends_one limit outer starts (at_semicolon fs k j) semicolon later last ends in
+                  let g = needs_sign 59 semicolon.token (moved outer starts (at_name (fs ++ (k, j) ∷ []))) o.0 (step_semicolon o.0 o.1) in
+                  let left : Ends limit outer starts (at_name (fs ++ (k, j) ∷ [])) later last = let at_once = is_moved outer starts (at_name (fs ++ (k, j) ∷ [])) o.0 g.1 in rw at_once at o.2 in
+                  (j, equals, value, semicolon, later, ap (λ (xs : List Placed). name ∷ equals ∷ xs) e, eq, g.0, hv, shaped, (left, omega arith)) where
+                    step_semicolon : (s : State) → step limit (record { outer = outer; place = at_semicolon fs k j; starts = starts }) semicolon ≡ Ok s
+                        → cond (is_sign_of 59 semicolon.token) (moved outer starts (at_name (fs ++ (k, j) ∷ []))) (Err syntax) ≡ Ok s
+                    step_semicolon s e = e
 
   fields_next : (depth : ℕ) (outer : List Frame) (starts : List ℕ) (f : Frame) (fs : List (List ℕ × Node)) (ps : List Placed) → length ps < suc n → length outer + suc depth ≡ limit
       → Ends limit (f ∷ outer) starts (at_name fs) ps last → FieldsFound limit depth outer starts f fs ps last
@@ -355,11 +357,19 @@ module _ (limit : ℕ) (last : State) (is_done : IsDone last) (n : ℕ) (found :
             let one = field_then depth (f ∷ outer) starts fs h.0 p ps (omega arith) (omega arith) inside in
             let others = found.fields depth outer starts f (fs ++ (h.0, one.0) ∷ []) one.4 (omega (arith, one.10.1)) deep one.10.0 in
             let left : Ends limit outer starts (deliver (fields (members_of (fs ++ (h.0, one.0) ∷ members_list others.0))) f) others.3 last =
-                subst (λ (xs : List (List ℕ × Node)). Ends limit outer starts (deliver (fields (members_of xs)) f) others.3 last) (append_assoc fs ((h.0, one.0) ∷ []) (members_list others.0)) others.9.0 in
-            let apart = Fresh-pull fs h.0 one.0 others.0 others.8 in
-            (member h.0 one.0 others.0, p ∷ one.1 ∷ (one.2 ++ one.3 ∷ others.1), others.2, others.3,
+            subst (λ (xs : List (List ℕ × Node)). Ends limit outer starts (deliver (fields (members_of xs)) f) others.3 last) (append_assoc fs ((h.0, one.0) ∷ []) (members_list others.0)) others.9.0 in
+            let apart = Fresh-pull fs h.0 one.0 others.0 others.8 in (
+              member h.0 one.0 others.0,
+              p ∷ one.1 ∷ (one.2 ++ one.3 ∷ others.1),
+              others.2,
+              others.3,
               one.5 ∙ ap (λ (xs : List Placed). p ∷ one.1 ∷ (one.2 ++ one.3 ∷ xs)) others.4 ∙ ap (λ (xs : List Placed). p ∷ one.1 ∷ xs) (sym (append_assoc one.2 (one.3 ∷ others.1) (others.2 ∷ others.3))),
-              others.5, (p, one.1, one.2, one.3, others.1, refl, h.1, one.6, one.7, one.8, others.6), (apart.1, one.9, others.7), (h.2, apart.0), (left, omega (arith, one.10.1, others.9.1)))
+              others.5,
+              (p, one.1, one.2, one.3, others.1, refl, h.1, one.6, one.7, one.8, others.6),
+              (apart.1, one.9, others.7),
+              (h.2, apart.0),
+              (left, omega (arith, one.10.1, others.9.1)),
+            )
         | inr (inl h) ↦
             let same : (f ≡ h.1) × (outer ≡ h.2) = (cc, cc) in
             let left : Ends limit outer starts (deliver (fields_of fs) f) ps last = rw (same.0, same.1, ← h.4) o.2 in
@@ -399,16 +409,27 @@ sentence_found limit (suc fuel) last starts fs (p ∷ ps) is_done short ends =
           let inside : Ends limit [] (starts ++ p.at ∷ []) (at_equals fs h.0) ps last = rw h.3 at o.2 in
           let one = field_then limit last is_done (length (p ∷ ps)) (found_all limit last is_done (length (p ∷ ps))) limit [] (starts ++ p.at ∷ []) fs h.0 p ps (omega arith) (omega arith) inside in
           let others = sentence_found limit fuel last (starts ++ p.at ∷ []) (fs ++ (h.0, one.0) ∷ []) one.4 is_done (omega (arith, one.10.1)) one.10.0 in
-          let apart = Fresh-pull fs h.0 one.0 others.0 others.4 in
-          (member h.0 one.0 others.0, p.at ∷ others.1, (p, one.1, one.2, one.3, one.4, one.5, h.1, one.6, one.7, one.8, refl, others.2), (apart.1, one.9, others.3), (h.2, apart.0),
+          let apart = Fresh-pull fs h.0 one.0 others.0 others.4 in (
+            member h.0 one.0 others.0,
+            p.at ∷ others.1,
+            (p, one.1, one.2, one.3, one.4, one.5, h.1, one.6, one.7, one.8, refl, others.2),
+            (apart.1, one.9, others.3),
+            (h.2, apart.0),
             others.5 ∙ ap (λ (xs : List (List ℕ × Node)). record { outer = []; place = done xs; starts = (starts ++ p.at ∷ []) ++ others.1 }) (append_assoc fs ((h.0, one.0) ∷ []) (members_list others.0))
-                ∙ ap (λ (xs : List ℕ). record { outer = []; place = done (fs ++ (h.0, one.0) ∷ members_list others.0); starts = xs }) (append_assoc starts (p.at ∷ []) others.1))
+                ∙ ap (λ (xs : List ℕ). record { outer = []; place = done (fs ++ (h.0, one.0) ∷ members_list others.0); starts = xs }) (append_assoc starts (p.at ∷ []) others.1),
+          )
       | inr (inl h) ↦ absurd (let never : [] ≡ h.1 ∷ h.2 = h.3 in cc)
       | inr (inr h) ↦ ended ps h.0 (rw h.2 at o.2)
     ] where
-  ended : (rest : List Placed) → p.token ≡ end → Ends limit [] starts (done fs) rest last
-      → (ms : Members) × (places : List ℕ) × IsSentence (p ∷ rest) ms places × FieldsAreShaped limit ms × Fresh fs ms × (last ≡ record { outer = []; place = done (fs ++ members_list ms); starts = starts ++ places })
-  ended [] h ends =
-      (no_members, [], (p, refl, h), tt, tt, not_at_end limit last [] starts (done fs) ends ∙ ap (λ (xs : List (List ℕ × Node)). record { outer = []; place = done xs; starts = starts }) (sym (append-nil fs))
-          ∙ ap (λ (xs : List ℕ). record { outer = []; place = done (fs ++ []); starts = xs }) (sym (append-nil starts)))
-  ended (q ∷ rest) h ends = absurd (let never : Err syntax ≡ Ok last = sym (run-err limit syntax rest) ∙ ends in cc)
+      ended : (rest : List Placed) → p.token ≡ end → Ends limit [] starts (done fs) rest last
+          → (ms : Members) × (places : List ℕ) × IsSentence (p ∷ rest) ms places × FieldsAreShaped limit ms × Fresh fs ms × (last ≡ record { outer = []; place = done (fs ++ members_list ms); starts = starts ++ places })
+      ended [] h ends = (
+        no_members,
+        [],
+        (p, refl, h),
+        tt,
+        tt,
+        not_at_end limit last [] starts (done fs) ends ∙ ap (λ (xs : List (List ℕ × Node)). record { outer = []; place = done xs; starts = starts }) (sym (append-nil fs))
+            ∙ ap (λ (xs : List ℕ). record { outer = []; place = done (fs ++ []); starts = xs }) (sym (append-nil starts)),
+      )
+      ended (q ∷ rest) h ends = absurd (let never : Err syntax ≡ Ok last = sym (run-err limit syntax rest) ∙ ends in cc)

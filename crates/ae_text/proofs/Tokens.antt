@@ -1,14 +1,14 @@
 -- The scanner's tokens are those of the definition.
-use Rattle.std.proofs.Common.{◌≡◌, ◌≢◌, ℕ, zero, suc, ◌+◌, ◌-◌, ◌*◌, ◌^◌, ◌<◌, ◌≤◌, ◌⊎◌, inl, inr, Bool, true, false, cond, eqb, leb, ltb, ◌||◌, ◌&&◌, length, take, drop, arith, List, [], ◌∷◌, ◌++◌, Option, Some, None, refl, sym, ap, subst, ◌∙◌, append_assoc}
-use Rattle.std.proofs.lemmas.Bool.{eqb-true, eqb-false, ne_eqb}
+use Rattle.std.proofs.Common.{◌≡◌, ◌≢◌, ℕ, suc, ◌+◌, ◌-◌, ◌^◌, ◌<◌, Bool, true, false, cond, eqb, length, take, drop, arith, List, [], ◌∷◌, ◌++◌, Option, Some, None, refl, sym, ap, subst, ◌∙◌, append_assoc}
+use Rattle.std.proofs.lemmas.Bool.{eqb-true}
 use Rattle.std.proofs.lemmas.Bool.Decides.{nat_tests}
 use Rattle.std.proofs.lemmas.List.{length-append, append-nil, take-append-drop, take_at, drop_at}
 use Rattle.std.specs.List.{list_all}
 use Rattle.ae_base.specs.Names.{is_digit}
 use Rattle.ae_text.specs.WellFormed.{begins_word, goes_on_word, is_word}
 use Rattle.ae_text.specs.Token.{Token, Placed, word, number, string, sign, end, bad, is_blank, is_sign, IsGap, none, IsNoToken, Spells, Stands, Begins, stops, all_digits, ArePieces}
-use Rattle.ae_text.specs.Scan.{run_length, number_from, number_token, string_at, string_token, token_at, after_one, after_slash, gapless, skipped, next, behind, Leads}
-use Rattle.ae_text.proofs.Gaps.{some, some_is, gap_found, gap_skips, no_gap, one_found}
+use Rattle.ae_text.specs.Scan.{run_length, number_from, number_token, string_at, string_token, token_at, after_one, gapless, skipped, next, behind, Leads}
+use Rattle.ae_text.proofs.Gaps.{gap_found, gap_skips, no_gap, one_found}
 use Rattle.ae_text.proofs.Pieces.{both, together, run_word, run_exact, digits_go_on, value_from, number_found, number_reads, string_found, string_reads}
 
 abbrev pub Read : Type 0
@@ -77,9 +77,9 @@ word_reads (b ∷ bs) after e stop =
     let p = both (begins_word b) (list_all goes_on_word bs) e in
     let n : run_length (b ∷ (bs ++ after)) ≡ length (b ∷ bs) = run_exact (b ∷ bs) after (together (goes_on_word b) (list_all goes_on_word bs) (letter_goes_on b p.0) p.1) stop in
     let cut : ◌≡◌ {A = Read} (word (take (run_length (b ∷ (bs ++ after))) (b ∷ (bs ++ after))), drop (run_length (b ∷ (bs ++ after))) (b ∷ (bs ++ after))) (word (b ∷ bs), after) =
-        ap (λ (k : ℕ). (word (take k (b ∷ (bs ++ after))), drop k (b ∷ (bs ++ after)))) n
-        ∙ ap (λ (xs : List ℕ). (word xs, drop (length (b ∷ bs)) (b ∷ (bs ++ after)))) (take_at (b ∷ bs) after (length (b ∷ bs)) refl)
-        ∙ ap (λ (xs : List ℕ). (word (b ∷ bs), xs)) (drop_at (b ∷ bs) after (length (b ∷ bs)) refl) in
+    ap (λ (k : ℕ). (word (take k (b ∷ (bs ++ after))), drop k (b ∷ (bs ++ after)))) n
+    ∙ ap (λ (xs : List ℕ). (word xs, drop (length (b ∷ bs)) (b ∷ (bs ++ after)))) (take_at (b ∷ bs) after (length (b ∷ bs)) refl)
+    ∙ ap (λ (xs : List ℕ). (word (b ∷ bs), xs)) (drop_at (b ∷ bs) after (length (b ∷ bs)) refl) in
     (at_word b (bs ++ after) p.0 ∙ cut, stays b (bs ++ after) (letter_is_no_blank b p.0) (letter_is_no_slash b p.0))
 
 digits_read : (s after : List ℕ) (n : ℕ) → s ≢ [] → all_digits s ≡ true → value_from 0 s ≡ n → n < 2 ^ 64 → stops after ≡ true → (token_at (s ++ after) ≡ (number n, after)) × (after_one (s ++ after) ≡ None)
@@ -89,10 +89,10 @@ digits_read (b ∷ bs) after n some-is-there e is lt stop =
     let k : run_length (b ∷ (bs ++ after)) ≡ length (b ∷ bs) = run_exact (b ∷ bs) after (digits_go_on (b ∷ bs) e) stop in
     let read : number_from 0 (b ∷ bs) ≡ Some n = number_reads 0 (b ∷ bs) e (omega (arith, is)) ∙ ap (λ (x : ℕ). Some x) is in
     let cut : number_token (b ∷ (bs ++ after)) (drop (run_length (b ∷ (bs ++ after))) (b ∷ (bs ++ after))) (number_from 0 (take (run_length (b ∷ (bs ++ after))) (b ∷ (bs ++ after)))) ≡ (number n, after) =
-        ap (λ (k : ℕ). number_token (b ∷ (bs ++ after)) (drop k (b ∷ (bs ++ after))) (number_from 0 (take k (b ∷ (bs ++ after))))) k
-        ∙ ap (λ (xs : List ℕ). number_token (b ∷ (bs ++ after)) (drop (length (b ∷ bs)) (b ∷ (bs ++ after))) (number_from 0 xs)) (take_at (b ∷ bs) after (length (b ∷ bs)) refl)
-        ∙ ap (λ (o : Option ℕ). number_token (b ∷ (bs ++ after)) (drop (length (b ∷ bs)) (b ∷ (bs ++ after))) o) read
-        ∙ ap (λ (xs : List ℕ). (number n, xs)) (drop_at (b ∷ bs) after (length (b ∷ bs)) refl) in
+    ap (λ (k : ℕ). number_token (b ∷ (bs ++ after)) (drop k (b ∷ (bs ++ after))) (number_from 0 (take k (b ∷ (bs ++ after))))) k
+    ∙ ap (λ (xs : List ℕ). number_token (b ∷ (bs ++ after)) (drop (length (b ∷ bs)) (b ∷ (bs ++ after))) (number_from 0 xs)) (take_at (b ∷ bs) after (length (b ∷ bs)) refl)
+    ∙ ap (λ (o : Option ℕ). number_token (b ∷ (bs ++ after)) (drop (length (b ∷ bs)) (b ∷ (bs ++ after))) o) read
+    ∙ ap (λ (xs : List ℕ). (number n, xs)) (drop_at (b ∷ bs) after (length (b ∷ bs)) refl) in
     (at_number b (bs ++ after) p.0 ∙ cut, stays b (bs ++ after) (digit_is_no_blank b p.0) (digit_is_no_slash b p.0))
 
 text_reads : (inner w after : List ℕ) → ArePieces inner w → (token_at ((34 ∷ (inner ++ 34 ∷ [])) ++ after) ≡ (string w, after)) × (after_one ((34 ∷ (inner ++ 34 ∷ [])) ++ after) ≡ None)
@@ -151,17 +151,20 @@ token_found [] stop = ([], refl, (refl, refl))
 token_found (b ∷ bs) stop = by_kind (begins_word b) (is_digit b) (eqb b 34) (is_sign b) refl refl refl refl where
   bad_here : token_at (b ∷ bs) ≡ (bad, b ∷ bs) → TokenFound (b ∷ bs) (bad, b ∷ bs)
   bad_here e = ([], refl, (refl, bad_found (b ∷ bs) (cons_some b bs) e stop))
+
   by_number : (o : Option ℕ) → is_digit b ≡ true → number_from 0 (take (run_length (b ∷ bs)) (b ∷ bs)) ≡ o → TokenFound (b ∷ bs) (number_token (b ∷ bs) (drop (run_length (b ∷ bs)) (b ∷ bs)) o)
   by_number (Some n) hd e =
       let f = number_found 0 (take (run_length (b ∷ bs)) (b ∷ bs)) n e (omega arith) in
       (take (run_length (b ∷ bs)) (b ∷ bs), sym (take-append-drop (run_length (b ∷ bs)) (b ∷ bs)), ((run_some b bs (digit_on b hd), f.0), f.1, f.2, (run_word (b ∷ bs)).1))
   by_number None hd e = bad_here (at_number b bs hd ∙ ap (number_token (b ∷ bs) (drop (run_length (b ∷ bs)) (b ∷ bs))) e)
+
   by_string : (o : Option (List ℕ × List ℕ)) → b ≡ 34 → string_at bs ≡ o → TokenFound (b ∷ bs) (string_token (b ∷ bs) o)
   by_string (Some p) is e =
       let f = string_found (suc (length bs)) [] bs p.0 p.1 e in
       let parts : b ∷ bs ≡ (34 ∷ (f.0 ++ 34 ∷ [])) ++ p.1 = rw is (ap (λ (xs : List ℕ). 34 ∷ xs) (f.3 ∙ sym (append_assoc f.0 (34 ∷ []) p.1))) in
       (34 ∷ (f.0 ++ 34 ∷ []), parts, (f.0, refl, subst (λ (xs : List ℕ). ArePieces f.0 xs) (sym f.2) f.4))
   by_string None is e = bad_here (subst (λ (x : ℕ). token_at (x ∷ bs) ≡ (bad, x ∷ bs)) (sym is) (at_string bs ∙ ap (string_token (34 ∷ bs)) e))
+
   by_kind : (p q r s : Bool) → begins_word b ≡ p → is_digit b ≡ q → eqb b 34 ≡ r → is_sign b ≡ s
       → TokenFound (b ∷ bs) (cond {A = Read} p (word (take (run_length (b ∷ bs)) (b ∷ bs)), drop (run_length (b ∷ bs)) (b ∷ bs))
       (cond q (number_token (b ∷ bs) (drop (run_length (b ∷ bs)) (b ∷ bs)) (number_from 0 (take (run_length (b ∷ bs)) (b ∷ bs))))
@@ -200,6 +203,7 @@ no_token_reads bytes h = by_one (after_one bytes) refl where
   by_token (sign b, after) e f = absurd (h.no_token f.0 after (sign b) f.1 f.2)
   by_token (end, after) e f = absurd (h.more (f.1 ∙ rw (f.2.0, f.2.1) refl))
   by_token (bad, after) e f = e ∙ ap (λ (xs : List ℕ). (bad, xs)) (sym (f.1 ∙ ap (λ (xs : List ℕ). xs ++ after) f.2.0))
+
   by_one : (o : Option (List ℕ)) → after_one bytes ≡ o → (token_at bytes ≡ (bad, bytes)) × (after_one bytes ≡ None)
   by_one None e = (by_token (token_at bytes) refl (token_found bytes e), e)
   by_one (Some r) e =

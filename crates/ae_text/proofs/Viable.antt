@@ -1,16 +1,15 @@
 -- A token is taken exactly where some text goes on from there.
-use Rattle.std.proofs.Common.{◌≡◌, ◌≢◌, ℕ, zero, suc, ◌+◌, ◌-◌, ◌<◌, ◌≤◌, ◌⊎◌, inl, inr, Bool, true, false, cond, eqb, ltb, length, arith, List, [], ◌∷◌, ◌++◌, Result, Ok, Err, refl, sym, ap, subst, ◌∙◌, append_assoc, rules}
-use Rattle.std.proofs.lemmas.Bool.{eqb-true, ltb-true, ltb-false, lt-ltb, le-ltb}
-use Rattle.std.proofs.lemmas.List.{append-nil, length-append}
+use Rattle.std.proofs.Common.{◌≡◌, ℕ, suc, ◌+◌, ◌-◌, ◌<◌, ◌≤◌, inl, inr, Bool, true, false, cond, eqb, ltb, length, arith, List, [], ◌∷◌, ◌++◌, Result, Ok, Err, refl, sym, ap, subst, ◌∙◌, append_assoc}
+use Rattle.std.proofs.lemmas.Bool.{ltb-true, lt-ltb}
 use Rattle.ae_text.specs.Tree.{Node, list, fields, Items, no_items, item, Members, no_members, member}
 use Rattle.ae_text.specs.Tree as tree
 use Rattle.ae_text.specs.Token.{Token, word, number, string, sign, end, bad, Placed}
 use Rattle.ae_text.proofs.Shaped.{IsShaped, AreShaped, FieldsAreShaped, shaped, names_of, depth_of}
 use Rattle.ae_text.specs.Grammar.{IsSentence}
 use Rattle.ae_text.specs.Wrong.{GoesOn}
-use Rattle.ae_text.specs.Pushdown.{Frame, in_list, in_fields, Place, at_name, at_equals, at_value, at_semicolon, at_item, at_comma, done, State, Fault, syntax, too_deep, moved, deliver, fields_of, list_of, has_name, noted, value_step, open_step, close_step, name_step, end_step, item_step, comma_step, place_step, is_sign_of, step, start, and_step, run}
-use Rattle.ae_text.proofs.Complete.{Fresh-nil, goes_one, sentence_goes}
-use Rattle.ae_text.proofs.Sound.{run-err, IsDone, ends_one, Opens, IsPlainValue, value_opens, needs_sign, is_moved, Names, names, Lists, lists, Commas, commas, sentence_found}
+use Rattle.ae_text.specs.Pushdown.{Frame, in_list, in_fields, Place, at_name, at_equals, at_value, at_semicolon, at_item, at_comma, done, State, Fault, syntax, too_deep, moved, deliver, fields_of, list_of, has_name, value_step, open_step, close_step, name_step, comma_step, place_step, is_sign_of, step, start, and_step, run}
+use Rattle.ae_text.proofs.Complete.{Fresh-nil, sentence_goes}
+use Rattle.ae_text.proofs.Sound.{run-err, IsDone, ends_one, value_opens, needs_sign, is_moved, names, lists, commas, sentence_found}
 
 pub run-append : (limit : ℕ) (r : Result State Fault) (xs ys : List Placed) → run limit r (xs ++ ys) ≡ run limit (run limit r xs) ys
 unfolding run
@@ -150,13 +149,13 @@ taken_goes_further limit front s e never =
     let reached = run_reaches limit start front s (tt, omega arith) e in
     let c = closes_from limit s reached.0 in
     by_more c.0 c.1 where
-  by_more : (ps : List Placed) → Finishes limit s.outer s.starts s.place ps → (other : Placed) × GoesOn limit (front ++ other ∷ [])
-  by_more [] f = absurd (never (let same : s ≡ f.0 = cc in subst IsDone (sym same) f.1))
-  by_more (q ∷ qs) f =
-      let all : run limit (Ok start) (front ++ q ∷ qs) ≡ Ok f.0 = run-append limit (Ok start) front (q ∷ qs) ∙ ap (λ (r : Result State Fault). run limit r (q ∷ qs)) e ∙ f.2 in
-      let found = sentence_found limit (suc (length (front ++ q ∷ qs))) f.0 [] [] (front ++ q ∷ qs) f.1 (omega arith) all in
-      let row : front ++ q ∷ qs ≡ (front ++ q ∷ []) ++ qs = sym (append_assoc front (q ∷ []) qs) in
-      (q, (qs, found.0, found.1, subst (λ (ps : List Placed). IsSentence ps found.0 found.1) row found.2, names_of found.0 limit found.3, depth_of found.0 limit found.3))
+      by_more : (ps : List Placed) → Finishes limit s.outer s.starts s.place ps → (other : Placed) × GoesOn limit (front ++ other ∷ [])
+      by_more [] f = absurd (never (let same : s ≡ f.0 = cc in subst IsDone (sym same) f.1))
+      by_more (q ∷ qs) f =
+          let all : run limit (Ok start) (front ++ q ∷ qs) ≡ Ok f.0 = run-append limit (Ok start) front (q ∷ qs) ∙ ap (λ (r : Result State Fault). run limit r (q ∷ qs)) e ∙ f.2 in
+          let found = sentence_found limit (suc (length (front ++ q ∷ qs))) f.0 [] [] (front ++ q ∷ qs) f.1 (omega arith) all in
+          let row : front ++ q ∷ qs ≡ (front ++ q ∷ []) ++ qs = sym (append_assoc front (q ∷ []) qs) in
+          (q, (qs, found.0, found.1, subst (λ (ps : List Placed). IsSentence ps found.0 found.1) row found.2, names_of found.0 limit found.3, depth_of found.0 limit found.3))
 
 -- where a token was not taken, no text goes on
 pub stopped_ends : (limit : ℕ) (front : List Placed) (e : Fault) → run limit (Ok start) front ≡ Err e → GoesOn limit front → ⊥
@@ -260,7 +259,7 @@ mutual
   fields_shaped_more no_members a b le h = tt
   fields_shaped_more (member k j ms) a b le h = (h.0, shaped_more j a b le h.1, fields_shaped_more ms a b le h.2)
 
-run_one : (limit : ℕ) (front : List Placed) (s : State) (p : Placed) (r : Result State Fault) → run limit (Ok start) front ≡ Ok s → step limit s p ≡ r → run limit (Ok start) (front ++ p ∷ []) ≡ r
+pub run_one : (limit : ℕ) (front : List Placed) (s : State) (p : Placed) (r : Result State Fault) → run limit (Ok start) front ≡ Ok s → step limit s p ≡ r → run limit (Ok start) (front ++ p ∷ []) ≡ r
 unfolding run
 run_one limit front s p r e one = run-append limit (Ok start) front (p ∷ []) ∙ ap (λ (x : Result State Fault). run limit x (p ∷ [])) e ∙ one
 
@@ -286,15 +285,15 @@ deep_value limit outer starts f (sign b) le e = by_sign (eqb b 91) (eqb b 123) e
 deep_value limit outer starts f end le e = absurd cc
 deep_value limit outer starts f bad le e = absurd cc
 
-close_not_deep : (outer : List Frame) (starts : List ℕ) (v : Node) → close_step outer starts v ≡ Err too_deep → ⊥
+pub close_not_deep : (outer : List Frame) (starts : List ℕ) (v : Node) → close_step outer starts v ≡ Err too_deep → ⊥
 close_not_deep [] starts v e = cc
 close_not_deep (f ∷ outer) starts v e = cc
 
-cond_not_deep : (b : Bool) (x y : Result State Fault) → (x ≡ Err too_deep → ⊥) → (y ≡ Err too_deep → ⊥) → cond b x y ≡ Err too_deep → ⊥
+pub cond_not_deep : (b : Bool) (x y : Result State Fault) → (x ≡ Err too_deep → ⊥) → (y ≡ Err too_deep → ⊥) → cond b x y ≡ Err too_deep → ⊥
 cond_not_deep true x y p q e = p e
 cond_not_deep false x y p q e = q e
 
-name_not_deep : (outer : List Frame) (starts : List ℕ) (fs : List (List ℕ × Node)) (at : ℕ) (t : Token) → name_step outer starts fs at t ≡ Err too_deep → ⊥
+pub name_not_deep : (outer : List Frame) (starts : List ℕ) (fs : List (List ℕ × Node)) (at : ℕ) (t : Token) → name_step outer starts fs at t ≡ Err too_deep → ⊥
 name_not_deep outer starts fs at (word k) e = cond_not_deep (has_name k fs) _ _ (λ h. cc) (λ h. cc) e
 name_not_deep outer starts fs at (number n) e = cc
 name_not_deep outer starts fs at (string w) e = cc
@@ -310,6 +309,7 @@ deep_step limit s p le e = by_place s.outer s.starts s.place le e where
       → (t : State) × (cond b (close_step outer starts (list_of vs)) (value_step (suc limit) outer starts (in_list vs) p.token) ≡ Ok t)
   by_item true outer starts vs le e = absurd (close_not_deep outer starts (list_of vs) e)
   by_item false outer starts vs le e = deep_value limit outer starts (in_list vs) p.token le e
+
   by_place : (outer : List Frame) (starts : List ℕ) (place : Place) → length outer ≤ limit → place_step limit outer starts place p.at p.token ≡ Err too_deep → (t : State) × (place_step (suc limit) outer starts place p.at p.token ≡ Ok t)
   by_place outer starts (at_name fs) le e = absurd (name_not_deep outer starts fs p.at p.token e)
   by_place outer starts (at_equals fs k) le e = absurd (cond_not_deep (is_sign_of 61 p.token) _ _ (λ h. cc) (λ h. cc) e)

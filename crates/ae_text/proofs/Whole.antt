@@ -1,19 +1,18 @@
 -- The reader against the grammar.
-use Rattle.std.proofs.Common.{◌≡◌, ◌≢◌, ℕ, zero, suc, ◌+◌, ◌-◌, ◌<◌, ◌≤◌, ◌⊎◌, inl, inr, Bool, true, false, cond, length, arith, List, [], ◌∷◌, ◌++◌, Result, Ok, Err, refl, sym, ap, subst, ◌∙◌, append_assoc, map}
-use Rattle.std.proofs.lemmas.List.{append-nil, length-append}
+use Rattle.std.proofs.Common.{◌≡◌, ℕ, suc, ◌⊎◌, inl, inr, true, false, length, arith, List, [], ◌∷◌, ◌++◌, Result, Ok, Err, refl, sym, ap, subst, ◌∙◌, map}
 use Rattle.ae_text.specs.Tree.{Node, list, fields, Members}
 use Rattle.ae_text.specs.Tree as tree
-use Rattle.ae_text.specs.Token.{Token, Placed, Begins}
+use Rattle.ae_text.specs.Token.{Placed}
 use Rattle.ae_text.specs.WellFormed.{max_depth}
 use Rattle.ae_text.specs.Grammar.{Reads, ReadsFields, line_of}
-use Rattle.ae_text.specs.Wrong.{IsWrongAt, IsSyntax, IsTooDeep, GoesOn}
+use Rattle.ae_text.specs.Wrong.{IsWrongAt, IsSyntax, IsTooDeep}
 use Rattle.ae_text.proofs.Shaped.{shaped, names_of, depth_of}
 use Rattle.ae_text.specs.View.{members_of}
-use Rattle.ae_text.specs.Pushdown.{Frame, Place, at_name, at_equals, at_value, at_semicolon, at_item, at_comma, done, State, Fault, syntax, too_deep, place_step, step, start, run, moved}
+use Rattle.ae_text.specs.Pushdown.{Place, at_name, at_equals, at_value, at_semicolon, at_item, at_comma, done, State, Fault, syntax, too_deep, place_step, step, start, run, moved}
 use Rattle.ae_text.specs.Scan.{next, behind, Leads}
 use Rattle.ae_text.specs.Parsing.{Taken, Stopped, is_done}
 use Rattle.ae_text.proofs.Complete.{members_list, members_list-back, sentence_goes, Fresh-nil}
-use Rattle.ae_text.proofs.Sound.{run-err, IsDone, sentence_found}
+use Rattle.ae_text.proofs.Sound.{run-err, sentence_found}
 use Rattle.ae_text.proofs.Viable.{run-append, taken_goes_further, stopped_at, syntax_ends, too_deep_goes_on}
 use Rattle.ae_text.proofs.Tokens.{leads_begins, begins_leads}
 use Rattle.ae_text.proofs.Reader.{leads_more}
@@ -75,14 +74,14 @@ reads_only bytes rest s taken is ms lines h =
     let last : State = record { outer = []; place = done (members_list ms); starts = h.places } in
     let read : run max_depth (Ok start) h.all ≡ Ok last = sentence_run bytes ms lines h in
     let same : s ≡ last =
-        elim (leads_prefix (length bytes) bytes taken.front h.all rest l.0 taken.leads l.1) [
-          | inl m ↦
-              let on : run max_depth (Ok s) m.0 ≡ Ok last = ap (λ (r : Result State Fault). run max_depth r m.0) (sym taken.runs) ∙ sym (run-append max_depth (Ok start) taken.front m.0) ∙ ap (run max_depth (Ok start)) (sym m.1) ∙ read in
-              (done_stops s is m.0 last on).1
-          | inr m ↦
-              let on : run max_depth (Ok last) m.0 ≡ Ok s = ap (λ (r : Result State Fault). run max_depth r m.0) (sym read) ∙ sym (run-append max_depth (Ok start) h.all m.0) ∙ ap (run max_depth (Ok start)) (sym m.1) ∙ taken.runs in
-              sym (done_stops last refl m.0 s on).1
-        ] in
+    elim (leads_prefix (length bytes) bytes taken.front h.all rest l.0 taken.leads l.1) [
+      | inl m ↦
+          let on : run max_depth (Ok s) m.0 ≡ Ok last = ap (λ (r : Result State Fault). run max_depth r m.0) (sym taken.runs) ∙ sym (run-append max_depth (Ok start) taken.front m.0) ∙ ap (run max_depth (Ok start)) (sym m.1) ∙ read in
+          (done_stops s is m.0 last on).1
+      | inr m ↦
+          let on : run max_depth (Ok last) m.0 ≡ Ok s = ap (λ (r : Result State Fault). run max_depth r m.0) (sym read) ∙ sym (run-append max_depth (Ok start) h.all m.0) ∙ ap (run max_depth (Ok start)) (sym m.1) ∙ taken.runs in
+          sym (done_stops last refl m.0 s on).1
+    ] in
     (ap (λ (x : State). x.place) same, ap (λ (x : State). map (line_of bytes) x.starts) same ∙ sym h.lines_are)
 
 wrong_at : (bytes : List ℕ) (at : ℕ) (f : Fault) (st : Stopped bytes at f) → IsWrongAt bytes (line_of bytes at) st.taken.front (next (length bytes) st.rest)

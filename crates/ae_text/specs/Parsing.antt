@@ -1,6 +1,5 @@
 -- What the loop over the tokens has done.
-use Rattle.std.specs.Prelude.{◌≡◌, ℕ, List, length, Bool, true, false, Result, Ok, Err}
-use Rattle.ae_text.specs.Tree.{Node}
+use Rattle.std.specs.Prelude.{◌≡◌, ℕ, List, length, Bool, true, false, Ok, Err}
 use Rattle.ae_text.specs.Token.{Placed}
 use Rattle.ae_text.specs.WellFormed.{max_depth}
 use Rattle.ae_text.specs.Pushdown as spec

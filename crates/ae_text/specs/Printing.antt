@@ -1,5 +1,5 @@
 -- What holds of every tree because of its types.
-use Rattle.std.specs.Prelude.{ℕ, ◌<◌, ◌^◌, List}
+use Rattle.std.specs.Prelude.{◌<◌, ◌^◌}
 use Rattle.ae_base.specs.Bytes.{AreBytes}
 use Rattle.ae_text.specs.Tree.{Node, word, number, str, list, fields, Items, no_items, item, Members, no_members, member}
 

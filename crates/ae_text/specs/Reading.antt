@@ -1,12 +1,11 @@
 -- What the reader of a whole text answers.
-use Rattle.std.specs.Prelude.{◌≡◌, ℕ, ◌+◌, List, [], ◌∷◌, length, Bool, true, false, if◌then◌else◌, Result, Ok, Err}
-use Rattle.ae_text.specs.Token.{Placed}
+use Rattle.std.specs.Prelude.{◌≡◌, ℕ, ◌+◌, List, length, if◌then◌else◌, Err}
 use Rattle.ae_text.specs.Pushdown as spec
 use Rattle.ae_text.specs.Pushdown.{step}
 use Rattle.ae_text.specs.Parsing.{is_done}
 use Rattle.ae_text.specs.Scan.{next}
 use Rattle.ae_text.specs.WellFormed.{max_depth}
-use Rattle.ae_text.specs.Parsing.{Taken, Stopped}
+use Rattle.ae_text.specs.Parsing.{Stopped}
 use Rattle.ae_text.specs.declared.pushdown.Stop.{Stop}
 use Rattle.ae_text.specs.declared.pushdown.Stop.TheVariants as stops
 use Rattle.ae_text.specs.declared.read.Fault.{Fault}

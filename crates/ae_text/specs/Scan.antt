@@ -1,5 +1,5 @@
 -- The first token of bytes, from left to right. No public clause cites this: it is proved to be that of Token.antt.
-use Rattle.std.specs.Prelude.{◌≡◌, ℕ, zero, suc, ◌+◌, ◌-◌, ◌*◌, ◌≤◌, ◌<◌, ◌^◌, List, [], ◌∷◌, ◌++◌, length, take, drop, Bool, true, false, ◌==◌, ◌&&◌, ◌||◌, if◌then◌else◌, nat_lt, nat_le, Option, Some, None, option_map, option_and_then}
+use Rattle.std.specs.Prelude.{◌≡◌, ℕ, zero, suc, ◌+◌, ◌-◌, ◌*◌, ◌^◌, List, [], ◌∷◌, ◌++◌, length, take, drop, Bool, true, false, ◌==◌, ◌&&◌, if◌then◌else◌, nat_lt, nat_le, Option, Some, None, option_map}
 use Rattle.ae_base.specs.Names.{is_digit}
 use Rattle.ae_text.specs.WellFormed.{begins_word, goes_on_word}
 use Rattle.ae_text.specs.Token.{Token, Placed, word, number, string, sign, end, bad, is_blank, is_sign, begins_with}

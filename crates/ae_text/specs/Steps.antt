@@ -1,6 +1,5 @@
 -- The reader's values as those of the definitions.
-use Rattle.std.specs.Prelude.{◌≡◌, ℕ, List, [], ◌∷◌, ◌++◌, map, reverse, Result, Ok, Err}
-use Rattle.ae_text.specs.Tree.{Node}
+use Rattle.std.specs.Prelude.{◌≡◌, List, map, reverse, Result, Ok, Err}
 use Rattle.ae_text.specs.View.{fields_seen, node, nodes_seen}
 use Rattle.ae_text.specs.Token as tokens
 use Rattle.ae_text.specs.Pushdown as spec

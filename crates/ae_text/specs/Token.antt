@@ -1,7 +1,7 @@
 -- What a token is, and which tokens stand at the front of bytes.
-use Rattle.std.specs.Prelude.{◌≡◌, ◌≢◌, ℕ, zero, suc, ◌+◌, ◌-◌, ◌*◌, ◌≤◌, ◌<◌, ◌^◌, ◌⊎◌, List, [], ◌∷◌, ◌++◌, length, Bool, true, false, ◌==◌, ◌&&◌, ◌||◌, IsTrue, if◌then◌else◌, nat_lt, nat_le, fold}
+use Rattle.std.specs.Prelude.{◌≡◌, ◌≢◌, ℕ, ◌+◌, ◌-◌, ◌*◌, ◌≤◌, ◌<◌, ◌^◌, List, [], ◌∷◌, ◌++◌, length, Bool, true, false, ◌==◌, ◌&&◌, ◌||◌, if◌then◌else◌, fold}
 use Rattle.ae_base.specs.Names.{is_digit}
-use Rattle.ae_text.specs.WellFormed.{begins_word, goes_on_word, is_word}
+use Rattle.ae_text.specs.WellFormed.{goes_on_word, is_word}
 
 -- a word or a string by its bytes, a number, a sign by its byte
 pub data Token : Type 0 where

@@ -1,7 +1,7 @@
 -- The first token of a text that can't stand where it stands, and its line.
-use Rattle.std.specs.Prelude.{◌≡◌, ℕ, ◌⊎◌, List, [], ◌∷◌, ◌++◌}
+use Rattle.std.specs.Prelude.{◌≡◌, ℕ, ◌+◌, ◌-◌, ◌⊎◌, List, [], ◌∷◌, ◌++◌, Bool, false, ◌==◌, ◌||◌, if◌then◌else◌, IsTrue}
 use Rattle.ae_text.specs.Tree.{Members}
-use Rattle.ae_text.specs.Token.{Placed, Begins}
+use Rattle.ae_text.specs.Token.{Token, word, number, string, sign, end, bad, Placed, Begins}
 use Rattle.ae_text.specs.Grammar.{IsSentence, line_of}
 use Rattle.ae_text.specs.WellFormed.{MembersHaveDistinctNames, MembersFitDepth, max_depth}
 
@@ -27,3 +27,34 @@ IsTooDeep bytes line = (front : List Placed) × (p : Placed) × IsWrongAt bytes 
 -- The bytes aren't a text, and the first wrong token is in this line.
 abbrev pub IsError : List ℕ → ℕ → Type 0
 IsError bytes line = IsSyntax bytes line ⊎ IsTooDeep bytes line
+
+-- `[` or `{`
+abbrev pub opens : Token → Bool
+opens (word w) = false
+opens (number n) = false
+opens (string s) = false
+opens (sign b) = (b == 91) || (b == 123)
+opens end = false
+opens bad = false
+
+-- `]` or `}`
+abbrev pub closes : Token → Bool
+closes (word w) = false
+closes (number n) = false
+closes (string s) = false
+closes (sign b) = (b == 93) || (b == 125)
+closes end = false
+closes bad = false
+
+-- how many lists and structures are open behind a token, where n are before it
+abbrev pub level_behind_one : ℕ → Token → ℕ
+level_behind_one n t = if opens t then n + 1 else if closes t then n - 1 else n
+
+-- how many are open behind these tokens
+abbrev pub level_behind : ℕ → List Placed → ℕ
+level_behind n [] = n
+level_behind n (p ∷ ps) = level_behind (level_behind_one n p.token) ps
+
+-- The first wrong token is in this line, and opens a list or structure where `max_depth` are open.
+abbrev pub OpensOneTooMany : List ℕ → ℕ → Type 0
+OpensOneTooMany bytes line = (front : List Placed) × (p : Placed) × IsWrongAt bytes line front p × IsTrue (opens p.token) × (level_behind 0 front ≡ max_depth)

@@ -2,7 +2,7 @@
 ghost use Rattle.std.specs.Prelude.{◌≡◌, ◌⊎◌, ℕ, List};
 ghost use Rattle.ae_text.specs.Tree.{Node};
 ghost use Rattle.ae_text.specs.Grammar.{Reads};
-ghost use Rattle.ae_text.specs.Wrong.{IsSyntax, IsTooDeep, IsError};
+ghost use Rattle.ae_text.specs.Wrong.{IsSyntax, IsTooDeep, IsError, OpensOneTooMany};
 
 /// One text has at most one tree, and its fields stand in the same lines.
 pub fn one_tree()
@@ -20,4 +20,9 @@ pub fn every_text()
 pub fn one_line()
     ensures line { (bytes : List ℕ) (line other : ℕ) → IsError bytes line → IsError bytes other → line ≡ other }
     ensures kind { (bytes : List ℕ) (line other : ℕ) → IsSyntax bytes line → IsTooDeep bytes other → ⊥ }
+{}
+
+/// A text is too deep only where its first wrong token opens a list or structure inside 16 others.
+pub fn one_too_many()
+    ensures { (bytes : List ℕ) (line : ℕ) → IsTooDeep bytes line → OpensOneTooMany bytes line }
 {}

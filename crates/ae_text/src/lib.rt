@@ -11,7 +11,7 @@ mod read;
 mod scan;
 mod tree;
 
-pub use laws::{every_text, one_line, one_tree};
+pub use laws::{every_text, one_line, one_too_many, one_tree};
 pub use lines::LineList;
 pub use print::print_tree;
 pub use read::{Parsed, TextError, read_tree};

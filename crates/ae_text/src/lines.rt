@@ -56,7 +56,11 @@ fn number_of_line(ends: usize) -> u32
 pub(crate) fn line_at(bytes: &[u8], at: usize) -> u32
     ensures { result ≡ line_of bytes.now at }
 {
-    let front = if at < bytes.len() { &bytes[..at] } else { bytes };
+    let front = if at < bytes.len() {
+        &bytes[..at]
+    } else {
+        bytes
+    };
     number_of_line(count_ends(front))
 }
 

@@ -137,12 +137,7 @@ fn opened(
     })
 }
 
-fn taken(
-    outer: Vec<Frame>,
-    starts: Vec<usize>,
-    frame: Frame,
-    value: Tree,
-) -> Result<State, Stop>
+fn taken(outer: Vec<Frame>, starts: Vec<usize>, frame: Frame, value: Tree) -> Result<State, Stop>
     ensures { Gives state_of result (moved (frames_of outer.items) starts.items (deliver (node value) (frame_of frame))) }
 {
     let place = delivered(value, frame)?;
@@ -173,11 +168,7 @@ fn begin_value(
     }
 }
 
-fn close_fields(
-    outer: Vec<Frame>,
-    starts: Vec<usize>,
-    fields: OpenFields,
-) -> Result<State, Stop>
+fn close_fields(outer: Vec<Frame>, starts: Vec<usize>, fields: OpenFields) -> Result<State, Stop>
     ensures { Gives state_of result (close_step (frames_of outer.items) starts.items (fields_of (fields_seen fields.fields.items))) }
 {
     closed(outer, starts, Tree::Fields(fields.close()))

@@ -56,12 +56,7 @@ impl State {
 }
 
 // The state behind the next token, and the bytes behind it.
-fn turn(
-    alloc: Global,
-    total: usize,
-    state: State,
-    rest: &[u8],
-) -> Result<(State, &[u8]), Fault>
+fn turn(alloc: Global, total: usize, state: State, rest: &[u8]) -> Result<(State, &[u8]), Fault>
     requires { length rest.now ≤ total }
     ensures ok { IfOk result (λ r. (step max_depth (state_of state) (next total rest.now) ≡ Ok (state_of r.0)) × (r.1.now ≡ behind rest.now)) }
     ensures less { IfOk result (λ r. is_done (place_of state.place) ≡ false → left (state_of r.0) r.1.now < left (state_of state) rest.now) }

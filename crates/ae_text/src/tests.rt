@@ -180,7 +180,11 @@ fn each_case_is_read_as_it_says(rt: HostRuntime) -> Result<(), Fail> {
         let (text, want) = case.split_once('\t').ok_or("two cells")?;
         let text = decoded(alloc, text)?;
         let want = decoded(alloc, want)?;
-        assert_eq!(rt; told(alloc, text.as_slice())?.as_slice(), want.as_slice(), "{case}");
+        assert_eq!(rt;
+            told(alloc, text.as_slice())?.as_slice(),
+            want.as_slice(),
+            "{case}"
+        );
     }
     Ok(())
 }
@@ -199,7 +203,12 @@ fn an_odd_text_prints_as_the_canonical_one(rt: HostRuntime) -> Result<(), Fail> 
 fn a_repeated_name_is_told_by_its_line(rt: HostRuntime) {
     let alloc = rt.alloc();
     assert!(rt; matches!(read_tree(alloc, b"a = 1"), Err(TextError::Syntax(1))));
-    assert!(rt; matches!(read_tree(alloc, b"a = 1;\na = 2;"), Err(TextError::Syntax(2))));
+    assert!(rt;
+        matches!(
+            read_tree(alloc, b"a = 1;\na = 2;"),
+            Err(TextError::Syntax(2))
+        )
+    );
 }
 
 #[test]
@@ -215,7 +224,10 @@ fn sixteen_levels_are_read_and_seventeen_are_not(rt: HostRuntime) {
 fn many_fields(alloc: Global, count: u32) -> Result<String, AllocError> {
     let mut text = String::new(alloc);
     for i in 0..count {
-        write!(text, "field_{i} = \"forty bytes of text stand in this field.\";\n")?;
+        write!(
+            text,
+            "field_{i} = \"forty bytes of text stand in this field.\";\n"
+        )?;
     }
     Ok(text)
 }
@@ -225,7 +237,9 @@ fn twenty_thousand_fields_are_read(rt: HostRuntime) -> Result<(), Fail> {
     let alloc = rt.alloc();
     let text = many_fields(alloc, 20_000)?;
     assert!(rt; text.len() > 1_048_576);
-    let parsed = read_tree(alloc, text.as_bytes()).ok().ok_or("it is a text")?;
+    let parsed = read_tree(alloc, text.as_bytes())
+        .ok()
+        .ok_or("it is a text")?;
     assert_eq!(rt; parsed.lines.lines().len(), 20_000);
     assert_eq!(rt; parsed.lines.lines().last(), Some(&20_000));
     Ok(())
@@ -237,7 +251,9 @@ fn a_string_of_four_mebibytes_is_read(rt: HostRuntime) -> Result<(), Fail> {
     let mut text = Vec::from_slice(alloc, b"a = \"")?;
     text.resize(4_194_304, b'x')?;
     text.extend_from_slice(b"\";")?;
-    let parsed = read_tree(alloc, text.as_slice()).ok().ok_or("it is a text")?;
+    let parsed = read_tree(alloc, text.as_slice())
+        .ok()
+        .ok_or("it is a text")?;
     assert_eq!(rt; print_tree(alloc, &parsed.tree)?.len(), 4_194_307);
     Ok(())
 }

@@ -1,5 +1,4 @@
-use Rattle.std.proofs.Common.{◌≡◌, ◌+◌, ap, ◌∙◌, sym, arith}
-use Rattle.ae_text.specs.Grammar.{line_ends}
+use Rattle.std.proofs.Common.{arith}
 use Rattle.ae_text.proofs.LineEnds.{ends_between}
 use Rattle.ae_text.proofs.lines.ends_before.Goals as goal
 

@@ -1,4 +1,4 @@
-use Rattle.std.proofs.Common.{◌≡◌, ◌++◌, List, ℕ, ap, ◌∙◌}
+use Rattle.std.proofs.Common.{◌++◌, List, ℕ, ap, ◌∙◌}
 use Rattle.ae_text.specs.View.{node}
 use Rattle.ae_text.specs.Canonical.{text}
 use Rattle.ae_text.proofs.Again.{text_again}

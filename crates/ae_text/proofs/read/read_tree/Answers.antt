@@ -1,4 +1,4 @@
-use Rattle.std.proofs.Common.{◌≡◌, List, ℕ, inl, inr, subst, sym, ap, ◌∙◌, rules}
+use Rattle.std.proofs.Common.{◌≡◌, ℕ, inl, inr, subst, sym, ap, ◌∙◌}
 use Rattle.ae_text.specs.Grammar.{line_of}
 use Rattle.ae_text.specs.Wrong.{IsSyntax, IsTooDeep}
 use Rattle.ae_text.specs.Steps.{state_of}

@@ -1,6 +1,5 @@
-use Rattle.std.proofs.Common.{rules, ◌≡◌, Ok}
 use Rattle.ae_text.specs.WellFormed.{max_depth}
-use Rattle.ae_text.specs.Steps.{token_of, state_of}
+use Rattle.ae_text.specs.Steps.{state_of}
 use Rattle.ae_text.proofs.Reader.{falls}
 use Rattle.ae_text.proofs.read.turn.Goals as goal
 
