@@ -7,6 +7,7 @@ mod request;
 mod session;
 mod store;
 
+pub use request::asks_or_is_bad;
 pub use session::aegis;
 
 #[cfg(test)]
