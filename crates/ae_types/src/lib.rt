@@ -1,0 +1,21 @@
+//! What is recorded of a project: its records, the rules that they keep, and what they say of files, locks and runs.
+#![tactic(auto)]
+
+mod blame;
+mod change;
+mod file_table;
+mod project;
+mod rows;
+mod state;
+mod version;
+
+pub use blame::Blame;
+pub use change::{
+    Change, ChangeAttributes, ChangeFile, ChangeFileList, ChangeList, Evidence, EvidenceList,
+    HistoryList, HistoryRow,
+};
+pub use file_table::{FileRow, FileRows, FileVersion, FileVersionList, Lock, LockList};
+pub use project::{Attributes, DeltaList, DeltaRow, EndAction, NumberList, Project};
+pub use rows::{Rows, TryCopy};
+pub use state::{Parts, State};
+pub use version::VersionRef;
