@@ -1,5 +1,5 @@
 -- No path of a tree is a folder on the way to another.
-use Rattle.std.specs.Prelude.{ℕ, Bool, not, List, [], ◌∷◌, ◌++◌, map, if◌then◌else◌, is_some, Contains}
+use Rattle.std.specs.Prelude.{◌≡◌, ℕ, Bool, true, not, List, [], ◌∷◌, ◌++◌, map, if◌then◌else◌, is_some}
 use Rattle.std.specs.List.{find, list_all}
 use Rattle.std.specs.Str.{bytes_eq}
 use Rattle.ae_base.specs.Names.{is_slash, IsFolderOf}
@@ -18,4 +18,4 @@ none_clash paths = list_all (λ path. list_all (λ folder. not (has_path paths f
 
 -- none of the paths is a folder on the way to another
 abbrev pub NoneClash : List (List ℕ) → Type 0
-NoneClash paths = (folder path : List ℕ) → Contains paths folder → Contains paths path → IsFolderOf folder path → ⊥
+NoneClash paths = (folder path : List ℕ) → has_path paths folder ≡ true → has_path paths path ≡ true → IsFolderOf folder path → ⊥

@@ -1,0 +1,6 @@
+pub mod Keys
+pub mod Members
+pub mod Ordered
+pub mod Placed
+pub mod Searched
+pub mod Splits
