@@ -4,5 +4,7 @@ pub mod Members
 pub mod Ordered
 pub mod Placed
 pub mod RulesAlone
+pub mod RulesAre
+pub mod RulesTogether
 pub mod Searched
 pub mod Splits

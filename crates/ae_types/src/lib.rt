@@ -4,6 +4,7 @@
 mod blame;
 mod change;
 mod file_table;
+mod laws;
 mod project;
 mod rows;
 mod state;
@@ -15,6 +16,7 @@ pub use change::{
     HistoryList, HistoryRow,
 };
 pub use file_table::{FileRow, FileRows, FileVersion, FileVersionList, Lock, LockList};
+pub use laws::note_rules;
 pub use project::{Attributes, DeltaList, DeltaRow, EndAction, NumberList, Project};
 pub use rows::{Rows, TryCopy};
 pub use state::{Parts, State};
