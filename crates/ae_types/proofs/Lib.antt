@@ -1,3 +1,4 @@
+pub mod BinarySearch
 pub mod Clashing
 pub mod Keys
 pub mod Members

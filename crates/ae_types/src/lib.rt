@@ -5,6 +5,7 @@ mod blame;
 mod change;
 mod file_table;
 mod laws;
+mod lookup;
 mod project;
 mod rows;
 mod state;
@@ -17,6 +18,7 @@ pub use change::{
 };
 pub use file_table::{FileRow, FileRows, FileVersion, FileVersionList, Lock, LockList};
 pub use laws::note_rules;
+pub use lookup::{change_in, delta_in, entry_in, file_in, has_number, lock_in, row_in};
 pub use project::{Attributes, DeltaList, DeltaRow, EndAction, NumberList, Project};
 pub use rows::{Rows, TryCopy};
 pub use state::{Parts, State};
