@@ -2,9 +2,11 @@
 ghost use Rattle.std.specs.Prelude.{◌≡◌, Some, IfOk, option_copied};
 ghost use Rattle.ae_types.specs.Observation.{Observation};
 ghost use Rattle.ae_types.specs.Sound.{Sound};
+ghost use Rattle.ae_types.specs.Found.{row_in, lock_in, change_at, has_number};
 
 use crate::{Change, ChangeList, FileRow, FileRows, Lock, LockList, NumberList, Project, TryCopy};
-use ae_base::ChangeNo;
+use crate::lookup::{change_in, has_number, lock_in, row_in};
+use ae_base::{ChangeNo, Path};
 use std::alloc::{AllocError, Global};
 use std::marker::Model;
 
@@ -108,6 +110,34 @@ impl State {
         ensures { result.now ≡ self.now.changes }
     {
         self.changes.as_slice()
+    }
+
+    /// The row of this path in the file table.
+    pub fn row(&self, path: &Path) -> Option<&FileRow>
+        ensures { option_copied result ≡ row_in self.now.files path.now }
+    {
+        row_in(self.files.as_slice(), path.bytes())
+    }
+
+    /// The lock of this path.
+    pub fn lock(&self, path: &Path) -> Option<&Lock>
+        ensures { option_copied result ≡ lock_in self.now.locks path.now }
+    {
+        lock_in(self.locks.as_slice(), path.bytes())
+    }
+
+    /// The change of this number, where it is looked at.
+    pub fn change(&self, number: ChangeNo) -> Option<&Change>
+        ensures { option_copied result ≡ change_at self.now number }
+    {
+        change_in(self.changes.as_slice(), number)
+    }
+
+    /// Whether there is a change of this number, looked at or not.
+    pub fn has_change(&self, number: ChangeNo) -> bool
+        ensures { result ≡ has_number self.now.numbers number }
+    {
+        has_number(self.numbers.as_slice(), number)
     }
 
     /// An equal one.
