@@ -9,3 +9,4 @@ pub mod RulesAre
 pub mod RulesTogether
 pub mod Searched
 pub mod Splits
+pub mod TreePaths

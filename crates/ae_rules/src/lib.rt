@@ -1,0 +1,12 @@
+//! The rules of the records are tested: a state is made of records that keep them, and else the file that breaks one first
+//! is named.
+#![tactic(auto)]
+
+mod change_alone;
+mod clashes;
+mod order;
+mod phases;
+mod project_alone;
+
+pub use change_alone::change_is_good;
+pub use project_alone::project_is_good;
