@@ -1,1 +1,2 @@
 pub mod Adjacent
+pub mod ClearPaths

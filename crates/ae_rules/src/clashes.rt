@@ -35,7 +35,7 @@ fn is_in_tree(deltas: usize, rows: &[FileRow], path: &[u8]) -> bool
 
 fn is_there(deltas: usize, rows: &[FileRow], change: Option<&Change>, path: &[u8]) -> bool
     requires { AreOrdered rows.now (option_copied change) }
-    ensures { result ≡ has_path (paths_over deltas rows.now (option_copied change)) path.now }
+    ensures { result ≡ has_path (paths_over deltas rows.now (option_copied change.entry)) path.now }
 {
     match change {
         Some(change) => match file_in(change.files.as_slice(), path) {
@@ -48,7 +48,7 @@ fn is_there(deltas: usize, rows: &[FileRow], change: Option<&Change>, path: &[u8
 
 fn is_clear(deltas: usize, rows: &[FileRow], change: Option<&Change>, path: &[u8]) -> bool
     requires { AreOrdered rows.now (option_copied change) }
-    ensures { result ≡ is_clear (paths_over deltas rows.now (option_copied change)) path.now }
+    ensures { result ≡ is_clear (paths_over deltas rows.now (option_copied change.entry)) path.now }
 {
     for at in 0..path.len() {
         if path[at] == b'/' && is_there(deltas, rows, change, &path[..at]) {
@@ -61,7 +61,7 @@ fn is_clear(deltas: usize, rows: &[FileRow], change: Option<&Change>, path: &[u8
 // the row doesn't stand in the tree, or is in the change, or is clear
 fn row_is_clear(deltas: usize, rows: &[FileRow], change: Option<&Change>, row: &FileRow) -> bool
     requires { AreOrdered rows.now (option_copied change) }
-    ensures { result ≡ row_is_clear deltas rows.now (option_copied change) row.now }
+    ensures { result ≡ row_is_clear deltas rows.now (option_copied change.entry) row.now }
 {
     if !stands(deltas, row) {
         return true;
@@ -76,7 +76,7 @@ fn row_is_clear(deltas: usize, rows: &[FileRow], change: Option<&Change>, row: &
 
 fn rows_are_clear(deltas: usize, rows: &[FileRow], change: Option<&Change>) -> bool
     requires { AreOrdered rows.now (option_copied change) }
-    ensures { result ≡ list_all (row_is_clear deltas rows.now (option_copied change)) rows.now }
+    ensures { result ≡ list_all (row_is_clear deltas rows.now (option_copied change.entry)) rows.now }
 {
     for row in rows {
         if !row_is_clear(deltas, rows, change, row) {
@@ -101,7 +101,7 @@ fn files_are_clear(deltas: usize, rows: &[FileRow], change: &Change) -> bool
 /// No two paths clash of the tree at the last of so many deltas, or of the candidate of the change.
 pub(crate) fn none_clash(deltas: usize, rows: &[FileRow], change: Option<&Change>) -> bool
     requires { AreOrdered rows.now (option_copied change) }
-    ensures { result ≡ none_clash (paths_over deltas rows.now (option_copied change)) }
+    ensures { result ≡ none_clash (paths_over deltas rows.now (option_copied change.entry)) }
 {
     if !rows_are_clear(deltas, rows, change) {
         return false;

@@ -4,9 +4,14 @@
 
 mod change_alone;
 mod clashes;
+mod deltas;
+mod files_alone;
+mod integration;
+mod locks;
 mod order;
 mod phases;
 mod project_alone;
 
 pub use change_alone::change_is_good;
+pub use files_alone::files_are_good;
 pub use project_alone::project_is_good;

@@ -110,3 +110,9 @@ to-is P v x is h = Rattle.std.proofs.Common.subst (λ w. IsSomeAnd w P) (sym is)
 pub from-is : {A : Type 0} (P : A → Type 0) (v : Option A) → IsSomeAnd v P → (x : A) × (v ≡ Some x) × P x
 from-is P (Some x) h = (x, refl, h)
 from-is P None h = absurd h
+
+-- tests that imply each other are the same
+pub same-true : (s t : Bool) → (s ≡ true → t ≡ true) → (t ≡ true → s ≡ true) → s ≡ t
+same-true true t f g = sym (f refl)
+same-true false true f g = g refl
+same-true false false f g = refl
