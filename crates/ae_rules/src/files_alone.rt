@@ -46,5 +46,8 @@ fn rows_are_good(deltas: usize, rows: &[FileRow]) -> bool
 pub fn files_are_good(deltas: usize, rows: &[FileRow]) -> bool
     ensures { result ≡ files_are_good deltas rows.now }
 {
-    rows_ascend(rows) && rows_are_good(deltas, rows) && none_clash(deltas, rows, None)
+    if !rows_ascend(rows) {
+        return false;
+    }
+    rows_are_good(deltas, rows) && none_clash(deltas, rows, None)
 }

@@ -8,10 +8,13 @@ use ae_types::Change;
 fn integrating_count(changes: &[Change]) -> usize
     ensures { result ≡ length (integrating changes.now) }
 {
-    changes
-        .iter()
-        .filter(|change| is_integrating(change.phase))
-        .count()
+    let mut count = 0;
+    for change in changes {
+        if is_integrating(change.phase) {
+            count += 1;
+        }
+    }
+    count
 }
 
 // and where one is, there is room for its delta

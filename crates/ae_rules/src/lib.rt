@@ -2,15 +2,18 @@
 //! is named.
 #![tactic(auto)]
 
+mod candidate;
 mod change_alone;
 mod clashes;
 mod deltas;
+mod entries;
 mod files_alone;
 mod integration;
 mod locks;
 mod order;
 mod phases;
 mod project_alone;
+mod versions;
 
 pub use change_alone::change_is_good;
 pub use files_alone::files_are_good;

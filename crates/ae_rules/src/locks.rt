@@ -90,7 +90,8 @@ pub(crate) fn locks_fit(numbers: &[ChangeNo], locks: &[Lock], changes: &[Change]
     requires changes { AreChanges numbers.now changes.now }
     ensures { result ≡ locks_fit numbers.now locks.now changes.now }
 {
-    locks_ascend(locks)
-        && locks_have_files(numbers, changes, locks)
-        && changes_have_locks(locks, changes)
+    if !locks_ascend(locks) {
+        return false;
+    }
+    locks_have_files(numbers, changes, locks) && changes_have_locks(locks, changes)
 }

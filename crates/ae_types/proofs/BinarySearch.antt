@@ -14,12 +14,12 @@ use Rattle.ae_types.proofs.Splits.{never}
 
 -- ---- members by their places
 
-in-place : {A : Type 0} (xs : List A) (x : A) → In xs x → (i : ℕ) × (i < length xs) × (get_or xs i x ≡ x)
+pub in-place : {A : Type 0} (xs : List A) (x : A) → In xs x → (i : ℕ) × (i < length xs) × (get_or xs i x ≡ x)
 in-place [] x h = absurd h
 in-place (y ∷ ys) x (inl e) = (0, omega arith, e)
 in-place (y ∷ ys) x (inr h) = let r = in-place ys x h in (suc r.0, omega (arith, r.1), r.2)
 
-place-in : {A : Type 0} (xs : List A) (i : ℕ) (d : A) → i < length xs → In xs (get_or xs i d)
+pub place-in : {A : Type 0} (xs : List A) (i : ℕ) (d : A) → i < length xs → In xs (get_or xs i d)
 place-in [] i d h = absurd (omega (arith, h))
 place-in (y ∷ ys) zero d h = inl refl
 place-in (y ∷ ys) (suc i) d h = inr (place-in ys i d (omega (arith, h)))
