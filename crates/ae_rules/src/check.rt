@@ -1,10 +1,10 @@
 // Which state file is blamed first.
-ghost use Rattle.std.specs.Prelude.{◌≡◌, ◌&&◌, None, Some, IfOk, OnOk, IfErr};
+ghost use Rattle.std.specs.Prelude.{◌≡◌, ◌&&◌, None, Some, IfOk, OnOk, IfErr, length};
 ghost use Rattle.std.specs.Ordering.{nat_cmp};
 ghost use Rattle.std.specs.Option.{option_map};
 ghost use Rattle.ae_types.specs.Ordered.{ascends, Ascends, itself};
 ghost use Rattle.ae_types.specs.Found.{number_of, delta_number};
-ghost use Rattle.ae_types.specs.Rules.{is_change_of, bad_change, project_is_good, project_fits_changes, files_fit_changes, blamed};
+ghost use Rattle.ae_types.specs.Rules.{is_change_of, bad_change, project_is_good, files_are_good, project_fits_changes, files_fit_changes, blamed};
 ghost use Rattle.ae_types.specs.Sound.{AreRows, AreChanges};
 ghost use Rattle.ae_rules.specs.Blamed.{change_blame, blamed_beside, Names, IsReadable};
 
@@ -47,6 +47,19 @@ fn project_stands(parts: &Parts) -> bool
 {
     project_is_good(&parts.project, parts.numbers.as_slice())
         && changes_ascend(parts.changes.as_slice())
+}
+
+fn files_stand(parts: &Parts) -> bool
+    ensures { result ≡ files_are_good (length parts.now.project.deltas) parts.now.files }
+{
+    files_are_good(parts.project.deltas.len(), parts.files.as_slice())
+}
+
+fn bad_change_of(parts: &Parts) -> Option<ChangeNo>
+    requires { Ascends nat_cmp itself parts.now.numbers }
+    ensures { option_map change_blame result ≡ bad_change parts.now.numbers parts.now.changes }
+{
+    bad_change(parts.numbers.as_slice(), parts.changes.as_slice())
 }
 
 fn project_fits_changes(alloc: Global, parts: &Parts) -> Result<bool, AllocError>
@@ -104,10 +117,10 @@ pub fn blamed(alloc: Global, parts: &Parts) -> Result<Option<Blame>, AllocError>
     if !project_stands(parts) {
         return Ok(Some(Blame::Project));
     }
-    if !files_are_good(parts.project.deltas.len(), parts.files.as_slice()) {
+    if !files_stand(parts) {
         return Ok(Some(Blame::Files));
     }
-    match bad_change(parts.numbers.as_slice(), parts.changes.as_slice()) {
+    match bad_change_of(parts) {
         Some(number) => Ok(Some(Blame::Change(number))),
         None => blame_beside(alloc, parts),
     }

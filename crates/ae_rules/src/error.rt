@@ -1,5 +1,6 @@
 // Why records are no state.
 ghost use Rattle.std.specs.Prelude.{◌≡◌};
+ghost use Rattle.ae_rules.specs.declared.error.CheckError.TheVariants.{Memory};
 
 use ae_types::Blame;
 use std::alloc::AllocError;
@@ -15,7 +16,7 @@ pub enum CheckError {
 }
 
 impl From<AllocError> for CheckError {
-    ghost from_gives = { λ _ error. error ≡ CheckError.Memory };
+    ghost from_gives = { λ _ error. error ≡ Memory };
 
     fn from(_error: AllocError) -> CheckError {
         CheckError::Memory

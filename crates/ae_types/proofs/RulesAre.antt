@@ -34,7 +34,7 @@ no-change : (v rest : Option Blame) → option_or v rest ≡ None → (v ≡ Non
 no-change None rest e = (refl, e)
 no-change (Some name) rest e = cc
 
-none-bad : (numbers : List ℕ) (changes : List Change) → bad_change numbers changes ≡ None → list_all (is_change_of numbers) changes ≡ true
+pub none-bad : (numbers : List ℕ) (changes : List Change) → bad_change numbers changes ≡ None → list_all (is_change_of numbers) changes ≡ true
 none-bad ns [] e = refl
 none-bad ns (x ∷ xs) e = go (is_change_of ns x) e (none-bad ns xs)
   where
