@@ -6,7 +6,7 @@ use Rattle.ae_types.specs.declared.blame.Blame.{Blame}
 use Rattle.ae_types.specs.declared.blame.Blame.TheVariants as blame
 use Rattle.ae_types.specs.Observation.{Observation}
 use Rattle.ae_types.specs.Ordered.{Ascends, itself}
-use Rattle.ae_types.specs.Found.{delta_number}
+use Rattle.ae_types.specs.Found.{number_of_delta}
 use Rattle.ae_types.specs.Rules.{blame_unless, project_fits_changes, files_fit_changes}
 use Rattle.ae_types.specs.Sound.{AreRows, AreChanges}
 use Rattle.ae_rules.specs.declared.error.CheckError.{CheckError}
@@ -18,7 +18,7 @@ change_blame number = blame.Change number
 -- each part by itself keeps its rules, so that keys find what they are to find
 pub record IsReadable (o : Observation) : Type 0 where
   pub numbers : Ascends nat_cmp itself o.numbers
-  pub deltas : Ascends nat_cmp delta_number o.project.deltas
+  pub deltas : Ascends nat_cmp number_of_delta o.project.deltas
   pub rows : AreRows (length o.project.deltas) o.files
   pub changes : AreChanges o.numbers o.changes
 

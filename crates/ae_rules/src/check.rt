@@ -3,7 +3,7 @@ ghost use Rattle.std.specs.Prelude.{◌≡◌, ◌&&◌, None, Some, IfOk, OnOk,
 ghost use Rattle.std.specs.Ordering.{nat_cmp};
 ghost use Rattle.std.specs.Option.{option_map};
 ghost use Rattle.ae_types.specs.Ordered.{ascends, Ascends, itself};
-ghost use Rattle.ae_types.specs.Found.{number_of, delta_number};
+ghost use Rattle.ae_types.specs.Found.{number_of_change, number_of_delta};
 ghost use Rattle.ae_types.specs.Rules.{is_change_of, bad_change, project_is_good, files_are_good, project_fits_changes, files_fit_changes, blamed};
 ghost use Rattle.ae_types.specs.Sound.{AreRows, AreChanges};
 ghost use Rattle.ae_rules.specs.Blamed.{change_blame, blamed_beside, Names, IsReadable};
@@ -43,7 +43,7 @@ fn bad_change(numbers: &[ChangeNo], changes: &[Change]) -> Option<ChangeNo>
 }
 
 fn project_stands(parts: &Parts) -> bool
-    ensures { result ≡ (project_is_good parts.now.project parts.now.numbers && ascends nat_cmp number_of parts.now.changes) }
+    ensures { result ≡ (project_is_good parts.now.project parts.now.numbers && ascends nat_cmp number_of_change parts.now.changes) }
 {
     project_is_good(&parts.project, parts.numbers.as_slice())
         && changes_ascend(parts.changes.as_slice())
