@@ -22,3 +22,6 @@ pub use check::{blamed, state_of};
 pub use error::CheckError;
 pub use files_alone::files_are_good;
 pub use project_alone::project_is_good;
+
+#[cfg(test)]
+mod tests;
