@@ -22,5 +22,5 @@ readable o e f g =
       numbers = project.numbers_ascend;
       deltas = deltas-ascend o.project.deltas project.numbered;
       rows = rows-facts (length o.project.deltas) o.files f;
-      changes = changes-facts o.numbers o.changes p.1 (none-bad o.numbers o.changes g)
+      changes = changes-facts o.numbers o.changes p.1 (none-bad o.numbers o.changes g);
     }

@@ -41,8 +41,10 @@ numbers-sorted xs ys p up = sorted-tells same_number same_number-swaps numbered_
   where
     lower : (a b c : ℕ) → a < b → b < c → a < c
     lower a b c h k = omega (arith, h, k)
+
     differ : (a b : ℕ) → a < b → a ≡ b → ⊥
     differ a b h e = absurd (omega (arith, h, e))
+
     strict : (a b : ℕ) → a ≤ b → (a ≡ b → ⊥) → a < b
     strict a b h ne = omega (arith, h, ne)
 
@@ -62,10 +64,13 @@ units-sorted xs ys p up f = sorted-tells meet meet-swaps ends_before has_units v
   where
     onward : (a b c d : ℕ) → a ≤ b → b < c → c ≤ d → a ≤ d
     onward a b c d h k m = omega (arith, h, k, m)
+
     cross : (a b : ℕ) → a ≤ b → b < a → ⊥
     cross a b h k = absurd (omega (arith, h, k))
+
     behind : (a b c : ℕ) → a ≤ b → b < c → a < c
     behind a b c h k = omega (arith, h, k)
+
     away : (x y : VersionRef) → has_units x ≡ true → has_units y ≡ true → x.at ≤ y.at → meet x y ≡ false → end_of x ≤ y.at
     away x y h k le e = go (nat_lt y.at (end_of x)) refl
       where
