@@ -1,9 +1,8 @@
 -- The tests of clashes go over the rows of the file table and the files of the change.
-use Rattle.std.proofs.Common.{◌≡◌, ◌⊎◌, inl, inr, ℕ, zero, suc, ◌+◌, ◌<◌, refl, sym, ◌∙◌, ap, subst, List, [], ◌∷◌, ◌++◌, map, Option, Some, None, Bool, true, false, cond, ◌&&◌, ◌||◌, not, if◌then◌else◌, arith}
-use Rattle.std.specs.Prelude.{filter, is_some, nat_le, length, IfSome}
-use Rattle.std.specs.List.{find, filter_map, list_all}
+use Rattle.std.proofs.Common.{◌≡◌, ◌⊎◌, inl, inr, ℕ, refl, sym, ◌∙◌, ap, subst, List, [], ◌∷◌, ◌++◌, map, Option, Some, None, Bool, true, false, ◌&&◌, ◌||◌, not, if◌then◌else◌}
+use Rattle.std.specs.Prelude.{is_some, nat_le}
+use Rattle.std.specs.List.{list_all}
 use Rattle.std.specs.Option.{option_map, option_and_then}
-use Rattle.std.specs.Str.{bytes_eq}
 use Rattle.ae_base.specs.Names.{is_slash}
 use Rattle.ae_types.specs.declared.change.Change.{Change}
 use Rattle.ae_types.specs.declared.change.ChangeFile.{ChangeFile}
@@ -12,13 +11,13 @@ use Rattle.ae_types.specs.declared.file_table.FileVersion.{FileVersion}
 use Rattle.ae_types.specs.declared.version.VersionRef.{VersionRef}
 use Rattle.ae_types.specs.Clashes.{has_path, none_clash, folders_of}
 use Rattle.ae_types.specs.Found.{file_path, row_path, file_in, row_in, has_file}
-use Rattle.ae_types.specs.Trees.{TreeRow, text_cmp, entry_row, unless_later, last_up_to, tree_row, tree_at, frozen_row, overlaid, paths_of}
+use Rattle.ae_types.specs.Trees.{TreeRow, entry_row, unless_later, last_up_to, tree_row, frozen_row}
 use Rattle.ae_types.proofs.Clashing.{has-in, in-has}
 use Rattle.ae_types.proofs.Keys.{by_text}
 use Rattle.ae_types.proofs.Members.{In, all-in, in-all}
-use Rattle.ae_types.proofs.Ordered.{Ascends, at, some-is, none-some, found-key}
+use Rattle.ae_types.proofs.Ordered.{found-key}
 use Rattle.ae_types.proofs.Searched.{found-in, in-found}
-use Rattle.ae_types.proofs.Splits.{never, and2, some-found, found-some, where-so, so-where, same-true}
+use Rattle.ae_types.proofs.Splits.{never, and2, where-so, so-where, same-true}
 use Rattle.ae_types.proofs.TreePaths.{tree-has, overlaid-has, frozen-some, stands, overlaid_stands}
 use Rattle.ae_rules.specs.Overlay.{paths_over, AreOrdered, is_in, is_clear, row_is_clear, file_is_clear}
 

@@ -1,5 +1,5 @@
 -- Where each part by itself keeps its rules, keys find what they are to find.
-use Rattle.std.proofs.Common.{◌≡◌, ℕ, List, None, Bool, true, ◌&&◌}
+use Rattle.std.proofs.Common.{◌≡◌, None, true, ◌&&◌}
 use Rattle.std.specs.Prelude.{length}
 use Rattle.std.specs.Ordering.{nat_cmp}
 use Rattle.ae_types.specs.Observation.{Observation}

@@ -1,5 +1,5 @@
 -- Versions whose numbers differ, and versions that share no unit, in a sorted list.
-use Rattle.std.proofs.Common.{◌≡◌, ℕ, ◌+◌, ◌/◌, ◌<◌, ◌≤◌, refl, sym, ◌∙◌, ap, List, [], ◌∷◌, ◌++◌, Option, Some, None, Bool, true, false, cond, ◌&&◌, ◌||◌, not, nat_eq, eqb-true, get_or, take, arith}
+use Rattle.std.proofs.Common.{◌≡◌, ℕ, ◌+◌, ◌/◌, ◌<◌, ◌≤◌, refl, sym, ◌∙◌, ap, List, [], ◌∷◌, ◌++◌, Option, Some, None, Bool, true, false, cond, ◌&&◌, ◌||◌, not, eqb-true, get_or, take, arith}
 use Rattle.std.specs.Prelude.{length, nat_lt, nat_le, filter}
 use Rattle.std.specs.Option.{option_to_list}
 use Rattle.std.specs.List.{list_any, list_all, filter_map}
@@ -7,10 +7,10 @@ use Rattle.std.specs.List.Sorted.{IsPermutation, IsNonDecreasingBy}
 use Rattle.std.proofs.lemmas.List.{take_more}
 use Rattle.std.proofs.lemmas.List.Elements.{filter_map-append}
 use Rattle.ae_types.specs.declared.version.VersionRef.{VersionRef}
-use Rattle.ae_types.specs.Versions.{units, has_units, end_of, meet, same_number, no_two}
+use Rattle.ae_types.specs.Versions.{has_units, end_of, meet, same_number, no_two}
 use Rattle.ae_types.proofs.RulesTogether.{same_number-swaps, meet-swaps}
 use Rattle.ae_types.proofs.Members.{in-all}
-use Rattle.ae_types.proofs.Splits.{never, and2, and4, is-false, below, is-below, most, is-most}
+use Rattle.ae_types.proofs.Splits.{never, and4, is-false, below, is-below, most, is-most}
 use Rattle.ae_rules.proofs.Adjacent.{each_next}
 use Rattle.ae_rules.proofs.Sorting.{sorted-tells}
 
