@@ -1,0 +1,6 @@
+pub mod Adjacent
+pub mod ClearPaths
+pub mod ChangesGiven
+pub mod Sorting
+pub mod VersionsApart
+pub mod ReadableParts
