@@ -207,9 +207,19 @@ change_file_fine file =
 
 evidence_fine : (run : Evidence) → IsFine 15 (evidence_row run)
 evidence_fine run =
-    structure_fine 15 _ (omega arith) refl
-    (word_fine 14 _ (ground_is_word run.during), (word_fine 14 _ (kind_is_word run.kind), (optional_fine 14 run.path, (number_fine 14 _,
-    (flag_fine 14 run.clean, (str_fine 14 _, (number_fine 14 _, (str_fine 14 _, tt))))))))
+    structure_fine 15 _ (omega arith) refl (
+      word_fine 14 _ (ground_is_word run.during),
+      (
+        word_fine 14 _ (kind_is_word run.kind),
+        (
+          optional_fine 14 run.path,
+          (
+            number_fine 14 _,
+            (flag_fine 14 run.clean, (str_fine 14 _, (number_fine 14 _, (str_fine 14 _, tt)))),
+          ),
+        ),
+      ),
+    )
 
 history_fine : (row : HistoryRow) → IsFine 15 (history_row row)
 history_fine row = structure_fine 15 _ (omega arith) refl (word_fine 14 _ (what_is_word row.what), (str_fine 14 _, (number_fine 14 _, tt)))
@@ -221,13 +231,49 @@ users_fine users = list_fine 16 str (omega arith) (str_fine 15) users
 
 pub project_well_formed : (p : Project × List ℕ) → IsWellFormed (structure (project_fields p))
 project_well_formed p =
-    well_formed (project_fields p) refl
-    (number_fine 16 1, (word_fine 16 _ refl, (str_fine 16 _, (str_fine 16 _,
-    (flag_fine 16 p.0.attributes.developer_may_review, (flag_fine 16 p.0.attributes.developer_may_integrate,
-    (flag_fine 16 p.0.attributes.reviewer_may_integrate, (flag_fine 16 p.0.attributes.developers_may_create_changes,
-    (word_fine 16 _ (end_action_is_word p.0.attributes.develop_end_action), (flag_fine 16 p.0.attributes.default_test_exemption,
-    (users_fine p.0.administrators, (users_fine p.0.developers, (users_fine p.0.reviewers, (users_fine p.0.integrators,
-    (number_fine 16 _, (list_fine 16 number (omega arith) (number_fine 15) p.1, (list_fine 16 delta_row (omega arith) delta_fine p.0.deltas, tt)))))))))))))))))
+    well_formed (project_fields p) refl (
+      number_fine 16 1,
+      (
+        word_fine 16 _ refl,
+        (
+          str_fine 16 _,
+          (
+            str_fine 16 _,
+            (
+              flag_fine 16 p.0.attributes.developer_may_review,
+              (
+                flag_fine 16 p.0.attributes.developer_may_integrate,
+                (
+                  flag_fine 16 p.0.attributes.reviewer_may_integrate,
+                  (
+                    flag_fine 16 p.0.attributes.developers_may_create_changes,
+                    (
+                      word_fine 16 _ (end_action_is_word p.0.attributes.develop_end_action),
+                      (
+                        flag_fine 16 p.0.attributes.default_test_exemption,
+                        (
+                          users_fine p.0.administrators,
+                          (
+                            users_fine p.0.developers,
+                            (
+                              users_fine p.0.reviewers,
+                              (
+                                users_fine p.0.integrators,
+                                (number_fine 16 _, (list_fine 16 number (omega arith) (number_fine 15) p.1, (list_fine 16 delta_row (omega arith) delta_fine p.0.deltas, tt))),
+                              ),
+                            ),
+                          ),
+                        ),
+                      ),
+                    ),
+                  ),
+                ),
+              ),
+            ),
+          ),
+        ),
+      ),
+    )
 
 pub files_well_formed : (t : List FileRow × List Lock) → IsWellFormed (structure (files_fields t))
 files_well_formed t =
@@ -236,10 +282,46 @@ files_well_formed t =
 
 pub change_well_formed : (c : Change) → IsWellFormed (structure (change_fields c))
 change_well_formed c =
-    well_formed (change_fields c) refl
-    (number_fine 16 _, (str_fine 16 _, (str_fine 16 _, (word_fine 16 _ (cause_is_word c.attributes.cause),
-    (flag_fine 16 c.attributes.test_exempt, (flag_fine 16 c.attributes.test_baseline_exempt, (flag_fine 16 c.attributes.regression_test_exempt,
-    (word_fine 16 _ (phase_is_word c.phase),
-    (optional_fine 16 c.developer, (optional_fine 16 c.reviewing, (optional_fine 16 c.reviewer, (optional_fine 16 c.integrator,
-    (list_fine 16 change_file (omega arith) change_file_fine c.files, (list_fine 16 evidence_row (omega arith) evidence_fine c.evidence,
-    (list_fine 16 history_row (omega arith) history_fine c.history, tt)))))))))))))))
+    well_formed (change_fields c) refl (
+      number_fine 16 _,
+      (
+        str_fine 16 _,
+        (
+          str_fine 16 _,
+          (
+            word_fine 16 _ (cause_is_word c.attributes.cause),
+            (
+              flag_fine 16 c.attributes.test_exempt,
+              (
+                flag_fine 16 c.attributes.test_baseline_exempt,
+                (
+                  flag_fine 16 c.attributes.regression_test_exempt,
+                  (
+                    word_fine 16 _ (phase_is_word c.phase),
+                    (
+                      optional_fine 16 c.developer,
+                      (
+                        optional_fine 16 c.reviewing,
+                        (
+                          optional_fine 16 c.reviewer,
+                          (
+                            optional_fine 16 c.integrator,
+                            (
+                              list_fine 16 change_file (omega arith) change_file_fine c.files,
+                              (
+                                list_fine 16 evidence_row (omega arith) evidence_fine c.evidence,
+                                (list_fine 16 history_row (omega arith) history_fine c.history, tt),
+                              ),
+                            ),
+                          ),
+                        ),
+                      ),
+                    ),
+                  ),
+                ),
+              ),
+            ),
+          ),
+        ),
+      ),
+    )

@@ -2,3 +2,4 @@ pub mod Places
 pub mod RowLists
 pub mod Texts
 pub mod Fine
+pub mod ReadAs
