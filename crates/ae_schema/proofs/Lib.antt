@@ -3,3 +3,4 @@ pub mod RowLists
 pub mod Texts
 pub mod Fine
 pub mod ReadAs
+pub mod Options

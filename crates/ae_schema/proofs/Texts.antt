@@ -8,9 +8,10 @@ use Rattle.ae_text.specs.Wrong.{IsSyntax, IsTooDeep, IsError}
 use Rattle.ae_text.specs.View.{members_of}
 use Rattle.ae_text.proofs.Whole.{one_tree}
 use Rattle.ae_text.proofs.Errors as errors
-use Rattle.ae_schema.specs.Records.{Named, Piece, pieces, structure, IsStructure, Begins, IsWrongAt, IsTextOf, IsWrongText, IsBadLine, last_line, BadAt, refusal_of, stop_error}
+use Rattle.ae_schema.specs.Records.{Named, Piece, pieces, structure, IsStructure, Begins, IsWrongAt, IsTextOf, IsWrongText, IsBadLine, last_line, IsAnswer, IsRefusal, BadAt, refusal_of, stop_error}
 use Rattle.ae_schema.specs.declared.fields.Stop.{Stop}
 use Rattle.ae_schema.specs.declared.fields.Stop.TheVariants as stops
+use Rattle.ae_schema.specs.declared.error.SchemaError.{SchemaError}
 use Rattle.ae_schema.specs.declared.error.SchemaError.TheVariants as schema_errors
 use Rattle.ae_text.specs.declared.read.TextError.{TextError}
 use Rattle.ae_text.specs.declared.read.TextError.TheVariants as text_errors
@@ -150,5 +151,21 @@ told_field Fits fields_of bytes ms lines reads (stops.Bad at) w line e =
     inr (record { ms = ms; lines = lines; reads = reads; at = at; wrong = w.1; line_is = sym is })
 told_field Fits fields_of bytes ms lines reads stops.Memory w line e = absurd (cc)
 
-pub same_error : {T E : Type 0} (x y : E) → Err {T = T} x ≡ Err y → x ≡ y
+pub same_error : {T : Type 0} (x y : SchemaError) → ◌≡◌ {A = Result T SchemaError} (Err x) (Err y) → x ≡ y
 same_error x y e = cc
+
+-- ---- the clauses of a state file's reader, where it refuses
+
+-- a refusal answers a text of a record for want of memory alone
+pub bad_answer : {A : Type 0} (Fits : A → Type 0) (fields_of : A → List Named) (bytes : List ℕ) (error : SchemaError)
+    → ((line : ℕ) → error ≡ schema_errors.Field line → IsBadLine Fits fields_of bytes line)
+    → (x : A) → Fits x → IsTextOf bytes (fields_of x) → IsAnswer x (Err error)
+bad_answer Fits fields_of bytes (schema_errors.Field line) bad x fits text = never_both Fits fields_of bytes x fits text line (bad line refl)
+bad_answer Fits fields_of bytes schema_errors.Memory bad x fits text = tt
+
+-- a refusal tells the bad line
+pub bad_refusal : {A : Type 0} (Fits : A → Type 0) (fields_of : A → List Named) (bytes : List ℕ) (error : SchemaError)
+    → ((line : ℕ) → error ≡ schema_errors.Field line → IsBadLine Fits fields_of bytes line)
+    → (line : ℕ) → IsBadLine Fits fields_of bytes line → IsRefusal {A = A} line (Err error)
+bad_refusal Fits fields_of bytes (schema_errors.Field other) bad line w = one_line Fits fields_of bytes other line (bad other refl) w
+bad_refusal Fits fields_of bytes schema_errors.Memory bad line w = tt

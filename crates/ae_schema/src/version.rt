@@ -7,26 +7,43 @@ ghost use Rattle.ae_text.specs.View.{node};
 ghost use Rattle.ae_schema.specs.Records.{structure};
 
 use crate::fields::{End, Then};
+use crate::parts::{fields_in, string_in};
 use crate::structure::{read_structure, structure_of};
 use crate::value::{Value, field};
 use ae_text::Tree;
 use ae_types::VersionRef;
 use std::alloc::{AllocError, Global};
 
-// The digest of which the text is the hex digits.
-fn digest_of(alloc: Global, text: &[u8]) -> Result<Option<[u8; 32]>, AllocError>
-    ensures some { IfOk result (λ read. IfSome read (λ digest. IsDigest digest × (encode_lower digest ≡ text.now))) }
-    ensures only { (digest : List ℕ) → IsDigest digest → encode_lower digest ≡ text.now → IfOk result (λ read. read ≡ Some digest) }
+// An array of 32 bytes is a digest.
+fn note_digest(digest: &[u8; 32])
+    ensures { IsDigest digest.now }
 {
-    let mut digest = [0; 32];
-    if hex::decode_to_slice(text, &mut digest).is_err() {
-        return Ok(None);
-    }
-    let again = hex::encode(alloc, digest)?;
-    if again.as_bytes() == text {
+    let _copy = *digest;
+}
+
+// The digest, where the text is its hex digits.
+fn same_digits(alloc: Global, digest: [u8; 32], text: &[u8]) -> Result<Option<[u8; 32]>, AllocError>
+    ensures some { IfOk result (λ read. IfSome read (λ x. IsDigest x × (encode_lower x ≡ text.now))) }
+    ensures only { encode_lower digest ≡ text.now → IfOk result (λ read. read ≡ Some digest) }
+{
+    note_digest(&digest);
+    let digits = hex::encode(alloc, digest)?;
+    if digits.as_bytes() == text {
         Ok(Some(digest))
     } else {
         Ok(None)
+    }
+}
+
+// The digest of which the text is the hex digits, in lower case.
+fn digest_of(alloc: Global, text: &[u8]) -> Result<Option<[u8; 32]>, AllocError>
+    ensures some { IfOk result (λ read. IfSome read (λ x. IsDigest x × (encode_lower x ≡ text.now))) }
+    ensures only { (x : List ℕ) → IsDigest x → encode_lower x ≡ text.now → IfOk result (λ read. read ≡ Some x) }
+{
+    let mut digest = [0; 32];
+    match hex::decode_to_slice(text, &mut digest) {
+        Ok(()) => same_digits(alloc, digest, text),
+        Err(_) => Ok(None),
     }
 }
 
@@ -41,9 +58,9 @@ impl Value for [u8; 32] {
     ghost Fits = { IsDigest };
 
     fn of_tree(alloc: Global, tree: &Tree) -> Result<Option<[u8; 32]>, AllocError> {
-        match tree {
-            Tree::Str(text) => digest_of(alloc, text.bytes()),
-            _ => Ok(None),
+        match string_in(tree) {
+            Some(text) => digest_of(alloc, text),
+            None => Ok(None),
         }
     }
 
@@ -114,8 +131,8 @@ fn version_of(fields: VersionFields) -> VersionRef
 fn is_empty_structure(tree: &Tree) -> bool
     ensures { IsTrue result ↔ (node tree.now ≡ structure []) }
 {
-    match tree {
-        Tree::Fields(list) => list.items().is_empty(),
+    match fields_in(tree) {
+        Some([]) => true,
         _ => false,
     }
 }

@@ -1,0 +1,44 @@
+-- Options that are read.
+use Rattle.std.proofs.Common.{◌≡◌, ℕ, ◌≤◌, ◌<◌, ◌*◌, List, [], ◌∷◌, length, map, Option, Some, None, Result, Ok, Err, false, IsTrue, refl, sym, ap, ◌∙◌, arith}
+use Rattle.std.specs.Prelude.{MatchResult, IfOk}
+use Rattle.hex.specs.Hex.{encode_lower, lower_digits, decode_sized, IsBytes}
+use Rattle.hex.specs.declared.error.FromHexError.{FromHexError}
+use Rattle.hex.proofs.HexLemmas.{length-encode_with, decode_of-encode_lower, decode_sized-twice}
+use Rattle.ae_text.specs.Tree.{Node}
+use Rattle.ae_schema.specs.Records.{Named, structure}
+use Rattle.ae_schema.specs.Fits.{IsDigest}
+use Rattle.ae_schema.proofs.RowLists.{same_structure}
+
+-- nothing is no value
+pub no_none : {A P : Type 0} (x : A) → None ≡ Some x → P
+no_none x e = absurd (cc)
+
+pub some_is : {A : Type 0} (x y : A) → Some x ≡ Some y → x ≡ y
+some_is x y e = cc
+
+-- a value that is read by way of its fields
+pub read_from : {F A : Type 0} (from : F → A) (read : Option F) (f shape : F) → read ≡ Some f → read ≡ Some shape → Some (from f) ≡ Some (from shape)
+read_from from read f shape is e = ap (λ x. Some (from x)) (some_is f shape (sym is ∙ e))
+
+-- the hex digits of a digest decode to it
+pub decoded : (x text : List ℕ) → IsDigest x → encode_lower x ≡ text → decode_sized text 32 ≡ Ok x
+decoded x text fits e =
+    let many = length-encode_with lower_digits x in
+    let len : length (encode_lower x) ≡ 2 * 32 = omega (arith, many, fits.0) in
+    rw (← e) (decode_sized-twice (encode_lower x) 32 len ∙ decode_of-encode_lower x fits.1)
+
+pub decoding : {R : Type 0} (ok : R) (sized : Result (List ℕ) FromHexError) (r : Result R FromHexError) (out x : List ℕ)
+    → MatchResult sized (λ bytes. (r ≡ Ok ok) × (out ≡ bytes)) (λ e. r ≡ Err e) → sized ≡ Ok x → (r ≡ Ok ok) × (out ≡ x)
+decoding ok sized r out x h e = rw e at h
+
+-- a structure without fields has none
+pub no_fields : {X : Type 0} (n : Node) (f : X → Named) (xs : List X) → n ≡ structure (map f xs) → 1 ≤ length xs → n ≡ structure [] → ⊥
+no_fields n f [] e some none = absurd (omega arith)
+no_fields n f (x ∷ xs) e some none =
+    let same : [] ≡ map f (x ∷ xs) = same_structure n [] (map f (x ∷ xs)) (sym none) e in absurd (cc (same))
+
+pub no_error : {R E P : Type 0} (x : R) (e : E) → ◌≡◌ {A = Result R E} (Ok x) (Err e) → P
+no_error x e h = absurd (cc)
+
+pub not_true : {P : Type 0} → IsTrue false → P
+not_true e = absurd (cc)
