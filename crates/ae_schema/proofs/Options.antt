@@ -1,5 +1,5 @@
 -- Options that are read.
-use Rattle.std.proofs.Common.{◌≡◌, ℕ, ◌≤◌, ◌<◌, ◌*◌, List, [], ◌∷◌, length, map, Option, Some, None, Result, Ok, Err, false, IsTrue, refl, sym, ap, ◌∙◌, arith}
+use Rattle.std.proofs.Common.{◌≡◌, ℕ, ◌≤◌, ◌<◌, ◌*◌, List, [], ◌∷◌, length, map, Option, Some, None, Result, Ok, Err, Bool, IsTrue, ◌↔◌, refl, sym, ap, ◌∙◌, arith}
 use Rattle.std.specs.Prelude.{MatchResult, IfOk}
 use Rattle.hex.specs.Hex.{encode_lower, lower_digits, decode_sized, IsBytes}
 use Rattle.hex.specs.declared.error.FromHexError.{FromHexError}
@@ -31,14 +31,13 @@ pub decoding : {R : Type 0} (ok : R) (sized : Result (List ℕ) FromHexError) (r
     → MatchResult sized (λ bytes. (r ≡ Ok ok) × (out ≡ bytes)) (λ e. r ≡ Err e) → sized ≡ Ok x → (r ≡ Ok ok) × (out ≡ x)
 decoding ok sized r out x h e = rw e at h
 
--- a structure without fields has none
-pub no_fields : {X : Type 0} (n : Node) (f : X → Named) (xs : List X) → n ≡ structure (map f xs) → 1 ≤ length xs → n ≡ structure [] → ⊥
-no_fields n f [] e some none = absurd (omega arith)
-no_fields n f (x ∷ xs) e some none =
-    let same : [] ≡ map f (x ∷ xs) = same_structure n [] (map f (x ∷ xs)) (sym none) e in absurd (cc (same))
+-- a structure is empty where it has no fields
+pub is_empty : {X : Type 0} (b : Bool) (n : Node) (f : X → Named) (xs : List X) → n ≡ structure (map f xs) → IsTrue b ↔ (length xs ≡ 0) → IsTrue b ↔ (n ≡ structure [])
+is_empty b n f [] e test = (λ _. e, λ _. test.1 refl)
+is_empty b n f (x ∷ xs) e test = (
+  λ yes_it_is. absurd (let none : length (x ∷ xs) ≡ 0 = test.0 yes_it_is in omega arith),
+  λ none. absurd (let same : [] ≡ map f (x ∷ xs) = same_structure n [] (map f (x ∷ xs)) (sym none) e in cc (same)),
+)
 
 pub no_error : {R E P : Type 0} (x : R) (e : E) → ◌≡◌ {A = Result R E} (Ok x) (Err e) → P
 no_error x e h = absurd (cc)
-
-pub not_true : {P : Type 0} → IsTrue false → P
-not_true e = absurd (cc)

@@ -48,8 +48,16 @@ FitsLock l = IsPath l.path × IsChangeNo l.change
 abbrev pub FitsChangeFile : ChangeFile → Type 0
 FitsChangeFile file = IsPath file.path × (file.origin < 2 ^ 32) × IfSome file.frozen FitsVersion
 
+-- which run it was, and how it ended
+abbrev pub FitsRun : Evidence → Type 0
+FitsRun run = IfSome run.path IsPath × (run.status < 2 ^ 16)
+
+-- what was tried, by whom and when
+abbrev pub FitsOutcome : Evidence → Type 0
+FitsOutcome run = IsDigest run.subject × (run.when < 2 ^ 64) × IsUser run.who
+
 abbrev pub FitsEvidence : Evidence → Type 0
-FitsEvidence run = IfSome run.path IsPath × (run.status < 2 ^ 16) × IsDigest run.subject × (run.when < 2 ^ 64) × IsUser run.who
+FitsEvidence run = FitsRun run × FitsOutcome run
 
 abbrev pub FitsHistory : HistoryRow → Type 0
 FitsHistory row = IsUser row.who × (row.when < 2 ^ 64)

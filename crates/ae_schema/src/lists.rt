@@ -104,11 +104,10 @@ fn distinct(alloc: Global, users: Vec<User>) -> Result<Option<UserSet>, AllocErr
 }
 
 impl Value for UserSet {
-    ghost use Rattle.std.specs.Prelude.{[]};
     ghost use Rattle.ae_text.specs.Tree.{str};
     ghost use Rattle.ae_schema.specs.Spelled.{list_of};
     ghost use Rattle.ae_schema.specs.Fits.{AreUsers};
-    ghost use Rattle.std.proofs.Common.{rules};
+    ghost use Rattle.ae_schema.specs.SomeValues.{some_users};
 
     ghost spelled = { list_of str };
 
@@ -128,5 +127,5 @@ impl Value for UserSet {
         Ok(Tree::List(TreeList::of(row_trees(alloc, self.users())?)))
     }
 
-    ghost some_value = { ([], Prim.search rules) };
+    ghost some_value = { some_users };
 }

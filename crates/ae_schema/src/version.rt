@@ -1,5 +1,5 @@
 // How versions and digests are spelled.
-ghost use Rattle.std.specs.Prelude.{◌≡◌, ◌↔◌, [], ℕ, List, Some, IsTrue, IfOk, IfSome};
+ghost use Rattle.std.specs.Prelude.{◌≡◌, ◌↔◌, [], ℕ, List, Some, IsTrue, IfOk, IfSome, length};
 ghost use Rattle.hex.specs.Hex.{encode_lower};
 ghost use Rattle.ae_schema.specs.Fits.{IsDigest};
 ghost use Rattle.ae_schema.specs.Shapes.{version_from};
@@ -10,26 +10,22 @@ use crate::fields::{End, Then};
 use crate::parts::{fields_in, string_in};
 use crate::structure::{read_structure, structure_of};
 use crate::value::{Value, field};
-use ae_text::Tree;
+use ae_text::{Field, Tree};
 use ae_types::VersionRef;
 use std::alloc::{AllocError, Global};
 
-// An array of 32 bytes is a digest.
-fn note_digest(digest: &[u8; 32])
-    ensures { IsDigest digest.now }
-{
-    let _copy = *digest;
-}
-
 // The digest, where the text is its hex digits.
-fn same_digits(alloc: Global, digest: [u8; 32], text: &[u8]) -> Result<Option<[u8; 32]>, AllocError>
+fn same_digits(
+    alloc: Global,
+    digest: &[u8; 32],
+    text: &[u8],
+) -> Result<Option<[u8; 32]>, AllocError>
     ensures some { IfOk result (λ read. IfSome read (λ x. IsDigest x × (encode_lower x ≡ text.now))) }
-    ensures only { encode_lower digest ≡ text.now → IfOk result (λ read. read ≡ Some digest) }
+    ensures only { encode_lower digest.now ≡ text.now → IfOk result (λ read. read ≡ Some digest.now) }
 {
-    note_digest(&digest);
-    let digits = hex::encode(alloc, digest)?;
+    let digits = hex::encode(alloc, *digest)?;
     if digits.as_bytes() == text {
-        Ok(Some(digest))
+        Ok(Some(*digest))
     } else {
         Ok(None)
     }
@@ -42,7 +38,7 @@ fn digest_of(alloc: Global, text: &[u8]) -> Result<Option<[u8; 32]>, AllocError>
 {
     let mut digest = [0; 32];
     match hex::decode_to_slice(text, &mut digest) {
-        Ok(()) => same_digits(alloc, digest, text),
+        Ok(()) => same_digits(alloc, &digest, text),
         Err(_) => Ok(None),
     }
 }
@@ -128,12 +124,18 @@ fn version_of(fields: VersionFields) -> VersionRef
     }
 }
 
+fn has_none(fields: &[Field]) -> bool
+    ensures { IsTrue result ↔ (length fields.now ≡ 0) }
+{
+    fields.is_empty()
+}
+
 fn is_empty_structure(tree: &Tree) -> bool
     ensures { IsTrue result ↔ (node tree.now ≡ structure []) }
 {
     match fields_in(tree) {
-        Some([]) => true,
-        _ => false,
+        Some(fields) => has_none(fields),
+        None => false,
     }
 }
 

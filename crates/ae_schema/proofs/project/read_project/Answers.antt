@@ -45,3 +45,6 @@ returns-in-Err-clause-field c line e = bad c line (same_error _ _ e)
 
 pub returns-in-Err-clause-only_field : goal.returns-in-Err-clause-only_field
 returns-in-Err-clause-only_field c line w = bad_refusal FitsProject project_fields c.args.bytes.now c.in-Err.error (bad c) line w
+
+pub returns-in-Ok-clause-found : goal.returns-in-Ok-clause-found
+returns-in-Ok-clause-found c = rw c.project_of.ensures c.in-Ok.ensures.found
