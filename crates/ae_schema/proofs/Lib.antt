@@ -1,0 +1,6 @@
+pub mod Places
+pub mod RowLists
+pub mod Texts
+pub mod Fine
+pub mod ReadAs
+pub mod Options
