@@ -1,0 +1,94 @@
+// The versions of files: their numbers, and the units that they take.
+ghost use Rattle.std.specs.Prelude.{◌≡◌, ◌++◌, IfOk, OnOk, flat_map};
+ghost use Rattle.std.specs.List.{list_all, filter_map};
+ghost use Rattle.ae_types.specs.Versions.{live, units, has_units, end_of};
+ghost use Rattle.ae_types.specs.Rules.{is_in_region};
+ghost use Rattle.ae_rules.specs.Live.{past_versions, frozen_versions, number_is_below};
+
+use ae_types::{Change, ChangeFile, FileRow, FileVersion, VersionRef};
+use std::alloc::{AllocError, Global};
+
+fn add_past(versions: &mut Vec<VersionRef>, past: &[FileVersion]) -> Result<(), AllocError>
+    ensures { OnOk result (versions.new.items ≡ versions.old.items ++ filter_map (λ (entry : FileVersion). entry.version) past.now) }
+{
+    for entry in past {
+        if let Some(version) = entry.version {
+            versions.push(version)?;
+        }
+    }
+    Ok(())
+}
+
+fn add_frozen(versions: &mut Vec<VersionRef>, files: &[ChangeFile]) -> Result<(), AllocError>
+    ensures { OnOk result (versions.new.items ≡ versions.old.items ++ filter_map (λ (file : ChangeFile). file.frozen) files.now) }
+{
+    for file in files {
+        if let Some(version) = file.frozen {
+            versions.push(version)?;
+        }
+    }
+    Ok(())
+}
+
+fn add_rows(versions: &mut Vec<VersionRef>, rows: &[FileRow]) -> Result<(), AllocError>
+    ensures { OnOk result (versions.new.items ≡ versions.old.items ++ flat_map past_versions rows.now) }
+{
+    for row in rows {
+        add_past(versions, row.past.as_slice())?;
+    }
+    Ok(())
+}
+
+fn add_changes(versions: &mut Vec<VersionRef>, changes: &[Change]) -> Result<(), AllocError>
+    ensures { OnOk result (versions.new.items ≡ versions.old.items ++ flat_map frozen_versions changes.now) }
+{
+    for change in changes {
+        add_frozen(versions, change.files.as_slice())?;
+    }
+    Ok(())
+}
+
+fn live(alloc: Global, rows: &[FileRow], changes: &[Change]) -> Result<Vec<VersionRef>, AllocError>
+    ensures { IfOk result (λ versions. versions.items ≡ live rows.now changes.now) }
+{
+    let mut versions = Vec::new(alloc);
+    add_rows(&mut versions, rows)?;
+    add_changes(&mut versions, changes)?;
+    Ok(versions)
+}
+
+fn numbers_are_below(next: u64, versions: &[VersionRef]) -> bool
+    ensures { result ≡ list_all (number_is_below next) versions.now }
+{
+    versions.iter().all(|version| version.number < next)
+}
+
+fn has_units(version: &VersionRef) -> bool
+    ensures { result ≡ has_units version.now }
+{
+    0 < version.length
+}
+
+fn units(version: &VersionRef) -> u64
+    ensures { result ≡ units version.now }
+{
+    (u64::from(version.length) + 63) / 64
+}
+
+fn is_in_region(version: &VersionRef) -> bool
+    ensures { result ≡ is_in_region version.now }
+{
+    if !has_units(version) {
+        return true;
+    }
+    if 16_777_216 < version.at {
+        return false;
+    }
+    version.at + units(version) <= 16_777_216
+}
+
+fn are_in_region(versions: &[VersionRef]) -> bool
+    ensures { result ≡ list_all is_in_region versions.now }
+{
+    versions.iter().all(|version| is_in_region(version))
+}

@@ -1,0 +1,12 @@
+pub mod BinarySearch
+pub mod Clashing
+pub mod Keys
+pub mod Members
+pub mod Ordered
+pub mod Placed
+pub mod RulesAlone
+pub mod RulesAre
+pub mod RulesTogether
+pub mod Searched
+pub mod Splits
+pub mod TreePaths

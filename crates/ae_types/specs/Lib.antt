@@ -1,0 +1,11 @@
+pub mod Clashes
+pub mod Found
+pub mod Observation
+pub mod Ordered
+pub mod Phases
+pub mod Roles
+pub mod Rules
+pub mod Runs
+pub mod Sound
+pub mod Trees
+pub mod Versions

@@ -1,0 +1,165 @@
+// A change: its settings, phase, people, files, runs and history.
+ghost use Rattle.std.specs.Prelude.{◌≡◌, IfOk};
+
+use crate::{Rows, TryCopy, VersionRef};
+use ae_base::{Action, Cause, ChangeNo, Ground, Kind, Path, Phase, Text, Usage, User, What};
+use std::alloc::{AllocError, Global};
+
+/// A file of a change: what the change does to it, the edit that it began from, and its version while the change is under
+/// review or integrated.
+#[derive(Drop)]
+pub struct ChangeFile {
+    pub path: Path,
+    pub action: Action,
+    pub usage: Usage,
+    pub origin: u32,
+    pub frozen: Option<VersionRef>,
+}
+
+/// The files of a change, ascending by path.
+pub type ChangeFileList = Rows<ChangeFile>;
+
+/// The latest run of its kind and path, made during development or integration. The status of an exit code is itself, of
+/// signal `n` it is 256 + `n`; `clean` says that the files were the same after the run; `subject` is the SHA-256 of what
+/// was tried; `when` is in seconds since 1970.
+#[derive(Drop)]
+pub struct Evidence {
+    pub during: Ground,
+    pub kind: Kind,
+    pub path: Option<Path>,
+    pub status: u16,
+    pub clean: bool,
+    pub subject: [u8; 32],
+    pub when: u64,
+    pub who: User,
+}
+
+/// Runs, ascending by when in a change's life they were made, by kind and by path.
+pub type EvidenceList = Rows<Evidence>;
+
+/// What happened to a change, who did it and when, in seconds since 1970.
+#[derive(Drop)]
+pub struct HistoryRow {
+    pub what: What,
+    pub who: User,
+    pub when: u64,
+}
+
+/// The history of a change, in the order in which it happened.
+pub type HistoryList = Rows<HistoryRow>;
+
+/// The settings of a change.
+#[derive(Drop)]
+pub struct ChangeAttributes {
+    pub brief: Text,
+    pub description: Text,
+    pub cause: Cause,
+    pub test_exempt: bool,
+    pub test_baseline_exempt: bool,
+    pub regression_test_exempt: bool,
+}
+
+/// A change. `reviewing` is who began the review.
+#[derive(Drop)]
+pub struct Change {
+    pub number: ChangeNo,
+    pub attributes: ChangeAttributes,
+    pub phase: Phase,
+    pub developer: Option<User>,
+    pub reviewing: Option<User>,
+    pub reviewer: Option<User>,
+    pub integrator: Option<User>,
+    pub files: ChangeFileList,
+    pub evidence: EvidenceList,
+    pub history: HistoryList,
+}
+
+/// Changes, ascending by number.
+pub type ChangeList = Rows<Change>;
+
+// an equal user, or nobody
+fn copy_user(user: &Option<User>, alloc: Global) -> Result<Option<User>, AllocError>
+    ensures { IfOk result (λ copy. copy ≡ user.now) }
+{
+    match user {
+        Some(user) => Ok(Some(user.copy(alloc)?)),
+        None => Ok(None),
+    }
+}
+
+// an equal path, or none
+fn copy_path(path: &Option<Path>, alloc: Global) -> Result<Option<Path>, AllocError>
+    ensures { IfOk result (λ copy. copy ≡ path.now) }
+{
+    match path {
+        Some(path) => Ok(Some(path.copy(alloc)?)),
+        None => Ok(None),
+    }
+}
+
+impl TryCopy for ChangeFile {
+    fn copy(&self, alloc: Global) -> Result<ChangeFile, AllocError> {
+        Ok(ChangeFile {
+            path: self.path.copy(alloc)?,
+            action: self.action,
+            usage: self.usage,
+            origin: self.origin,
+            frozen: self.frozen,
+        })
+    }
+}
+
+impl TryCopy for Evidence {
+    fn copy(&self, alloc: Global) -> Result<Evidence, AllocError> {
+        Ok(Evidence {
+            during: self.during,
+            kind: self.kind,
+            path: copy_path(&self.path, alloc)?,
+            status: self.status,
+            clean: self.clean,
+            subject: self.subject,
+            when: self.when,
+            who: self.who.copy(alloc)?,
+        })
+    }
+}
+
+impl TryCopy for HistoryRow {
+    fn copy(&self, alloc: Global) -> Result<HistoryRow, AllocError> {
+        Ok(HistoryRow {
+            what: self.what,
+            who: self.who.copy(alloc)?,
+            when: self.when,
+        })
+    }
+}
+
+impl TryCopy for ChangeAttributes {
+    fn copy(&self, alloc: Global) -> Result<ChangeAttributes, AllocError> {
+        Ok(ChangeAttributes {
+            brief: self.brief.copy(alloc)?,
+            description: self.description.copy(alloc)?,
+            cause: self.cause,
+            test_exempt: self.test_exempt,
+            test_baseline_exempt: self.test_baseline_exempt,
+            regression_test_exempt: self.regression_test_exempt,
+        })
+    }
+}
+
+impl TryCopy for Change {
+    fn copy(&self, alloc: Global) -> Result<Change, AllocError> {
+        Ok(Change {
+            number: self.number,
+            attributes: self.attributes.copy(alloc)?,
+            phase: self.phase,
+            developer: copy_user(&self.developer, alloc)?,
+            reviewing: copy_user(&self.reviewing, alloc)?,
+            reviewer: copy_user(&self.reviewer, alloc)?,
+            integrator: copy_user(&self.integrator, alloc)?,
+            files: self.files.copy(alloc)?,
+            evidence: self.evidence.copy(alloc)?,
+            history: self.history.copy(alloc)?,
+        })
+    }
+}
