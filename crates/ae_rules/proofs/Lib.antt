@@ -1,3 +1,5 @@
 pub mod Adjacent
 pub mod ClearPaths
 pub mod ChangesGiven
+pub mod Sorting
+pub mod VersionsApart

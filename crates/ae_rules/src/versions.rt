@@ -1,6 +1,7 @@
 // The versions of files: their numbers, and the units that they take.
 ghost use Rattle.std.specs.Prelude.{◌≡◌, ◌++◌, IfOk, OnOk, flat_map};
 ghost use Rattle.std.specs.List.{list_all, filter_map};
+ghost use Rattle.std.specs.Option.{option_to_list};
 ghost use Rattle.ae_types.specs.Versions.{live, units, has_units, end_of};
 ghost use Rattle.ae_types.specs.Rules.{is_in_region};
 ghost use Rattle.ae_rules.specs.Live.{past_versions, frozen_versions, number_is_below};
@@ -8,13 +9,20 @@ ghost use Rattle.ae_rules.specs.Live.{past_versions, frozen_versions, number_is_
 use ae_types::{Change, ChangeFile, FileRow, FileVersion, VersionRef};
 use std::alloc::{AllocError, Global};
 
+fn add(versions: &mut Vec<VersionRef>, version: Option<VersionRef>) -> Result<(), AllocError>
+    ensures { OnOk result (versions.new.items ≡ versions.old.items ++ option_to_list version) }
+{
+    if let Some(version) = version {
+        versions.push(version)?;
+    }
+    Ok(())
+}
+
 fn add_past(versions: &mut Vec<VersionRef>, past: &[FileVersion]) -> Result<(), AllocError>
     ensures { OnOk result (versions.new.items ≡ versions.old.items ++ filter_map (λ (entry : FileVersion). entry.version) past.now) }
 {
     for entry in past {
-        if let Some(version) = entry.version {
-            versions.push(version)?;
-        }
+        add(versions, entry.version)?;
     }
     Ok(())
 }
@@ -23,9 +31,7 @@ fn add_frozen(versions: &mut Vec<VersionRef>, files: &[ChangeFile]) -> Result<()
     ensures { OnOk result (versions.new.items ≡ versions.old.items ++ filter_map (λ (file : ChangeFile). file.frozen) files.now) }
 {
     for file in files {
-        if let Some(version) = file.frozen {
-            versions.push(version)?;
-        }
+        add(versions, file.frozen)?;
     }
     Ok(())
 }
@@ -81,10 +87,10 @@ fn is_in_region(version: &VersionRef) -> bool
     if !has_units(version) {
         return true;
     }
-    if 16_777_216 < version.at {
-        return false;
+    match version.at.checked_add(units(version)) {
+        Some(end) => end <= 16_777_216,
+        None => false,
     }
-    version.at + units(version) <= 16_777_216
 }
 
 fn are_in_region(versions: &[VersionRef]) -> bool

@@ -138,7 +138,7 @@ facts-deltas ds ns xs up upward g = λ i. delta i && change i
 abbrev number_below : ℕ → VersionRef → Bool
 number_below next version = nat_lt version.number next
 
-same_number-swaps : (v w : VersionRef) → same_number v w ≡ same_number w v
+pub same_number-swaps : (v w : VersionRef) → same_number v w ≡ same_number w v
 same_number-swaps v w = Rattle.std.proofs.lemmas.Cmp.nat_eq_equiv.symm v.number w.number
 
 swap-first : (a b : Bool) → (a && b) ≡ (b && a)
@@ -151,7 +151,7 @@ swap-last : (a c d : Bool) → (a && c && d) ≡ (a && d && c)
 swap-last true c d = swap-first c d
 swap-last false c d = refl
 
-meet-swaps : (v w : VersionRef) → meet v w ≡ meet w v
+pub meet-swaps : (v w : VersionRef) → meet v w ≡ meet w v
 meet-swaps v w = ap (λ a. a && nat_lt v.at (end_of w) && nat_lt w.at (end_of v)) (swap-first (has_units v) (has_units w)) ∙ swap-last (has_units w && has_units v) (nat_lt v.at (end_of w)) (nat_lt w.at (end_of v))
 
 module _ (rows : List FileRow) (changes : List Change) (order : InOrder rows changes) where

@@ -1,0 +1,119 @@
+-- Versions whose numbers differ, and versions that share no unit, in a sorted list.
+use Rattle.std.proofs.Common.{◌≡◌, ℕ, ◌+◌, ◌<◌, ◌≤◌, refl, sym, ◌∙◌, ap, List, [], ◌∷◌, ◌++◌, Option, Some, None, Bool, true, false, cond, ◌&&◌, ◌||◌, not, nat_eq, eqb-true, get_or, take, arith}
+use Rattle.std.specs.Prelude.{length, nat_lt, nat_le, filter}
+use Rattle.std.specs.Option.{option_to_list}
+use Rattle.std.specs.List.{list_any, list_all, filter_map}
+use Rattle.std.specs.List.Sorted.{IsPermutation, IsNonDecreasingBy}
+use Rattle.std.proofs.lemmas.List.{take_more}
+use Rattle.std.proofs.lemmas.List.Elements.{filter_map-append}
+use Rattle.ae_types.specs.declared.version.VersionRef.{VersionRef}
+use Rattle.ae_types.specs.Versions.{units, has_units, end_of, meet, same_number, no_two}
+use Rattle.ae_types.proofs.RulesTogether.{same_number-swaps, meet-swaps}
+use Rattle.ae_types.proofs.Members.{in-all}
+use Rattle.ae_types.proofs.Splits.{never, and2, and4, is-false, below, is-below, most, is-most}
+use Rattle.ae_rules.proofs.Adjacent.{each_next}
+use Rattle.ae_rules.proofs.Sorting.{sorted-tells}
+
+abbrev pub number_of : VersionRef → ℕ
+number_of version = version.number
+
+abbrev pub at_of : VersionRef → ℕ
+at_of version = version.at
+
+abbrev pub numbered_before : VersionRef → VersionRef → Bool
+numbered_before one other = nat_lt one.number other.number
+
+abbrev pub ends_before : VersionRef → VersionRef → Bool
+ends_before one other = nat_le (end_of one) other.at
+
+abbrev any_version : VersionRef → Bool
+any_version version = true
+
+all-any : (xs : List VersionRef) → list_all any_version xs ≡ true
+all-any xs = in-all any_version xs (λ x m. refl)
+
+pub numbers-sorted : (xs ys : List VersionRef) → IsPermutation xs ys → IsNonDecreasingBy number_of ys → each_next numbered_before ys ≡ no_two same_number xs
+numbers-sorted xs ys p up = sorted-tells same_number same_number-swaps numbered_before any_version number_of
+    (λ x y z f e g. is-below x.number z.number (lower x.number y.number z.number (below x.number y.number e) (below y.number z.number g)))
+    (λ x y e. is-false (same_number x y) (λ is. differ x.number y.number (below x.number y.number e) (eqb-true x.number y.number is)))
+    (λ x y f g h e. is-below x.number y.number (strict x.number y.number h (Rattle.std.proofs.lemmas.Bool.eqb-false x.number y.number e)))
+    xs ys p up (all-any xs)
+  where
+    lower : (a b c : ℕ) → a < b → b < c → a < c
+    lower a b c h k = omega (arith, h, k)
+    differ : (a b : ℕ) → a < b → a ≡ b → ⊥
+    differ a b h e = absurd (omega (arith, h, e))
+    strict : (a b : ℕ) → a ≤ b → (a ≡ b → ⊥) → a < b
+    strict a b h ne = omega (arith, h, ne)
+
+-- what has bytes has a unit
+some-units : (v : VersionRef) → has_units v ≡ true → v.at < end_of v
+some-units v e = go v.length v.at (below 0 v.length e)
+  where
+    go : (n a : ℕ) → 0 < n → a < a + (n + 63) / 64
+    go n a h = omega (arith, h)
+
+pub units-sorted : (xs ys : List VersionRef) → IsPermutation xs ys → IsNonDecreasingBy at_of ys → list_all has_units xs ≡ true → each_next ends_before ys ≡ no_two meet xs
+units-sorted xs ys p up f = sorted-tells meet meet-swaps ends_before has_units at_of
+    (λ x y z h e g. is-most (end_of x) z.at (onward (end_of x) y.at (end_of y) z.at (most (end_of x) y.at e) (some-units y h) (most (end_of y) z.at g)))
+    (λ x y e. is-false (meet x y) (λ is. let a = and4 (has_units x) (has_units y) (nat_lt x.at (end_of y)) (nat_lt y.at (end_of x)) is in cross (end_of x) y.at (most (end_of x) y.at e) (below y.at (end_of x) a.3)))
+    (λ x y h k le e. is-most (end_of x) y.at (away x y h k le e))
+    xs ys p up f
+  where
+    onward : (a b c d : ℕ) → a ≤ b → b < c → c ≤ d → a ≤ d
+    onward a b c d h k m = omega (arith, h, k, m)
+    cross : (a b : ℕ) → a ≤ b → b < a → ⊥
+    cross a b h k = absurd (omega (arith, h, k))
+    behind : (a b c : ℕ) → a ≤ b → b < c → a < c
+    behind a b c h k = omega (arith, h, k)
+    away : (x y : VersionRef) → has_units x ≡ true → has_units y ≡ true → x.at ≤ y.at → meet x y ≡ false → end_of x ≤ y.at
+    away x y h k le e = go (nat_lt y.at (end_of x)) refl
+      where
+        go : (b : Bool) → nat_lt y.at (end_of x) ≡ b → end_of x ≤ y.at
+        go true is = never (sym e ∙ (λ i. h i && k i && is-below x.at (end_of y) (behind x.at y.at (end_of y) le (some-units y k)) i && is i))
+        go false is = Rattle.std.proofs.lemmas.Bool.ltb-false y.at (end_of x) is
+
+-- ---- those without units share none
+
+meets-none : (v w : VersionRef) → has_units v ≡ false → meet v w ≡ false
+meets-none v w e = ap (λ b. b && has_units w && nat_lt v.at (end_of w) && nat_lt w.at (end_of v)) e
+
+none-meets : (v w : VersionRef) → has_units w ≡ false → meet v w ≡ false
+none-meets v w e = meet-swaps v w ∙ meets-none w v e
+
+any-with : (v : VersionRef) (xs : List VersionRef) → list_any (meet v) (filter has_units xs) ≡ list_any (meet v) xs
+any-with v [] = refl
+any-with v (x ∷ xs) = go (has_units x) refl (any-with v xs)
+  where
+    go : (b : Bool) → has_units x ≡ b → list_any (meet v) (filter has_units xs) ≡ list_any (meet v) xs → list_any (meet v) (cond b (x ∷ filter has_units xs) (filter has_units xs)) ≡ (meet v x || list_any (meet v) xs)
+    go true e rest = ap (λ b. meet v x || b) rest
+    go false e rest = rest ∙ sym (ap (λ b. b || list_any (meet v) xs) (none-meets v x e))
+
+any-none : (v : VersionRef) (xs : List VersionRef) → has_units v ≡ false → list_any (meet v) xs ≡ false
+any-none v [] e = refl
+any-none v (x ∷ xs) e = λ i. meets-none v x e i || any-none v xs e i
+
+pub meet-with : (xs : List VersionRef) → no_two meet (filter has_units xs) ≡ no_two meet xs
+meet-with [] = refl
+meet-with (x ∷ xs) = go (has_units x) refl (meet-with xs)
+  where
+    go : (b : Bool) → has_units x ≡ b → no_two meet (filter has_units xs) ≡ no_two meet xs → no_two meet (cond b (x ∷ filter has_units xs) (filter has_units xs)) ≡ (not (list_any (meet x) xs) && no_two meet xs)
+    go true e rest = λ i. not (any-with x xs i) && rest i
+    go false e rest = rest ∙ sym (ap (λ b. not b && no_two meet xs) (any-none x xs e))
+
+pub all-with : (xs : List VersionRef) → list_all has_units (filter has_units xs) ≡ true
+all-with [] = refl
+all-with (x ∷ xs) = go (has_units x) refl (all-with xs)
+  where
+    go : (b : Bool) → has_units x ≡ b → list_all has_units (filter has_units xs) ≡ true → list_all has_units (cond b (x ∷ filter has_units xs) (filter has_units xs)) ≡ true
+    go true e rest = λ i. e i && rest i
+    go false e rest = rest
+
+-- ---- one row more
+
+pub some-more : {A : Type 0} (f : A → Option VersionRef) (xs : List A) (i : ℕ) (x : A) → i < length xs → x ≡ get_or xs i x → filter_map f (take (i + 1) xs) ≡ filter_map f (take i xs) ++ option_to_list (f x)
+some-more f xs i x h is = ap (filter_map f) (take_more xs i x h) ∙ filter_map-append f (take i xs) (get_or xs i x ∷ []) ∙ ap (λ y. filter_map f (take i xs) ++ filter_map f (y ∷ [])) (sym is) ∙ ap (λ ys. filter_map f (take i xs) ++ ys) (one (f x))
+  where
+    one : (v : Option VersionRef) → Rattle.std.specs.List.cons_option v [] ≡ option_to_list v
+    one None = refl
+    one (Some w) = refl
