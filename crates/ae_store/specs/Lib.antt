@@ -1,0 +1,5 @@
+pub mod Names
+pub mod Records
+pub mod Damage
+pub mod Changed
+pub mod Steps
