@@ -1,0 +1,78 @@
+-- The first wrong place of a list of fields.
+use Rattle.std.proofs.Common.{◌≡◌, ◌≤◌, ◌<◌, ℕ, zero, suc, ◌+◌, List, [], ◌∷◌, ◌++◌, length, map, drop, refl, sym, ap, ◌∙◌, subst, arith}
+use Rattle.ae_text.specs.Tree.{Node}
+use Rattle.ae_schema.specs.Records.{Named, named, Piece, field, end, pieces, Begins, IsWrongAt}
+use Rattle.ae_schema.specs.declared.fields.Then.{Then}
+
+-- every record begins with no piece
+pub begins_none : {A : Type 0} (Fits : A → Type 0) (fields_of : A → List Named) (x : A) → Fits x → Begins Fits fields_of []
+begins_none Fits fields_of x fits = record { value = x; fits = fits; more = pieces (fields_of x); pieces_are = refl }
+
+-- no values have no fields
+named-none : (ks : List (List ℕ)) → named ks [] ≡ []
+named-none [] = refl
+named-none (k ∷ ks) = refl
+
+-- the first piece is wrong, where no record begins with it
+pub first_wrong : {A : Type 0} (Fits : A → Type 0) (fields_of : A → List Named) (x : A) → Fits x
+    → (ms : List Named) (p : Piece) (rest : List Piece) → pieces ms ≡ p ∷ rest
+    → ((y : A) (more : List Piece) → Fits y → pieces (fields_of y) ≡ p ∷ more → ⊥)
+    → IsWrongAt Fits fields_of ms 0
+first_wrong Fits fields_of x fits ms p rest are none = record {
+  front = [];
+  wrong = p;
+  rest = rest;
+  pieces_are = are;
+  begins = begins_none Fits fields_of x fits;
+  stops = λ b. none b.value b.more b.fits b.pieces_are;
+  place = refl;
+}
+
+-- where no field is due, the first one is wrong
+pub end_wrong : {A X : Type 0} (Fits : A → Type 0) (x : A) → Fits x → (ks : List (List ℕ)) (f : X → Named) (xs : List X) → 1 ≤ length xs
+    → IsWrongAt Fits (λ (y : A). named ks []) (map f xs) 0
+end_wrong Fits x fits ks f [] some = absurd (omega arith)
+end_wrong Fits x fits ks f (m ∷ ms) some =
+    first_wrong Fits (λ y. named ks []) x fits (map f (m ∷ ms)) (field (f m).0 (f m).1) (pieces (map f ms)) refl
+    (λ y more _ e. let none : named ks [] ≡ [] = named-none ks in let at : pieces (named ks []) ≡ end ∷ [] = ap pieces none in cc)
+
+-- where a field is due, the end is wrong
+pub missing_wrong : {A B X : Type 0} (Fits : Then A B → Type 0) (x : Then A B) → Fits x → (ks : List (List ℕ)) → 1 ≤ length ks
+    → (v : Then A B → Node) (vs : Then A B → List Node) (f : X → Named) (xs : List X) → length xs < 1
+    → IsWrongAt Fits (λ (y : Then A B). named ks (v y ∷ vs y)) (map f xs) 0
+missing_wrong Fits x fits [] some v vs f xs none = absurd (omega arith)
+missing_wrong Fits x fits (k ∷ ks) some v vs f (m ∷ ms) none = absurd (omega arith)
+missing_wrong Fits x fits (k ∷ ks) some v vs f [] none =
+    first_wrong Fits (λ y. named (k ∷ ks) (v y ∷ vs y)) x fits [] end [] refl (λ y more _ e. cc)
+
+-- where the first field is none that is due, it is wrong
+pub first_field_wrong : {A B : Type 0} (FitsA : A → Type 0) (FitsB : B → Type 0) (x : Then A B) → FitsA x.first × FitsB x.rest
+    → (spelled : A → Node) (values : B → List Node) (k : List ℕ) (ks : List (List ℕ)) (m : Named) (ms : List Named)
+    → ((y : A) → FitsA y → (k, spelled y) ≡ m → ⊥)
+    → IsWrongAt (λ (y : Then A B). FitsA y.first × FitsB y.rest) (λ (y : Then A B). named (k ∷ ks) (spelled y.first ∷ values y.rest)) (m ∷ ms) 0
+first_field_wrong FitsA FitsB x fits spelled values k ks m ms none =
+    first_wrong (λ y. FitsA y.first × FitsB y.rest) (λ y. named (k ∷ ks) (spelled y.first ∷ values y.rest)) x fits (m ∷ ms) (field m.0 m.1) (pieces ms) refl
+    (λ y more f e. let one : k ≡ m.0 = cc in let other : spelled y.first ≡ m.1 = cc in none y.first f.0 (λ i. (one i, other i)))
+
+-- a wrong place behind a good field is one further
+pub behind_wrong : {A B : Type 0} (FitsA : A → Type 0) (FitsB : B → Type 0) (spelled : A → Node) (values : B → List Node)
+    → (k : List ℕ) (ks : List (List ℕ)) (x : A) → FitsA x → (m : Named) → (k, spelled x) ≡ m → (ms : List Named) (at : ℕ)
+    → IsWrongAt FitsB (λ (z : B). named ks (values z)) ms at
+    → IsWrongAt (λ (y : Then A B). FitsA y.first × FitsB y.rest) (λ (y : Then A B). named (k ∷ ks) (spelled y.first ∷ values y.rest)) (m ∷ ms) (at + 1)
+behind_wrong FitsA FitsB spelled values k ks x fits m is ms at w =
+    let key : k ≡ m.0 = ap (λ (n : Named). n.0) is in
+    let value : spelled x ≡ m.1 = ap (λ (n : Named). n.1) is in
+    record {
+      front = field m.0 m.1 ∷ w.front;
+      wrong = w.wrong;
+      rest = w.rest;
+      pieces_are = ap (λ (ps : List Piece). field m.0 m.1 ∷ ps) w.pieces_are;
+      begins = record {
+        value = record { first = x; rest = w.begins.value };
+        fits = (fits, w.begins.fits);
+        more = w.begins.more;
+        pieces_are = let inner = w.begins.pieces_are in cc;
+      };
+      stops = λ b. w.stops (record { value = b.value.rest; fits = b.fits.1; more = b.more; pieces_are = let all = b.pieces_are in cc });
+      place = omega (arith, w.place);
+    }

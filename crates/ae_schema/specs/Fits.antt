@@ -1,0 +1,72 @@
+-- Which values their types can hold.
+use Rattle.std.specs.Prelude.{◌≡◌, ◌≤◌, ◌<◌, ◌^◌, ℕ, List, Option, IfSome, All, length}
+use Rattle.hex.specs.Hex.{IsBytes}
+use Rattle.ae_base.specs.Names.{IsPath, IsUser, IsProjectName}
+use Rattle.ae_base.specs.Users.{AllDiffer}
+use Rattle.ae_types.specs.declared.project.DeltaRow.{DeltaRow}
+use Rattle.ae_types.specs.declared.project.Project.{Project}
+use Rattle.ae_types.specs.declared.version.VersionRef.{VersionRef}
+use Rattle.ae_types.specs.declared.file_table.FileVersion.{FileVersion}
+use Rattle.ae_types.specs.declared.file_table.FileRow.{FileRow}
+use Rattle.ae_types.specs.declared.file_table.Lock.{Lock}
+use Rattle.ae_types.specs.declared.change.ChangeFile.{ChangeFile}
+use Rattle.ae_types.specs.declared.change.Evidence.{Evidence}
+use Rattle.ae_types.specs.declared.change.HistoryRow.{HistoryRow}
+use Rattle.ae_types.specs.declared.change.Change.{Change}
+
+-- a change's number
+abbrev pub IsChangeNo : ℕ → Type 0
+IsChangeNo n = (10 ≤ n) × (n ≤ 1999)
+
+-- a delta's number
+abbrev pub IsDelta : ℕ → Type 0
+IsDelta n = n ≤ 1990
+
+-- 32 bytes
+abbrev pub IsDigest : List ℕ → Type 0
+IsDigest digest = (length digest ≡ 32) × IsBytes digest
+
+-- users, none twice
+abbrev pub AreUsers : List (List ℕ) → Type 0
+AreUsers users = All IsUser users × AllDiffer users
+
+abbrev pub FitsVersion : VersionRef → Type 0
+FitsVersion v = (v.number < 2 ^ 64) × (v.at < 2 ^ 64) × (v.length < 2 ^ 32) × IsDigest v.digest
+
+abbrev pub FitsDelta : DeltaRow → Type 0
+FitsDelta row = IsDelta row.delta × IsChangeNo row.change × (row.when < 2 ^ 64) × IsUser row.who
+
+abbrev pub FitsFileVersion : FileVersion → Type 0
+FitsFileVersion entry = IsDelta entry.delta × IfSome entry.version FitsVersion
+
+abbrev pub FitsFile : FileRow → Type 0
+FitsFile row = IsPath row.path × (length row.past < 2 ^ 64) × All FitsFileVersion row.past
+
+abbrev pub FitsLock : Lock → Type 0
+FitsLock l = IsPath l.path × IsChangeNo l.change
+
+abbrev pub FitsChangeFile : ChangeFile → Type 0
+FitsChangeFile file = IsPath file.path × (file.origin < 2 ^ 32) × IfSome file.frozen FitsVersion
+
+abbrev pub FitsEvidence : Evidence → Type 0
+FitsEvidence run = IfSome run.path IsPath × (run.status < 2 ^ 16) × IsDigest run.subject × (run.when < 2 ^ 64) × IsUser run.who
+
+abbrev pub FitsHistory : HistoryRow → Type 0
+FitsHistory row = IsUser row.who × (row.when < 2 ^ 64)
+
+-- a project and the numbers of its changes
+abbrev pub FitsProject : Project × List ℕ → Type 0
+FitsProject p =
+    IsProjectName p.0.name
+    × AreUsers p.0.administrators × AreUsers p.0.developers × AreUsers p.0.reviewers × AreUsers p.0.integrators
+    × (p.0.next_version < 2 ^ 64) × All IsChangeNo p.1 × All FitsDelta p.0.deltas
+
+-- the files of a project and its locks
+abbrev pub FitsFiles : List FileRow × List Lock → Type 0
+FitsFiles t = All FitsFile t.0 × All FitsLock t.1
+
+abbrev pub FitsChange : Change → Type 0
+FitsChange c =
+    IsChangeNo c.number
+    × IfSome c.developer IsUser × IfSome c.reviewing IsUser × IfSome c.reviewer IsUser × IfSome c.integrator IsUser
+    × All FitsChangeFile c.files × All FitsEvidence c.evidence × All FitsHistory c.history

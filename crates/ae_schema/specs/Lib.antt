@@ -1,0 +1,5 @@
+pub mod Records
+pub mod Spelled
+pub mod Fits
+pub mod SomeValues
+pub mod Files

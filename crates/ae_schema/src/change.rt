@@ -1,0 +1,227 @@
+// The file of a change.
+ghost use Rattle.std.specs.Prelude.{◌≡◌, ℕ, Err, IfOk, OnOk, map, ◌++◌};
+ghost use Rattle.ae_text.specs.Canonical.{fields_text};
+ghost use Rattle.ae_text.specs.View.{members_of, named_node};
+ghost use Rattle.ae_types.specs.declared.change.Change.{Change};
+ghost use Rattle.ae_schema.specs.Records.{IsTextOf, IsBadLine, IsAnswer, IsRefusal};
+ghost use Rattle.ae_schema.specs.Files.{subject_fields, exemption_fields, people_fields, row_fields, change_fields};
+ghost use Rattle.ae_schema.specs.Fits.{FitsChange};
+
+use crate::SchemaError;
+use crate::fields::{End, Then};
+use crate::record::read_record;
+use crate::structure::structure_of;
+use crate::value::field;
+use ae_base::{Cause, ChangeNo, Phase, Text, User};
+use ae_text::{Field, print_tree};
+use ae_types::{Change, ChangeAttributes, ChangeFileList, EvidenceList, HistoryList};
+use std::alloc::{AllocError, Global};
+
+type RowFields = Then<ChangeFileList, Then<EvidenceList, Then<HistoryList, End>>>;
+
+type PersonFields = Then<
+    Option<User>,
+    Then<Option<User>, Then<Option<User>, Then<Option<User>, RowFields>>>,
+>;
+
+type ExemptionFields = Then<bool, Then<bool, Then<bool, Then<Phase, PersonFields>>>>;
+
+type ChangeFields = Then<ChangeNo, Then<Text, Then<Text, Then<Cause, ExemptionFields>>>>;
+
+// The settings, and the fields behind them.
+fn attributes_of(
+    fields: Then<Text, Then<Text, Then<Cause, ExemptionFields>>>,
+) -> (ChangeAttributes, Then<Phase, PersonFields>) {
+    let Then { first: brief, rest } = fields;
+    let Then {
+        first: description,
+        rest,
+    } = rest;
+    let Then { first: cause, rest } = rest;
+    let Then {
+        first: test_exempt,
+        rest,
+    } = rest;
+    let Then {
+        first: test_baseline_exempt,
+        rest,
+    } = rest;
+    let Then {
+        first: regression_test_exempt,
+        rest,
+    } = rest;
+    let attributes = ChangeAttributes {
+        brief,
+        description,
+        cause,
+        test_exempt,
+        test_baseline_exempt,
+        regression_test_exempt,
+    };
+    (attributes, rest)
+}
+
+fn change_of(fields: ChangeFields) -> Change {
+    let Then {
+        first: number,
+        rest,
+    } = fields;
+    let (attributes, rest) = attributes_of(rest);
+    let Then { first: phase, rest } = rest;
+    let Then {
+        first: developer,
+        rest,
+    } = rest;
+    let Then {
+        first: reviewing,
+        rest,
+    } = rest;
+    let Then {
+        first: reviewer,
+        rest,
+    } = rest;
+    let Then {
+        first: integrator,
+        rest,
+    } = rest;
+    let Then { first: files, rest } = rest;
+    let Then {
+        first: evidence,
+        rest,
+    } = rest;
+    let Then {
+        first: history,
+        rest: End,
+    } = rest;
+    Change {
+        number,
+        attributes,
+        phase,
+        developer,
+        reviewing,
+        reviewer,
+        integrator,
+        files,
+        evidence,
+        history,
+    }
+}
+
+/// The change of which the bytes are a text.
+pub fn read_change(alloc: Global, bytes: &[u8]) -> Result<Change, SchemaError>
+    // The bytes are a text of the fields of what is read.
+    ensures found { IfOk result (λ c. IsTextOf bytes.now (change_fields c)) }
+    // What is read keeps what its types can hold.
+    ensures fits { IfOk result FitsChange }
+    // A text of the fields of such a change is read as it.
+    ensures only { (c : Change) → FitsChange c → IsTextOf bytes.now (change_fields c) → IsAnswer c result }
+    // A line is that of the first token or field that can't stand there.
+    ensures field { (line : ℕ) → result ≡ Err (SchemaError.Field line) → IsBadLine FitsChange change_fields bytes.now line }
+    // Where a token or field can't stand, that line comes.
+    ensures only_field { (line : ℕ) → IsBadLine FitsChange change_fields bytes.now line → IsRefusal line result }
+{
+    let names: &[&[u8]] = &[
+        b"number",
+        b"brief_description",
+        b"description",
+        b"cause",
+        b"test_exempt",
+        b"test_baseline_exempt",
+        b"regression_test_exempt",
+        b"phase",
+        b"developer",
+        b"reviewing",
+        b"reviewer",
+        b"integrator",
+        b"files",
+        b"evidence",
+        b"history",
+    ];
+    match read_record::<ChangeFields>(alloc, names, bytes) {
+        Ok(fields) => Ok(change_of(fields)),
+        Err(error) => Err(error),
+    }
+}
+
+// What the change is about.
+fn subject(alloc: Global, change: &Change) -> Result<Vec<Field>, AllocError>
+    ensures { IfOk result (λ fields. map named_node fields.items ≡ subject_fields change.now) }
+{
+    let fields = vec![in alloc;
+        field(alloc, b"number", &change.number)?,
+        field(alloc, b"brief_description", &change.attributes.brief)?,
+        field(alloc, b"description", &change.attributes.description)?,
+        field(alloc, b"cause", &change.attributes.cause)?,
+    ]?;
+    Ok(fields)
+}
+
+// Which tests it needn't pass.
+fn exemptions(alloc: Global, settings: &ChangeAttributes) -> Result<Vec<Field>, AllocError>
+    ensures { IfOk result (λ fields. map named_node fields.items ≡ exemption_fields settings.now) }
+{
+    let fields = vec![in alloc;
+        field(alloc, b"test_exempt", &settings.test_exempt)?,
+        field(
+            alloc,
+            b"test_baseline_exempt",
+            &settings.test_baseline_exempt
+        )?,
+        field(
+            alloc,
+            b"regression_test_exempt",
+            &settings.regression_test_exempt
+        )?,
+    ]?;
+    Ok(fields)
+}
+
+// Where it stands, and who works at it.
+fn people(alloc: Global, change: &Change) -> Result<Vec<Field>, AllocError>
+    ensures { IfOk result (λ fields. map named_node fields.items ≡ people_fields change.now) }
+{
+    let fields = vec![in alloc;
+        field(alloc, b"phase", &change.phase)?,
+        field(alloc, b"developer", &change.developer)?,
+        field(alloc, b"reviewing", &change.reviewing)?,
+        field(alloc, b"reviewer", &change.reviewer)?,
+        field(alloc, b"integrator", &change.integrator)?,
+    ]?;
+    Ok(fields)
+}
+
+// Its files, its runs and its history.
+fn rows(alloc: Global, change: &Change) -> Result<Vec<Field>, AllocError>
+    ensures { IfOk result (λ fields. map named_node fields.items ≡ row_fields change.now) }
+{
+    let fields = vec![in alloc;
+        field(alloc, b"files", &change.files)?,
+        field(alloc, b"evidence", &change.evidence)?,
+        field(alloc, b"history", &change.history)?,
+    ]?;
+    Ok(fields)
+}
+
+// The fields of the change's file.
+fn fields_of(alloc: Global, change: &Change) -> Result<Vec<Field>, AllocError>
+    ensures { IfOk result (λ fields. map named_node fields.items ≡ change_fields change.now) }
+{
+    let mut fields = subject(alloc, change)?;
+    fields.append(&mut exemptions(alloc, &change.attributes)?)?;
+    fields.append(&mut people(alloc, change)?)?;
+    fields.append(&mut rows(alloc, change)?)?;
+    Ok(fields)
+}
+
+/// The text of a change's file.
+pub fn print_change(alloc: Global, change: &Change) -> Result<Vec<u8>, AllocError>
+    // Each field in canonical form.
+    ensures value { IfOk result (λ text. text.items ≡ fields_text (members_of (change_fields change.now))) }
+    // What is printed is a text of the same fields.
+    ensures again { IfOk result (λ text. IsTextOf text.items (change_fields change.now)) }
+    // What is printed keeps what its types can hold, so that it is read back.
+    ensures fits { OnOk result (FitsChange change.now) }
+{
+    let fields = fields_of(alloc, change)?;
+    print_tree(alloc, &structure_of(fields))
+}

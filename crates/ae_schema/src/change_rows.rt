@@ -1,0 +1,200 @@
+// How the rows of a change are spelled: its files, its runs and its history.
+ghost use Rattle.std.specs.Prelude.{◌≡◌, IfOk, map};
+ghost use Rattle.ae_text.specs.View.{named_node};
+ghost use Rattle.ae_schema.specs.Spelled.{run_fields, outcome_fields};
+
+use crate::fields::{End, Then};
+use crate::structure::{read_structure, structure_of};
+use crate::value::{Value, field};
+use ae_base::{Action, Ground, Kind, Path, Usage, User, What};
+use ae_text::{Field, Tree};
+use ae_types::{ChangeFile, Evidence, HistoryRow, VersionRef};
+use std::alloc::{AllocError, Global};
+
+type ChangeFileFields = Then<
+    Path,
+    Then<Action, Then<Usage, Then<u32, Then<Option<VersionRef>, End>>>>,
+>;
+
+impl Value for ChangeFile {
+    ghost use Rattle.ae_schema.specs.Spelled.{change_file};
+    ghost use Rattle.ae_schema.specs.Fits.{FitsChangeFile};
+    ghost use Rattle.ae_schema.specs.SomeValues.{some_change_file};
+
+    ghost spelled = { change_file };
+
+    ghost Fits = { FitsChangeFile };
+
+    fn of_tree(alloc: Global, tree: &Tree) -> Result<Option<ChangeFile>, AllocError> {
+        let names: &[&[u8]] = &[b"path", b"action", b"usage", b"origin", b"version"];
+        match read_structure::<ChangeFileFields>(alloc, names, tree)? {
+            Some(fields) => {
+                let Then { first: path, rest } = fields;
+                let Then {
+                    first: action,
+                    rest,
+                } = rest;
+                let Then { first: usage, rest } = rest;
+                let Then {
+                    first: origin,
+                    rest,
+                } = rest;
+                let Then {
+                    first: frozen,
+                    rest: End,
+                } = rest;
+                Ok(Some(ChangeFile {
+                    path,
+                    action,
+                    usage,
+                    origin,
+                    frozen,
+                }))
+            }
+            None => Ok(None),
+        }
+    }
+
+    fn to_tree(&self, alloc: Global) -> Result<Tree, AllocError> {
+        let fields = vec![in alloc;
+            field(alloc, b"path", &self.path)?,
+            field(alloc, b"action", &self.action)?,
+            field(alloc, b"usage", &self.usage)?,
+            field(alloc, b"origin", &self.origin)?,
+            field(alloc, b"version", &self.frozen)?,
+        ]?;
+        Ok(structure_of(fields))
+    }
+
+    ghost some_value = { some_change_file };
+}
+
+type OutcomeFields = Then<bool, Then<[u8; 32], Then<u64, Then<User, End>>>>;
+
+type EvidenceFields = Then<Ground, Then<Kind, Then<Option<Path>, Then<u16, OutcomeFields>>>>;
+
+fn evidence_of(fields: EvidenceFields) -> Evidence {
+    let Then {
+        first: during,
+        rest,
+    } = fields;
+    let Then { first: kind, rest } = rest;
+    let Then { first: path, rest } = rest;
+    let Then {
+        first: status,
+        rest,
+    } = rest;
+    let Then { first: clean, rest } = rest;
+    let Then {
+        first: subject,
+        rest,
+    } = rest;
+    let Then { first: when, rest } = rest;
+    let Then {
+        first: who,
+        rest: End,
+    } = rest;
+    Evidence {
+        during,
+        kind,
+        path,
+        status,
+        clean,
+        subject,
+        when,
+        who,
+    }
+}
+
+// Which run it was, and how it ended.
+fn run(alloc: Global, run: &Evidence) -> Result<Vec<Field>, AllocError>
+    ensures { IfOk result (λ fields. map named_node fields.items ≡ run_fields run.now) }
+{
+    let fields = vec![in alloc;
+        field(alloc, b"ground", &run.during)?,
+        field(alloc, b"kind", &run.kind)?,
+        field(alloc, b"path", &run.path)?,
+        field(alloc, b"status", &run.status)?,
+    ]?;
+    Ok(fields)
+}
+
+// What was tried, by whom and when.
+fn outcome(alloc: Global, run: &Evidence) -> Result<Vec<Field>, AllocError>
+    ensures { IfOk result (λ fields. map named_node fields.items ≡ outcome_fields run.now) }
+{
+    let fields = vec![in alloc;
+        field(alloc, b"clean", &run.clean)?,
+        field(alloc, b"subject", &run.subject)?,
+        field(alloc, b"when", &run.when)?,
+        field(alloc, b"who", &run.who)?,
+    ]?;
+    Ok(fields)
+}
+
+impl Value for Evidence {
+    ghost use Rattle.ae_schema.specs.Spelled.{evidence_row};
+    ghost use Rattle.ae_schema.specs.Fits.{FitsEvidence};
+    ghost use Rattle.ae_schema.specs.SomeValues.{some_evidence};
+
+    ghost spelled = { evidence_row };
+
+    ghost Fits = { FitsEvidence };
+
+    fn of_tree(alloc: Global, tree: &Tree) -> Result<Option<Evidence>, AllocError> {
+        let names: &[&[u8]] = &[
+            b"ground", b"kind", b"path", b"status", b"clean", b"subject", b"when", b"who",
+        ];
+        match read_structure::<EvidenceFields>(alloc, names, tree)? {
+            Some(fields) => Ok(Some(evidence_of(fields))),
+            None => Ok(None),
+        }
+    }
+
+    fn to_tree(&self, alloc: Global) -> Result<Tree, AllocError> {
+        let mut fields = run(alloc, self)?;
+        fields.append(&mut outcome(alloc, self)?)?;
+        Ok(structure_of(fields))
+    }
+
+    ghost some_value = { some_evidence };
+}
+
+type HistoryFields = Then<What, Then<User, Then<u64, End>>>;
+
+impl Value for HistoryRow {
+    ghost use Rattle.ae_schema.specs.Spelled.{history_row};
+    ghost use Rattle.ae_schema.specs.Fits.{FitsHistory};
+    ghost use Rattle.ae_schema.specs.SomeValues.{some_history};
+
+    ghost spelled = { history_row };
+
+    ghost Fits = { FitsHistory };
+
+    fn of_tree(alloc: Global, tree: &Tree) -> Result<Option<HistoryRow>, AllocError> {
+        let names: &[&[u8]] = &[b"what", b"who", b"when"];
+        match read_structure::<HistoryFields>(alloc, names, tree)? {
+            Some(fields) => {
+                let Then { first: what, rest } = fields;
+                let Then { first: who, rest } = rest;
+                let Then {
+                    first: when,
+                    rest: End,
+                } = rest;
+                Ok(Some(HistoryRow { what, who, when }))
+            }
+            None => Ok(None),
+        }
+    }
+
+    fn to_tree(&self, alloc: Global) -> Result<Tree, AllocError> {
+        let fields = vec![in alloc;
+            field(alloc, b"what", &self.what)?,
+            field(alloc, b"who", &self.who)?,
+            field(alloc, b"when", &self.when)?,
+        ]?;
+        Ok(structure_of(fields))
+    }
+
+    ghost some_value = { some_history };
+}

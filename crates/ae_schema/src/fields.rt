@@ -1,0 +1,128 @@
+// The fields of a record, one after another.
+ghost use Rattle.std.specs.Prelude.{◌≡◌, ℕ, suc, List, length, map, IfOk, IfErr};
+ghost use Rattle.ae_text.specs.Tree.{Node};
+ghost use Rattle.ae_text.specs.View.{fields_seen, named_node};
+ghost use Rattle.ae_schema.specs.Records.{named, BadAt, BadFirst, IsWithin, stop_behind};
+
+use crate::value::Value;
+use ae_text::Field;
+use std::alloc::{AllocError, Global};
+
+/// Why fields are no record.
+#[derive(Drop)]
+pub(crate) enum Stop {
+    /// How many good fields stand before the first bad one, or before the end where one is missing.
+    Bad(usize),
+    Memory,
+}
+
+/// The values of a record, in the order of its fields.
+pub(crate) trait Fields: Drop {
+    // how many fields there are
+    ghost count: { ℕ };
+
+    // their values
+    ghost values: { Self → List Node };
+
+    // what their types can hold
+    ghost Fits: { Self → Type 0 };
+
+    /// The values of the fields, which have these names, one each.
+    fn read(alloc: Global, names: &[&[u8]], fields: &[Field]) -> Result<Self, Stop>
+        requires { length names.now ≡ count }
+        ensures found { IfOk result (λ x. named (map (λ s. s.now) names.now) (values x) ≡ fields_seen fields.now) }
+        ensures fits { IfOk result Fits }
+        ensures only { (x : Self) → Fits x → named (map (λ s. s.now) names.now) (values x) ≡ fields_seen fields.now → IfOk result (λ y. y ≡ x) }
+        ensures bad { IfErr result (BadAt Fits (λ x. named (map (λ s. s.now) names.now) (values x)) (fields_seen fields.now)) };
+
+    ghost some_values: { (x : Self) × Fits x };
+}
+
+/// No fields.
+#[derive(Drop)]
+pub(crate) struct End;
+
+/// A field and those behind it.
+#[derive(Drop)]
+pub(crate) struct Then<A, B> {
+    pub(crate) first: A,
+    pub(crate) rest: B,
+}
+
+impl Fields for End {
+    ghost use Rattle.std.specs.Prelude.{[]};
+
+    ghost count = { 0 };
+
+    ghost values = { λ x. [] };
+
+    ghost Fits = { λ x. Unit {0} };
+
+    fn read(_alloc: Global, _names: &[&[u8]], fields: &[Field]) -> Result<End, Stop> {
+        if fields.is_empty() {
+            Ok(End)
+        } else {
+            Err(Stop::Bad(0))
+        }
+    }
+
+    ghost some_values = { (record {}, tt) };
+}
+
+// The value of the first field, where it has this name.
+fn read_first<A: Value>(alloc: Global, name: &[u8], field: &Field) -> Result<A, Stop>
+    ensures found { IfOk result (λ x. (name.now, A.spelled x) ≡ named_node field.now) }
+    ensures fits { IfOk result A.Fits }
+    ensures only { (x : A) → A.Fits x → (name.now, A.spelled x) ≡ named_node field.now → IfOk result (λ y. y ≡ x) }
+    ensures bad { IfErr result (BadFirst ((x : A) → A.Fits x → (name.now, A.spelled x) ≡ named_node field.now → ⊥)) }
+{
+    if field.name.bytes() != name {
+        return Err(Stop::Bad(0));
+    }
+    match A::of_tree(alloc, &field.value) {
+        Ok(Some(x)) => Ok(x),
+        Ok(None) => Err(Stop::Bad(0)),
+        Err(_) => Err(Stop::Memory),
+    }
+}
+
+// The same place, counted from one field before.
+fn behind(stop: Stop, fields: &[Field]) -> Stop
+    requires { IsWithin (length fields.now) stop }
+    ensures { result ≡ stop_behind stop }
+{
+    let most = fields.len();
+    match stop {
+        Stop::Bad(n) if n <= most => Stop::Bad(n + 1),
+        _ => Stop::Memory,
+    }
+}
+
+impl<A: Value, B: Fields> Fields for Then<A, B> {
+    ghost use Rattle.std.specs.Prelude.{suc, ◌∷◌};
+
+    ghost count = { suc B.count };
+
+    ghost values = { λ x. A.spelled x.first ∷ B.values x.rest };
+
+    ghost Fits = { λ x. A.Fits x.first × B.Fits x.rest };
+
+    fn read(alloc: Global, names: &[&[u8]], fields: &[Field]) -> Result<Then<A, B>, Stop> {
+        let [name, names @ ..] = names else {
+            unreachable!()
+        };
+        let [field, fields @ ..] = fields else {
+            return Err(Stop::Bad(0));
+        };
+        let first = match read_first::<A>(alloc, name, field) {
+            Ok(first) => first,
+            Err(stop) => return Err(stop),
+        };
+        match B::read(alloc, names, fields) {
+            Ok(rest) => Ok(Then { first, rest }),
+            Err(stop) => Err(behind(stop, fields)),
+        }
+    }
+
+    ghost some_values = { (record { first = A.some_value.0; rest = B.some_values.0 }, (A.some_value.1, B.some_values.1)) };
+}

@@ -1,0 +1,26 @@
+//! The records of the state files, read and printed.
+#![tactic(auto)]
+
+mod change;
+mod change_rows;
+mod error;
+mod fields;
+mod file_table;
+mod lists;
+mod names;
+mod project;
+mod record;
+mod structure;
+mod value;
+mod version;
+mod words;
+
+pub use change::{print_change, read_change};
+pub use error::SchemaError;
+pub use file_table::{print_files, read_files};
+pub use project::{print_project, read_project};
+
+#[cfg(test)]
+mod cases;
+#[cfg(test)]
+mod tests;

@@ -1,0 +1,123 @@
+// How lists of rows are spelled, and the users of a role.
+ghost use Rattle.std.specs.Prelude.{◌≡◌, List, ℕ, Some, IfOk, IfSome, IsSomeAnd, OnOk, All, map};
+ghost use Rattle.ae_text.specs.View.{node, named_node};
+ghost use Rattle.ae_schema.specs.Spelled.{list_of};
+ghost use Rattle.ae_base.specs.Users.{AllDiffer};
+
+use crate::value::Value;
+use ae_base::{User, UserSet};
+use ae_text::{Field, Tree, TreeList};
+use ae_types::Rows;
+use std::alloc::{AllocError, Global};
+
+// The rows that the trees spell, one each.
+fn read_rows<T: Value>(alloc: Global, trees: &[Tree]) -> Result<Option<Vec<T>>, AllocError>
+    ensures some { IfOk result (λ read. IfSome read (λ rows. All T.Fits rows.items × (map T.spelled rows.items ≡ map node trees.now))) }
+    ensures only { (xs : List T) → All T.Fits xs → map T.spelled xs ≡ map node trees.now → IfOk result (λ read. IsSomeAnd read (λ rows. rows.items ≡ xs)) }
+{
+    let mut rows = Vec::new(alloc);
+    for tree in trees {
+        match T::of_tree(alloc, tree)? {
+            Some(row) => rows.push(row)?,
+            None => return Ok(None),
+        }
+    }
+    Ok(Some(rows))
+}
+
+// The trees of the rows.
+fn row_trees<T: Value>(alloc: Global, rows: &[T]) -> Result<Vec<Tree>, AllocError>
+    ensures trees { IfOk result (λ trees. map node trees.items ≡ map T.spelled rows.now) }
+    ensures fits { OnOk result (All T.Fits rows.now) }
+{
+    let mut trees = Vec::new(alloc);
+    for row in rows {
+        trees.push(row.to_tree(alloc)?)?;
+    }
+    Ok(trees)
+}
+
+/// The field of this name and list.
+pub(crate) fn list_field<T: Value>(
+    alloc: Global,
+    name: &[u8],
+    rows: &[T],
+) -> Result<Field, AllocError>
+    ensures field { IfOk result (λ field. named_node field ≡ (name.now, list_of T.spelled rows.now)) }
+    ensures fits { OnOk result (All T.Fits rows.now) }
+{
+    Field::of(
+        alloc,
+        name,
+        Tree::List(TreeList::of(row_trees(alloc, rows)?)),
+    )
+}
+
+impl<T: Value> Value for Rows<T> {
+    ghost use Rattle.std.specs.Prelude.{[], All};
+    ghost use Rattle.ae_schema.specs.Spelled.{list_of};
+    ghost use Rattle.std.proofs.Common.{rules};
+
+    ghost spelled = { list_of T.spelled };
+
+    ghost Fits = { All T.Fits };
+
+    fn of_tree(alloc: Global, tree: &Tree) -> Result<Option<Rows<T>>, AllocError> {
+        match tree {
+            Tree::List(list) => match read_rows::<T>(alloc, list.items())? {
+                Some(rows) => Ok(Some(Rows::of(rows))),
+                None => Ok(None),
+            },
+            _ => Ok(None),
+        }
+    }
+
+    fn to_tree(&self, alloc: Global) -> Result<Tree, AllocError> {
+        Ok(Tree::List(TreeList::of(row_trees(alloc, self.as_slice())?)))
+    }
+
+    ghost some_value = { ([], Prim.search rules) };
+}
+
+// The set of these users, where none stands twice.
+fn distinct(alloc: Global, users: Vec<User>) -> Result<Option<UserSet>, AllocError>
+    ensures some { IfOk result (λ made. IfSome made (λ set. (set ≡ users.items) × AllDiffer users.items)) }
+    ensures only { AllDiffer users.items → IfOk result (λ made. made ≡ Some users.items) }
+{
+    let mut set = UserSet::new(alloc);
+    for user in users {
+        if set.contains(&user) {
+            return Ok(None);
+        }
+        set.insert(user)?;
+    }
+    Ok(Some(set))
+}
+
+impl Value for UserSet {
+    ghost use Rattle.std.specs.Prelude.{[]};
+    ghost use Rattle.ae_text.specs.Tree.{str};
+    ghost use Rattle.ae_schema.specs.Spelled.{list_of};
+    ghost use Rattle.ae_schema.specs.Fits.{AreUsers};
+    ghost use Rattle.std.proofs.Common.{rules};
+
+    ghost spelled = { list_of str };
+
+    ghost Fits = { AreUsers };
+
+    fn of_tree(alloc: Global, tree: &Tree) -> Result<Option<UserSet>, AllocError> {
+        match tree {
+            Tree::List(list) => match read_rows::<User>(alloc, list.items())? {
+                Some(users) => distinct(alloc, users),
+                None => Ok(None),
+            },
+            _ => Ok(None),
+        }
+    }
+
+    fn to_tree(&self, alloc: Global) -> Result<Tree, AllocError> {
+        Ok(Tree::List(TreeList::of(row_trees(alloc, self.users())?)))
+    }
+
+    ghost some_value = { ([], Prim.search rules) };
+}

@@ -1,0 +1,370 @@
+// The file of the project: its settings, the users of its roles, its changes and its deltas.
+ghost use Rattle.std.specs.Prelude.{◌≡◌, ℕ, List, Err, IfOk, OnOk, map, ◌++◌};
+ghost use Rattle.ae_text.specs.Canonical.{fields_text};
+ghost use Rattle.ae_text.specs.View.{members_of, named_node};
+ghost use Rattle.ae_types.specs.declared.project.Project.{Project};
+ghost use Rattle.ae_schema.specs.Records.{IsTextOf, IsBadLine, IsAnswer, IsRefusal};
+ghost use Rattle.ae_schema.specs.Files.{identity_fields, permission_fields, default_fields, role_fields, counted_fields, project_fields};
+ghost use Rattle.ae_schema.specs.Fits.{FitsProject};
+
+use crate::SchemaError;
+use crate::fields::{End, Then};
+use crate::lists::list_field;
+use crate::record::read_record;
+use crate::structure::{read_structure, structure_of};
+use crate::value::{Value, field};
+use ae_base::{ChangeNo, Delta, ProjectName, Text, User, UserSet};
+use ae_text::{Field, Tree, print_tree};
+use ae_types::{Attributes, DeltaList, DeltaRow, EndAction, NumberList, Project};
+use std::alloc::{AllocError, Global};
+
+/// The format of the state files: 1.
+#[derive(Clone, Copy, Drop)]
+struct Format;
+
+impl Value for Format {
+    ghost use Rattle.ae_text.specs.Tree.{number};
+
+    ghost spelled = { λ format. number 1 };
+
+    ghost Fits = { λ format. Unit {0} };
+
+    fn of_tree(_alloc: Global, tree: &Tree) -> Result<Option<Format>, AllocError> {
+        match tree {
+            Tree::Number(1) => Ok(Some(Format)),
+            _ => Ok(None),
+        }
+    }
+
+    fn to_tree(&self, _alloc: Global) -> Result<Tree, AllocError> {
+        Ok(Tree::Number(1))
+    }
+
+    ghost some_value = { (record {}, tt) };
+}
+
+/// Where the bytes of files lie: packed in one region.
+#[derive(Clone, Copy, Drop)]
+struct Packed;
+
+impl Value for Packed {
+    ghost use Rattle.std.specs.Prelude.{codes};
+    ghost use Rattle.ae_text.specs.Tree.{word};
+
+    ghost spelled = { λ packed. word (codes "packed") };
+
+    ghost Fits = { λ packed. Unit {0} };
+
+    fn of_tree(_alloc: Global, tree: &Tree) -> Result<Option<Packed>, AllocError> {
+        match tree {
+            Tree::Word(text) if text.bytes() == b"packed".as_slice() => Ok(Some(Packed)),
+            _ => Ok(None),
+        }
+    }
+
+    fn to_tree(&self, alloc: Global) -> Result<Tree, AllocError> {
+        Tree::word(alloc, b"packed")
+    }
+
+    ghost some_value = { (record {}, tt) };
+}
+
+type DeltaRowFields = Then<Delta, Then<ChangeNo, Then<u64, Then<User, End>>>>;
+
+impl Value for DeltaRow {
+    ghost use Rattle.ae_schema.specs.Spelled.{delta_row};
+    ghost use Rattle.ae_schema.specs.Fits.{FitsDelta};
+    ghost use Rattle.ae_schema.specs.SomeValues.{some_delta};
+
+    ghost spelled = { delta_row };
+
+    ghost Fits = { FitsDelta };
+
+    fn of_tree(alloc: Global, tree: &Tree) -> Result<Option<DeltaRow>, AllocError> {
+        let names: &[&[u8]] = &[b"delta", b"change", b"when", b"who"];
+        match read_structure::<DeltaRowFields>(alloc, names, tree)? {
+            Some(fields) => {
+                let Then { first: delta, rest } = fields;
+                let Then {
+                    first: change,
+                    rest,
+                } = rest;
+                let Then { first: when, rest } = rest;
+                let Then {
+                    first: who,
+                    rest: End,
+                } = rest;
+                Ok(Some(DeltaRow {
+                    delta,
+                    change,
+                    when,
+                    who,
+                }))
+            }
+            None => Ok(None),
+        }
+    }
+
+    fn to_tree(&self, alloc: Global) -> Result<Tree, AllocError> {
+        let fields = vec![in alloc;
+            field(alloc, b"delta", &self.delta)?,
+            field(alloc, b"change", &self.change)?,
+            field(alloc, b"when", &self.when)?,
+            field(alloc, b"who", &self.who)?,
+        ]?;
+        Ok(structure_of(fields))
+    }
+
+    ghost some_value = { some_delta };
+}
+
+type CountedFields = Then<u64, Then<NumberList, Then<DeltaList, End>>>;
+
+type RoleFields = Then<UserSet, Then<UserSet, Then<UserSet, Then<UserSet, CountedFields>>>>;
+
+type DefaultFields = Then<EndAction, Then<bool, RoleFields>>;
+
+type PermissionFields = Then<bool, Then<bool, Then<bool, Then<bool, DefaultFields>>>>;
+
+type ProjectFields = Then<Format, Then<Packed, Then<ProjectName, Then<Text, PermissionFields>>>>;
+
+// The settings, and the fields behind them.
+fn attributes_of(description: Text, fields: PermissionFields) -> (Attributes, RoleFields) {
+    let Then {
+        first: developer_may_review,
+        rest,
+    } = fields;
+    let Then {
+        first: developer_may_integrate,
+        rest,
+    } = rest;
+    let Then {
+        first: reviewer_may_integrate,
+        rest,
+    } = rest;
+    let Then {
+        first: developers_may_create_changes,
+        rest,
+    } = rest;
+    let Then {
+        first: develop_end_action,
+        rest,
+    } = rest;
+    let Then {
+        first: default_test_exemption,
+        rest,
+    } = rest;
+    let attributes = Attributes {
+        description,
+        developer_may_review,
+        developer_may_integrate,
+        reviewer_may_integrate,
+        developers_may_create_changes,
+        develop_end_action,
+        default_test_exemption,
+    };
+    (attributes, rest)
+}
+
+fn project_of(fields: ProjectFields) -> (Project, NumberList) {
+    let Then { first: _, rest } = fields;
+    let Then { first: _, rest } = rest;
+    let Then { first: name, rest } = rest;
+    let Then {
+        first: description,
+        rest,
+    } = rest;
+    let (attributes, rest) = attributes_of(description, rest);
+    let Then {
+        first: administrators,
+        rest,
+    } = rest;
+    let Then {
+        first: developers,
+        rest,
+    } = rest;
+    let Then {
+        first: reviewers,
+        rest,
+    } = rest;
+    let Then {
+        first: integrators,
+        rest,
+    } = rest;
+    let Then {
+        first: next_version,
+        rest,
+    } = rest;
+    let Then {
+        first: numbers,
+        rest,
+    } = rest;
+    let Then {
+        first: deltas,
+        rest: End,
+    } = rest;
+    let project = Project {
+        name,
+        attributes,
+        administrators,
+        developers,
+        reviewers,
+        integrators,
+        next_version,
+        deltas,
+    };
+    (project, numbers)
+}
+
+/// The project and the numbers of its changes, of which the bytes are a text.
+pub fn read_project(alloc: Global, bytes: &[u8]) -> Result<(Project, NumberList), SchemaError>
+    // The bytes are a text of the fields of what is read.
+    ensures found { IfOk result (λ p. IsTextOf bytes.now (project_fields p)) }
+    // What is read keeps what its types can hold.
+    ensures fits { IfOk result FitsProject }
+    // A text of the fields of such a project is read as it.
+    ensures only { (p : Project × List ℕ) → FitsProject p → IsTextOf bytes.now (project_fields p) → IsAnswer p result }
+    // A line is that of the first token or field that can't stand there.
+    ensures field { (line : ℕ) → result ≡ Err (SchemaError.Field line) → IsBadLine FitsProject project_fields bytes.now line }
+    // Where a token or field can't stand, that line comes.
+    ensures only_field { (line : ℕ) → IsBadLine FitsProject project_fields bytes.now line → IsRefusal line result }
+{
+    let names: &[&[u8]] = &[
+        b"format",
+        b"store",
+        b"name",
+        b"description",
+        b"developer_may_review",
+        b"developer_may_integrate",
+        b"reviewer_may_integrate",
+        b"developers_may_create_changes",
+        b"develop_end_action",
+        b"default_test_exemption",
+        b"administrators",
+        b"developers",
+        b"reviewers",
+        b"integrators",
+        b"next_version",
+        b"changes",
+        b"deltas",
+    ];
+    match read_record::<ProjectFields>(alloc, names, bytes) {
+        Ok(fields) => Ok(project_of(fields)),
+        Err(error) => Err(error),
+    }
+}
+
+// Which format it is, and which project.
+fn identity(alloc: Global, project: &Project) -> Result<Vec<Field>, AllocError>
+    ensures { IfOk result (λ fields. map named_node fields.items ≡ identity_fields project.now) }
+{
+    let fields = vec![in alloc;
+        field(alloc, b"format", &Format)?,
+        field(alloc, b"store", &Packed)?,
+        field(alloc, b"name", &project.name)?,
+        field(alloc, b"description", &project.attributes.description)?,
+    ]?;
+    Ok(fields)
+}
+
+// Who may do what.
+fn permissions(alloc: Global, settings: &Attributes) -> Result<Vec<Field>, AllocError>
+    ensures { IfOk result (λ fields. map named_node fields.items ≡ permission_fields settings.now) }
+{
+    let fields = vec![in alloc;
+        field(
+            alloc,
+            b"developer_may_review",
+            &settings.developer_may_review
+        )?,
+        field(
+            alloc,
+            b"developer_may_integrate",
+            &settings.developer_may_integrate
+        )?,
+        field(
+            alloc,
+            b"reviewer_may_integrate",
+            &settings.reviewer_may_integrate
+        )?,
+        field(
+            alloc,
+            b"developers_may_create_changes",
+            &settings.developers_may_create_changes
+        )?,
+    ]?;
+    Ok(fields)
+}
+
+// How development ends, and what a new change begins with.
+fn defaults(alloc: Global, settings: &Attributes) -> Result<Vec<Field>, AllocError>
+    ensures { IfOk result (λ fields. map named_node fields.items ≡ default_fields settings.now) }
+{
+    let fields = vec![in alloc;
+        field(alloc, b"develop_end_action", &settings.develop_end_action)?,
+        field(
+            alloc,
+            b"default_test_exemption",
+            &settings.default_test_exemption
+        )?,
+    ]?;
+    Ok(fields)
+}
+
+// The users of each role.
+fn roles(alloc: Global, project: &Project) -> Result<Vec<Field>, AllocError>
+    ensures { IfOk result (λ fields. map named_node fields.items ≡ role_fields project.now) }
+{
+    let fields = vec![in alloc;
+        field(alloc, b"administrators", &project.administrators)?,
+        field(alloc, b"developers", &project.developers)?,
+        field(alloc, b"reviewers", &project.reviewers)?,
+        field(alloc, b"integrators", &project.integrators)?,
+    ]?;
+    Ok(fields)
+}
+
+// The number of the next version, and the changes and deltas.
+fn counted(alloc: Global, project: &Project, numbers: &[ChangeNo]) -> Result<Vec<Field>, AllocError>
+    ensures { IfOk result (λ fields. map named_node fields.items ≡ counted_fields project.now numbers.now) }
+{
+    let fields = vec![in alloc;
+        field(alloc, b"next_version", &project.next_version)?,
+        list_field(alloc, b"changes", numbers)?,
+        field(alloc, b"deltas", &project.deltas)?,
+    ]?;
+    Ok(fields)
+}
+
+// The fields of the project's file.
+fn fields_of(
+    alloc: Global,
+    project: &Project,
+    numbers: &[ChangeNo],
+) -> Result<Vec<Field>, AllocError>
+    ensures { IfOk result (λ fields. map named_node fields.items ≡ project_fields (project.now, numbers.now)) }
+{
+    let mut fields = identity(alloc, project)?;
+    fields.append(&mut permissions(alloc, &project.attributes)?)?;
+    fields.append(&mut defaults(alloc, &project.attributes)?)?;
+    fields.append(&mut roles(alloc, project)?)?;
+    fields.append(&mut counted(alloc, project, numbers)?)?;
+    Ok(fields)
+}
+
+/// The text of `project`, of a project and the numbers of its changes.
+pub fn print_project(
+    alloc: Global,
+    project: &Project,
+    numbers: &[ChangeNo],
+) -> Result<Vec<u8>, AllocError>
+    // Each field in canonical form.
+    ensures value { IfOk result (λ text. text.items ≡ fields_text (members_of (project_fields (project.now, numbers.now)))) }
+    // What is printed is a text of the same fields.
+    ensures again { IfOk result (λ text. IsTextOf text.items (project_fields (project.now, numbers.now))) }
+    // What is printed keeps what its types can hold, so that it is read back.
+    ensures fits { OnOk result (FitsProject (project.now, numbers.now)) }
+{
+    let fields = fields_of(alloc, project, numbers)?;
+    print_tree(alloc, &structure_of(fields))
+}

@@ -1,0 +1,149 @@
+// How versions and digests are spelled.
+ghost use Rattle.std.specs.Prelude.{◌≡◌, ◌↔◌, [], ℕ, List, Some, IsTrue, IfOk, IfSome};
+ghost use Rattle.hex.specs.Hex.{encode_lower};
+ghost use Rattle.ae_schema.specs.Fits.{IsDigest};
+ghost use Rattle.ae_text.specs.View.{node};
+ghost use Rattle.ae_schema.specs.Records.{structure};
+
+use crate::fields::{End, Then};
+use crate::structure::{read_structure, structure_of};
+use crate::value::{Value, field};
+use ae_text::Tree;
+use ae_types::VersionRef;
+use std::alloc::{AllocError, Global};
+
+// The digest of which the text is the hex digits.
+fn digest_of(alloc: Global, text: &[u8]) -> Result<Option<[u8; 32]>, AllocError>
+    ensures some { IfOk result (λ read. IfSome read (λ digest. IsDigest digest × (encode_lower digest ≡ text.now))) }
+    ensures only { (digest : List ℕ) → IsDigest digest → encode_lower digest ≡ text.now → IfOk result (λ read. read ≡ Some digest) }
+{
+    let mut digest = [0; 32];
+    if hex::decode_to_slice(text, &mut digest).is_err() {
+        return Ok(None);
+    }
+    let again = hex::encode(alloc, digest)?;
+    if again.as_bytes() == text {
+        Ok(Some(digest))
+    } else {
+        Ok(None)
+    }
+}
+
+impl Value for [u8; 32] {
+    ghost use Rattle.std.specs.Prelude.{replicate};
+    ghost use Rattle.ae_schema.specs.Spelled.{hex_string};
+    ghost use Rattle.ae_schema.specs.Fits.{IsDigest};
+    ghost use Rattle.ae_schema.specs.SomeValues.{some_digest};
+
+    ghost spelled = { hex_string };
+
+    ghost Fits = { IsDigest };
+
+    fn of_tree(alloc: Global, tree: &Tree) -> Result<Option<[u8; 32]>, AllocError> {
+        match tree {
+            Tree::Str(text) => digest_of(alloc, text.bytes()),
+            _ => Ok(None),
+        }
+    }
+
+    fn to_tree(&self, alloc: Global) -> Result<Tree, AllocError> {
+        let digits = hex::encode(alloc, *self)?;
+        Tree::string(alloc, digits.as_bytes())
+    }
+
+    ghost some_value = { some_digest };
+}
+
+type VersionFields = Then<u64, Then<u64, Then<u32, Then<[u8; 32], End>>>>;
+
+impl Value for VersionRef {
+    ghost use Rattle.ae_schema.specs.Spelled.{version};
+    ghost use Rattle.ae_schema.specs.Fits.{FitsVersion};
+    ghost use Rattle.ae_schema.specs.SomeValues.{some_version};
+
+    ghost spelled = { version };
+
+    ghost Fits = { FitsVersion };
+
+    fn of_tree(alloc: Global, tree: &Tree) -> Result<Option<VersionRef>, AllocError> {
+        let names: &[&[u8]] = &[b"number", b"at", b"length", b"digest"];
+        match read_structure::<VersionFields>(alloc, names, tree)? {
+            Some(fields) => Ok(Some(version_of(fields))),
+            None => Ok(None),
+        }
+    }
+
+    fn to_tree(&self, alloc: Global) -> Result<Tree, AllocError> {
+        let fields = vec![in alloc;
+            field(alloc, b"number", &self.number)?,
+            field(alloc, b"at", &self.at)?,
+            field(alloc, b"length", &self.length)?,
+            field(alloc, b"digest", &self.digest)?,
+        ]?;
+        Ok(structure_of(fields))
+    }
+
+    ghost some_value = { some_version };
+}
+
+fn version_of(fields: VersionFields) -> VersionRef
+    ensures { result ≡ record { number = fields.first; at = fields.rest.first; length = fields.rest.rest.first; digest = fields.rest.rest.rest.first } }
+{
+    let Then {
+        first: number,
+        rest,
+    } = fields;
+    let Then { first: at, rest } = rest;
+    let Then {
+        first: length,
+        rest,
+    } = rest;
+    let Then {
+        first: digest,
+        rest: End,
+    } = rest;
+    VersionRef {
+        number,
+        at,
+        length,
+        digest,
+    }
+}
+
+fn is_empty_structure(tree: &Tree) -> bool
+    ensures { IsTrue result ↔ (node tree.now ≡ structure []) }
+{
+    match tree {
+        Tree::Fields(list) => list.items().is_empty(),
+        _ => false,
+    }
+}
+
+impl Value for Option<VersionRef> {
+    ghost use Rattle.std.specs.Prelude.{None, IfSome};
+    ghost use Rattle.ae_schema.specs.Spelled.{optional_version};
+    ghost use Rattle.ae_schema.specs.Fits.{FitsVersion};
+
+    ghost spelled = { optional_version };
+
+    ghost Fits = { λ version. IfSome version FitsVersion };
+
+    fn of_tree(alloc: Global, tree: &Tree) -> Result<Option<Option<VersionRef>>, AllocError> {
+        if is_empty_structure(tree) {
+            return Ok(Some(None));
+        }
+        match VersionRef::of_tree(alloc, tree)? {
+            Some(version) => Ok(Some(Some(version))),
+            None => Ok(None),
+        }
+    }
+
+    fn to_tree(&self, alloc: Global) -> Result<Tree, AllocError> {
+        match self {
+            Some(version) => version.to_tree(alloc),
+            None => Ok(structure_of(Vec::new(alloc))),
+        }
+    }
+
+    ghost some_value = { (None, tt) };
+}
