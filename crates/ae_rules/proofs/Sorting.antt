@@ -126,7 +126,7 @@ module _ {V : Type 0} (related : V → V → Bool) (both_ways : (v w : V) → re
         go : (y : V) → In ys y → (b : Bool) → fits y ≡ b → fits y ≡ true
         go y m true e = e
         go y m false e =
-            let any = sym (list_any-IsPermutation (λ w. not (fits w)) xs ys p) ∙ in-any (λ w. not (fits w)) ys y m (is-not (fits y) e) in
+            let any = list_any-IsPermutation (λ w. not (fits w)) xs ys p ∙ in-any (λ w. not (fits w)) ys y m (is-not (fits y) e) in
             let r = any-in (λ w. not (fits w)) xs any in
             never (sym (abbrevd (fits r.0) r.2) ∙ all-in fits xs f r.0 r.1)
 

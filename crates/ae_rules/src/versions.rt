@@ -1,9 +1,9 @@
 // The versions of files: their numbers, and the units that they take.
-ghost use Rattle.std.specs.Prelude.{◌≡◌, ◌++◌, IfOk, OnOk, flat_map};
+ghost use Rattle.std.specs.Prelude.{◌≡◌, ◌++◌, IfOk, OnOk, flat_map, filter, nat_le, true};
 ghost use Rattle.std.specs.List.{list_all, filter_map};
 ghost use Rattle.std.specs.Option.{option_to_list};
-ghost use Rattle.ae_types.specs.Versions.{live, units, has_units, end_of};
-ghost use Rattle.ae_types.specs.Rules.{is_in_region};
+ghost use Rattle.ae_types.specs.Versions.{live, units, has_units, end_of, meet, same_number, no_two};
+ghost use Rattle.ae_types.specs.Rules.{is_in_region, versions_fit};
 ghost use Rattle.ae_rules.specs.Live.{past_versions, frozen_versions, number_is_below};
 
 use ae_types::{Change, ChangeFile, FileRow, FileVersion, VersionRef};
@@ -97,4 +97,62 @@ fn are_in_region(versions: &[VersionRef]) -> bool
     ensures { result ≡ list_all is_in_region versions.now }
 {
     versions.iter().all(|version| is_in_region(version))
+}
+
+// the numbers differ; the versions are sorted by them
+fn numbers_differ(versions: &mut [VersionRef]) -> bool
+    ensures { result ≡ no_two same_number versions.old }
+{
+    versions.sort_unstable_by_key(|version| version.number);
+    versions.is_sorted_by(|a, b| a.number < b.number)
+}
+
+fn end_of(version: &VersionRef) -> u128
+    ensures { result ≡ end_of version.now }
+{
+    u128::from(version.at) + u128::from(units(version))
+}
+
+fn ends_before(version: &VersionRef, other: &VersionRef) -> bool
+    ensures { result ≡ nat_le (end_of version.now) other.now.at }
+{
+    end_of(version) <= u128::from(other.at)
+}
+
+// no two share a unit; the versions are sorted by their places
+fn units_are_apart(versions: &mut [VersionRef]) -> bool
+    requires { list_all has_units versions.old ≡ true }
+    ensures { result ≡ no_two meet versions.old }
+{
+    versions.sort_unstable_by_key(|version| version.at);
+    versions.is_sorted_by(|a, b| ends_before(a, b))
+}
+
+fn with_units(alloc: Global, versions: &[VersionRef]) -> Result<Vec<VersionRef>, AllocError>
+    ensures { IfOk result (λ some. some.items ≡ filter has_units versions.now) }
+{
+    let mut some = Vec::new(alloc);
+    for version in versions {
+        if has_units(version) {
+            some.push(*version)?;
+        }
+    }
+    Ok(some)
+}
+
+/// Whether the versions that stand in the records keep the rules beside the number of the next one.
+pub(crate) fn versions_fit(
+    alloc: Global,
+    next: u64,
+    rows: &[FileRow],
+    changes: &[Change],
+) -> Result<bool, AllocError>
+    ensures { IfOk result (λ fit. fit ≡ versions_fit next (live rows.now changes.now)) }
+{
+    let mut versions = live(alloc, rows, changes)?;
+    if !numbers_are_below(next, &versions) || !are_in_region(&versions) {
+        return Ok(false);
+    }
+    let mut some = with_units(alloc, &versions)?;
+    Ok(numbers_differ(&mut versions) && units_are_apart(&mut some))
 }
