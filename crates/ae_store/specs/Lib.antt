@@ -2,4 +2,5 @@ pub mod Names
 pub mod Records
 pub mod Damage
 pub mod Changed
+pub mod Answers
 pub mod Steps

@@ -1,7 +1,7 @@
 // Why a step of loading stops.
 ghost use Rattle.std.specs.Prelude.{◌≡◌};
 ghost use Rattle.ae_store.specs.declared.stop.Stop.TheVariants.{Memory};
-ghost use Rattle.ae_store.specs.Steps.{of_reading};
+ghost use Rattle.ae_store.specs.Steps.{stop_reading};
 
 use ae_outside::ReadError;
 use ae_types::Blame;
@@ -16,7 +16,7 @@ pub(crate) enum Stop {
 }
 
 impl From<ReadError> for Stop {
-    ghost from_gives = { λ r e. e ≡ of_reading r };
+    ghost from_gives = { λ r e. e ≡ stop_reading r };
 
     fn from(error: ReadError) -> Stop {
         match error {

@@ -1,5 +1,5 @@
 // The state is loaded.
-ghost use Rattle.std.specs.Prelude.{◌≡◌, ◌≢◌, [], Option, IfOk, IsErrOf, IsSomeAnd};
+ghost use Rattle.std.specs.Prelude.{◌≡◌, ◌≢◌, [], ℕ, List, Option, Err, IfOk, IsErrOf, IsSomeAnd};
 ghost use Rattle.ae_outside.specs.Causes.{Counted};
 ghost use Rattle.ae_outside.specs.Image.{IsSame};
 ghost use Rattle.ae_outside.specs.State.{reads, GoesOn};
@@ -10,7 +10,8 @@ ghost use Rattle.ae_types.specs.Observation.{Observation};
 ghost use Rattle.ae_store.specs.Names.{project_file};
 ghost use Rattle.ae_store.specs.Records.{Stands};
 ghost use Rattle.ae_store.specs.Damage.{IsDamaged};
-ghost use Rattle.ae_store.specs.Steps.{IsLoaded, IsOutcome, IsState, IsBlamed};
+ghost use Rattle.ae_store.specs.Answers.{IsState, IsBlamed, IsNamed};
+ghost use Rattle.ae_store.specs.Steps.{IsLoaded, IsToldOf};
 
 use crate::StoreError;
 use crate::changes::load_changes;
@@ -20,30 +21,34 @@ use crate::records::good_project;
 use crate::stop::Stop;
 use crate::whole::checked;
 use ae_outside::Disk;
-use ae_types::{Blame, Parts, State};
+use ae_types::{Parts, State};
 use std::alloc::Global;
 
 // The project of these bytes, with its file table and its changes.
-fn load_project<D: Disk>(alloc: Global, disk: &mut D, bytes: &[u8]) -> Result<State, Stop>
+fn load_project<D: Disk>(
+    alloc: Global,
+    disk: &mut D,
+    bytes: &[u8],
+) -> Result<Option<State>, Stop>
     requires clean { D.tells → IsClean (D.state disk.old) }
     requires bytes { D.tells → files (reads (D.state disk.old)) project_file ≡ bytes.now }
-    ensures loaded { D.tells → bytes.now ≢ [] → IsLoaded (files (reads (D.state disk.old))) (some_of result) }
+    requires some { bytes.now ≢ [] }
+    ensures loaded { D.tells → IsLoaded (files (reads (D.state disk.old))) result }
     ensures change { D.tells → GoesOn IsSame (D.state disk.old) (D.state disk.new) }
     ensures cause { Counted (D.faults disk.old) (D.faults disk.new) (IsErrOf result Stop.DiskFault) }
 {
     let (project, numbers) = good_project(alloc, bytes)?;
     let (files, locks) = load_table(alloc, disk, &project)?;
     let changes = load_changes(alloc, disk, numbers.as_slice())?;
-    checked(
-        alloc,
-        Parts {
-            project,
-            numbers,
-            files,
-            locks,
-            changes,
-        },
-    )
+    let parts = Parts {
+        project,
+        numbers,
+        files,
+        locks,
+        changes,
+    };
+    let state = checked(alloc, parts)?;
+    Ok(Some(state))
 }
 
 // The state, or why there is none.
@@ -57,16 +62,24 @@ fn load_state<D: Disk>(alloc: Global, disk: &mut D) -> Result<Option<State>, Sto
     if bytes.is_empty() {
         return Ok(None);
     }
-    let state = load_project(alloc, disk, bytes.as_slice())?;
-    Ok(Some(state))
+    load_project(alloc, disk, bytes.as_slice())
 }
 
-fn damaged(alloc: Global, blame: Blame) -> StoreError
-    ensures { IsBlamed blame (Err result) }
+// The answer, with the name of the file that is blamed.
+fn told(
+    alloc: Global,
+    loaded: Result<Option<State>, Stop>,
+) -> Result<Option<State>, StoreError>
+    ensures { IsToldOf loaded result }
 {
-    match blamed_name(alloc, blame) {
-        Ok(name) => StoreError::Damaged(name),
-        Err(_) => StoreError::Memory,
+    match loaded {
+        Ok(state) => Ok(state),
+        Err(Stop::Blamed(blame)) => match blamed_name(alloc, blame) {
+            Ok(name) => Err(StoreError::Damaged(name)),
+            Err(_) => Err(StoreError::Memory),
+        },
+        Err(Stop::DiskFault) => Err(StoreError::DiskFault),
+        Err(Stop::Memory) => Err(StoreError::Memory),
     }
 }
 
@@ -74,20 +87,16 @@ fn damaged(alloc: Global, blame: Blame) -> StoreError
 pub fn load<D: Disk>(alloc: Global, disk: &mut D) -> Result<Option<State>, StoreError>
     requires { D.tells → IsClean (D.state disk.old) }
     // What is answered is what the files stand for,
-    ensures found { IfOk result (λ state. D.tells → Stands (reads (D.state disk.old)) state) }
+    ensures found { IfOk result (λ o. D.tells → Stands (reads (D.state disk.old)) o) }
     // and where they stand for something, that is answered.
     ensures only { D.tells → (o : Option Observation) → Stands (reads (D.state disk.old)) o → IsState o result }
     // The name is that of the state file that is blamed,
-    ensures damaged { D.tells → IfDamaged result (λ name. IsSomeAnd (effective (reads (D.state disk.old))) (λ files. (b : Blame) × IsDamaged files b × (name ≡ blamed_file b) × (files project_file ≢ []))) }
+    ensures damaged { D.tells → (name : List ℕ) → result ≡ Err (StoreError.Damaged name) → IsSomeAnd (effective (reads (D.state disk.old))) (λ files. IsNamed files name) }
     // and where one is blamed, its name is answered.
-    ensures only_damaged { D.tells → IsSomeAnd (effective (reads (D.state disk.old))) (λ files. files project_file ≢ [] → (b : Blame) → IsDamaged files b → IsBlamed b result) }
+    ensures only_damaged { D.tells → (b : Blame) → IsSomeAnd (effective (reads (D.state disk.old))) (λ files. (files project_file ≢ []) × IsDamaged files b) → IsBlamed b result }
     ensures change { D.tells → GoesOn IsSame (D.state disk.old) (D.state disk.new) }
     ensures cause { Counted (D.faults disk.old) (D.faults disk.new) (IsErrOf result StoreError.DiskFault) }
 {
-    match load_state(alloc, disk) {
-        Ok(state) => Ok(state),
-        Err(Stop::Blamed(blame)) => Err(damaged(alloc, blame)),
-        Err(Stop::DiskFault) => Err(StoreError::DiskFault),
-        Err(Stop::Memory) => Err(StoreError::Memory),
-    }
+    let loaded = load_state(alloc, disk);
+    told(alloc, loaded)
 }
