@@ -14,11 +14,11 @@ use Rattle.ae_types.proofs.Splits.{never, and2, and4, is-false, below, is-below,
 use Rattle.ae_rules.proofs.Adjacent.{each_next}
 use Rattle.ae_rules.proofs.Sorting.{sorted-tells}
 
-abbrev pub number_of : VersionRef → ℕ
-number_of version = version.number
+abbrev pub version_number : VersionRef → ℕ
+version_number version = version.number
 
-abbrev pub at_of : VersionRef → ℕ
-at_of version = version.at
+abbrev pub version_unit : VersionRef → ℕ
+version_unit version = version.at
 
 abbrev pub numbered_before : VersionRef → VersionRef → Bool
 numbered_before one other = nat_lt one.number other.number
@@ -32,8 +32,8 @@ any_version version = true
 all-any : (xs : List VersionRef) → list_all any_version xs ≡ true
 all-any xs = in-all any_version xs (λ x m. refl)
 
-pub numbers-sorted : (xs ys : List VersionRef) → IsPermutation xs ys → IsNonDecreasingBy number_of ys → each_next numbered_before ys ≡ no_two same_number xs
-numbers-sorted xs ys p up = sorted-tells same_number same_number-swaps numbered_before any_version number_of
+pub numbers-sorted : (xs ys : List VersionRef) → IsPermutation xs ys → IsNonDecreasingBy version_number ys → each_next numbered_before ys ≡ no_two same_number xs
+numbers-sorted xs ys p up = sorted-tells same_number same_number-swaps numbered_before any_version version_number
     (λ x y z f e g. is-below x.number z.number (lower x.number y.number z.number (below x.number y.number e) (below y.number z.number g)))
     (λ x y e. is-false (same_number x y) (λ is. differ x.number y.number (below x.number y.number e) (eqb-true x.number y.number is)))
     (λ x y f g h e. is-below x.number y.number (strict x.number y.number h (Rattle.std.proofs.lemmas.Bool.eqb-false x.number y.number e)))
@@ -53,8 +53,8 @@ some-units v e = go v.length v.at (below 0 v.length e)
     go : (n a : ℕ) → 0 < n → a < a + (n + 63) / 64
     go n a h = omega (arith, h)
 
-pub units-sorted : (xs ys : List VersionRef) → IsPermutation xs ys → IsNonDecreasingBy at_of ys → list_all has_units xs ≡ true → each_next ends_before ys ≡ no_two meet xs
-units-sorted xs ys p up f = sorted-tells meet meet-swaps ends_before has_units at_of
+pub units-sorted : (xs ys : List VersionRef) → IsPermutation xs ys → IsNonDecreasingBy version_unit ys → list_all has_units xs ≡ true → each_next ends_before ys ≡ no_two meet xs
+units-sorted xs ys p up f = sorted-tells meet meet-swaps ends_before has_units version_unit
     (λ x y z h e g. is-most (end_of x) z.at (onward (end_of x) y.at (end_of y) z.at (most (end_of x) y.at e) (some-units y h) (most (end_of y) z.at g)))
     (λ x y e. is-false (meet x y) (λ is. let a = and4 (has_units x) (has_units y) (nat_lt x.at (end_of y)) (nat_lt y.at (end_of x)) is in cross (end_of x) y.at (most (end_of x) y.at e) (below y.at (end_of x) a.3)))
     (λ x y h k le e. is-most (end_of x) y.at (away x y h k le e))

@@ -1,3 +1,4 @@
 pub mod Overlay
 pub mod Beside
 pub mod Live
+pub mod Blamed

@@ -11,8 +11,8 @@ use crate::project_alone::is_moment;
 use ae_base::Phase;
 use ae_types::{Change, ChangeFile, Evidence, HistoryRow, VersionRef};
 
-pub(crate) fn length_is_good(version: &Option<VersionRef>) -> bool
-    ensures { result ≡ length_is_good version.now }
+pub(crate) fn length_is_good(version: Option<VersionRef>) -> bool
+    ensures { result ≡ length_is_good version }
 {
     match version {
         Some(version) => version.length <= 4_194_304,
@@ -35,7 +35,7 @@ fn history_moments_are_good(history: &[HistoryRow]) -> bool
 fn file_lengths_are_good(files: &[ChangeFile]) -> bool
     ensures { result ≡ list_all (λ (file : ChangeFile). length_is_good file.frozen) files.now }
 {
-    files.iter().all(|file| length_is_good(&file.frozen))
+    files.iter().all(|file| length_is_good(file.frozen))
 }
 
 fn ranges_are_good(change: &Change) -> bool

@@ -3,7 +3,7 @@ ghost use Rattle.std.specs.Prelude.{◌≡◌, length};
 ghost use Rattle.std.specs.List.{list_all};
 ghost use Rattle.std.specs.Ordering.{nat_cmp};
 ghost use Rattle.ae_types.specs.Ordered.{Ascends, itself};
-ghost use Rattle.ae_types.specs.Found.{number_of};
+ghost use Rattle.ae_types.specs.Found.{number_of_change};
 ghost use Rattle.ae_types.specs.Rules.{delta_has_change, naming, change_has_delta, deltas_fit};
 
 use crate::phases::is_completed;
@@ -12,7 +12,7 @@ use ae_types::{Change, DeltaRow, change_in, has_number};
 
 fn delta_has_change(numbers: &[ChangeNo], changes: &[Change], delta: &DeltaRow) -> bool
     requires numbers { Ascends nat_cmp itself numbers.now }
-    requires changes { Ascends nat_cmp number_of changes.now }
+    requires changes { Ascends nat_cmp number_of_change changes.now }
     ensures { result ≡ delta_has_change numbers.now changes.now delta.now }
 {
     if !has_number(numbers, delta.change) {
@@ -26,7 +26,7 @@ fn delta_has_change(numbers: &[ChangeNo], changes: &[Change], delta: &DeltaRow) 
 
 fn deltas_have_changes(numbers: &[ChangeNo], changes: &[Change], deltas: &[DeltaRow]) -> bool
     requires numbers { Ascends nat_cmp itself numbers.now }
-    requires changes { Ascends nat_cmp number_of changes.now }
+    requires changes { Ascends nat_cmp number_of_change changes.now }
     ensures { result ≡ list_all (delta_has_change numbers.now changes.now) deltas.now }
 {
     for delta in deltas {
@@ -67,7 +67,7 @@ fn changes_have_deltas(deltas: &[DeltaRow], changes: &[Change]) -> bool
 
 pub(crate) fn deltas_fit(deltas: &[DeltaRow], numbers: &[ChangeNo], changes: &[Change]) -> bool
     requires numbers { Ascends nat_cmp itself numbers.now }
-    requires changes { Ascends nat_cmp number_of changes.now }
+    requires changes { Ascends nat_cmp number_of_change changes.now }
     ensures { result ≡ deltas_fit deltas.now numbers.now changes.now }
 {
     deltas_have_changes(numbers, changes, deltas) && changes_have_deltas(deltas, changes)

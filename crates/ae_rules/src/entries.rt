@@ -3,7 +3,7 @@ ghost use Rattle.std.specs.Prelude.{◌≡◌, length};
 ghost use Rattle.std.specs.List.{list_all};
 ghost use Rattle.std.specs.Ordering.{nat_cmp};
 ghost use Rattle.ae_types.specs.Ordered.{Ascends};
-ghost use Rattle.ae_types.specs.Found.{delta_number, number_of};
+ghost use Rattle.ae_types.specs.Found.{number_of_delta, number_of_change};
 ghost use Rattle.ae_types.specs.Rules.{file_is_entered, delta_is_entered, entry_has_file, entries_fit};
 ghost use Rattle.ae_types.specs.Sound.{AreRows, AreChanges};
 ghost use Rattle.ae_rules.specs.Beside.{row_has_files};
@@ -42,7 +42,7 @@ fn files_are_entered(deltas: usize, rows: &[FileRow], delta: Delta, files: &[Cha
 
 fn delta_is_entered(deltas: usize, rows: &[FileRow], changes: &[Change], delta: &DeltaRow) -> bool
     requires rows { AreRows deltas rows.now }
-    requires changes { Ascends nat_cmp number_of changes.now }
+    requires changes { Ascends nat_cmp number_of_change changes.now }
     ensures { result ≡ delta_is_entered rows.now changes.now delta.now }
 {
     match change_in(changes, delta.change) {
@@ -53,7 +53,7 @@ fn delta_is_entered(deltas: usize, rows: &[FileRow], changes: &[Change], delta: 
 
 fn deltas_are_entered(count: usize, rows: &[FileRow], changes: &[Change], deltas: &[DeltaRow]) -> bool
     requires rows { AreRows count rows.now }
-    requires changes { Ascends nat_cmp number_of changes.now }
+    requires changes { Ascends nat_cmp number_of_change changes.now }
     ensures { result ≡ list_all (delta_is_entered rows.now changes.now) deltas.now }
 {
     for delta in deltas {
@@ -65,7 +65,7 @@ fn deltas_are_entered(count: usize, rows: &[FileRow], changes: &[Change], deltas
 }
 
 fn entry_has_file(deltas: &[DeltaRow], numbers: &[ChangeNo], changes: &[Change], path: &Path, entry: &FileVersion) -> bool
-    requires deltas { Ascends nat_cmp delta_number deltas.now }
+    requires deltas { Ascends nat_cmp number_of_delta deltas.now }
     requires changes { AreChanges numbers.now changes.now }
     ensures { result ≡ entry_has_file deltas.now changes.now path.now entry.now }
 {
@@ -79,7 +79,7 @@ fn entry_has_file(deltas: &[DeltaRow], numbers: &[ChangeNo], changes: &[Change],
 }
 
 fn row_has_files(deltas: &[DeltaRow], numbers: &[ChangeNo], changes: &[Change], row: &FileRow) -> bool
-    requires deltas { Ascends nat_cmp delta_number deltas.now }
+    requires deltas { Ascends nat_cmp number_of_delta deltas.now }
     requires changes { AreChanges numbers.now changes.now }
     ensures { result ≡ row_has_files deltas.now changes.now row.now }
 {
@@ -92,7 +92,7 @@ fn row_has_files(deltas: &[DeltaRow], numbers: &[ChangeNo], changes: &[Change], 
 }
 
 fn rows_have_files(deltas: &[DeltaRow], numbers: &[ChangeNo], changes: &[Change], rows: &[FileRow]) -> bool
-    requires deltas { Ascends nat_cmp delta_number deltas.now }
+    requires deltas { Ascends nat_cmp number_of_delta deltas.now }
     requires changes { AreChanges numbers.now changes.now }
     ensures { result ≡ list_all (row_has_files deltas.now changes.now) rows.now }
 {
@@ -105,7 +105,7 @@ fn rows_have_files(deltas: &[DeltaRow], numbers: &[ChangeNo], changes: &[Change]
 }
 
 pub(crate) fn entries_fit(deltas: &[DeltaRow], rows: &[FileRow], numbers: &[ChangeNo], changes: &[Change]) -> bool
-    requires deltas { Ascends nat_cmp delta_number deltas.now }
+    requires deltas { Ascends nat_cmp number_of_delta deltas.now }
     requires rows { AreRows (length deltas.now) rows.now }
     requires changes { AreChanges numbers.now changes.now }
     ensures { result ≡ entries_fit deltas.now rows.now changes.now }

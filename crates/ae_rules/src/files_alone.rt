@@ -24,7 +24,7 @@ fn deltas_are_there(deltas: usize, past: &[FileVersion]) -> bool
 fn lengths_are_good(past: &[FileVersion]) -> bool
     ensures { result ≡ list_all (λ (entry : FileVersion). length_is_good entry.version) past.now }
 {
-    past.iter().all(|entry| length_is_good(&entry.version))
+    past.iter().all(|entry| length_is_good(entry.version))
 }
 
 fn row_is_good(deltas: usize, row: &FileRow) -> bool

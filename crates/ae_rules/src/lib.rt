@@ -4,9 +4,11 @@
 
 mod candidate;
 mod change_alone;
+mod check;
 mod clashes;
 mod deltas;
 mod entries;
+mod error;
 mod files_alone;
 mod integration;
 mod locks;
@@ -16,5 +18,10 @@ mod project_alone;
 mod versions;
 
 pub use change_alone::change_is_good;
+pub use check::{blamed, state_of};
+pub use error::CheckError;
 pub use files_alone::files_are_good;
 pub use project_alone::project_is_good;
+
+#[cfg(test)]
+mod tests;

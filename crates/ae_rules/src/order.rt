@@ -2,7 +2,7 @@
 ghost use Rattle.std.specs.Prelude.{◌≡◌};
 ghost use Rattle.std.specs.Ordering.{is_lt, nat_cmp};
 ghost use Rattle.ae_types.specs.Ordered.{ascends, itself};
-ghost use Rattle.ae_types.specs.Found.{number_of, lock_path};
+ghost use Rattle.ae_types.specs.Found.{number_of_change, lock_path};
 ghost use Rattle.ae_types.specs.Trees.{text_cmp};
 ghost use Rattle.ae_types.specs.Runs.{run_cmp, run_of, during_place, kind_place, path_place};
 ghost use Rattle.ae_types.specs.Rules.{numbers_ascend, rows_ascend, past_ascends, files_ascend, evidence_ascends};
@@ -36,7 +36,7 @@ pub(crate) fn numbers_ascend(numbers: &[ChangeNo]) -> bool
 }
 
 pub(crate) fn changes_ascend(changes: &[Change]) -> bool
-    ensures { result ≡ ascends nat_cmp number_of changes.now }
+    ensures { result ≡ ascends nat_cmp number_of_change changes.now }
 {
     changes.is_sorted_by(|a, b| is_change_below(a.number, b.number))
 }

@@ -140,7 +140,15 @@ fn with_units(alloc: Global, versions: &[VersionRef]) -> Result<Vec<VersionRef>,
     Ok(some)
 }
 
-/// Whether the versions that stand in the records keep the rules beside the number of the next one.
+// no two share a unit
+fn units_fit(alloc: Global, versions: &[VersionRef]) -> Result<bool, AllocError>
+    ensures { IfOk result (λ fit. fit ≡ no_two meet versions.now) }
+{
+    let mut some = with_units(alloc, versions)?;
+    Ok(units_are_apart(some.as_mut_slice()))
+}
+
+// Whether the versions that stand in the records keep the rules beside the number of the next one.
 pub(crate) fn versions_fit(
     alloc: Global,
     next: u64,
@@ -150,9 +158,14 @@ pub(crate) fn versions_fit(
     ensures { IfOk result (λ fit. fit ≡ versions_fit next (live rows.now changes.now)) }
 {
     let mut versions = live(alloc, rows, changes)?;
-    if !numbers_are_below(next, &versions) || !are_in_region(&versions) {
+    if !numbers_are_below(next, versions.as_slice()) {
         return Ok(false);
     }
-    let mut some = with_units(alloc, &versions)?;
-    Ok(numbers_differ(&mut versions) && units_are_apart(&mut some))
+    if !are_in_region(versions.as_slice()) {
+        return Ok(false);
+    }
+    if !units_fit(alloc, versions.as_slice())? {
+        return Ok(false);
+    }
+    Ok(numbers_differ(versions.as_mut_slice()))
 }

@@ -1,11 +1,11 @@
 -- What a binary search of ascending rows answers is the row that the key finds.
 use Rattle.std.proofs.Common.{◌≡◌, ◌⊎◌, inl, inr, ℕ, zero, suc, ◌+◌, ◌<◌, ◌≤◌, refl, sym, ◌∙◌, ap, subst, List, [], ◌∷◌, Option, Some, None, Bool, true, false, get_or, arith, Result, Ok, Err}
-use Rattle.std.specs.Prelude.{length}
+use Rattle.std.specs.Prelude.{length, is_ok, is_some}
 use Rattle.std.specs.Ordering.{is_lt, ordering_index, ordering_reverse}
 use Rattle.std.specs.declared.cmp.Ordering.{Ordering}
 use Rattle.std.specs.declared.cmp.Ordering.TheVariants.{Less, Equal, Greater}
 use Rattle.std.specs.List.{AllWithin, HoldsAt}
-use Rattle.std.specs.List.Sorted.{IsPartitionPoint, IsBinarySearchResult, IsNonDecreasingBy, IsSortedBy}
+use Rattle.std.specs.List.Sorted.{IsPartitionPoint, IsSearchInRange, IsBinarySearchResult, IsNonDecreasingBy, IsSortedBy}
 use Rattle.std.proofs.lemmas.List.Sorted.{searchable_from_sorted}
 use Rattle.ae_types.proofs.Members.{In}
 use Rattle.ae_types.proofs.Ordered.{Order, at, Above, Ascends, less-other, greater-less, some-is, none-some, found-key}
@@ -65,3 +65,8 @@ module _ {K : Type 0} (o : Order K) {A : Type 0} (key : A → K) where
           cases : (x : A) → key x ≡ k → (j : ℕ) → get_or xs j x ≡ x → (Rattle.std.specs.Prelude.nat_lt j i ≡ true → j < i) → (Rattle.std.specs.Prelude.nat_lt j i ≡ false → i ≤ j) → j < length xs → (b : Bool) → Rattle.std.specs.Prelude.nat_lt j i ≡ b → at o key k xs ≡ None
           cases x same j is low high inside true t = absurd (less-other o (key x) k (ap (compared k) (sym is) ∙ point.0 j x (omega arith) (low t)) same)
           cases x same j is low high inside false f = absurd (less-other o k (key x) (greater-less o (key x) k (ap (compared k) (sym is) ∙ point.1 j x (high f) inside)) (sym same))
+
+  -- whether one is found
+  pub search-any : (k : K) (xs : List A) (r : Result ℕ ℕ) (d : A) → Ascends o key xs → IsSearchInRange r (length xs) → IsBinarySearchResult (compared k) xs r → is_ok r ≡ is_some (at o key k xs)
+  search-any k xs (Ok i) d a h found = sym (ap (λ v. is_some v) (search-at k xs i d a h found))
+  search-any k xs (Err i) d a h found = sym (ap (λ v. is_some v) (search-err k xs i a found))

@@ -10,7 +10,7 @@ use Rattle.ae_types.specs.declared.file_table.FileRow.{FileRow}
 use Rattle.ae_types.specs.declared.file_table.FileVersion.{FileVersion}
 use Rattle.ae_types.specs.declared.version.VersionRef.{VersionRef}
 use Rattle.ae_types.specs.Versions.{Place, in_table, in_change, version_at, live}
-use Rattle.ae_types.specs.Found.{number_of, file_path, row_path, entry_delta}
+use Rattle.ae_types.specs.Found.{number_of_change, file_path, row_path, entry_delta}
 use Rattle.ae_types.proofs.Keys.{by_text, by_number}
 use Rattle.ae_types.proofs.Members.{In, in-left, in-right, in-either, in-flat, flat-in, in-some, some-in, Distinct, distinct-append}
 use Rattle.ae_types.proofs.Ordered.{Order, at, Above, Ascends, above-at, less-other, some-is, none-some, found-key}
@@ -165,7 +165,7 @@ abbrev pub table_stands : List FileRow → List Stand
 table_stands rows = blocks by_text by_number row_path entry_delta past_of version_of in_table table-path table-delta rows
 
 abbrev pub frozen_stands : List Change → List Stand
-frozen_stands changes = blocks by_number by_text number_of file_path files_of frozen_of in_change change-number change-path changes
+frozen_stands changes = blocks by_number by_text number_of_change file_path files_of frozen_of in_change change-number change-path changes
 
 abbrev pub stands : List FileRow → List Change → List Stand
 stands rows changes = table_stands rows ++ frozen_stands changes
@@ -173,14 +173,14 @@ stands rows changes = table_stands rows ++ frozen_stands changes
 pub stands-live : (rows : List FileRow) (changes : List Change) → map stand_version (stands rows changes) ≡ live rows changes
 stands-live rows changes = map-append stand_version (table_stands rows) (frozen_stands changes)
     ∙ ap (λ vs. vs ++ map stand_version (frozen_stands changes)) (blocks-map by_text by_number row_path entry_delta past_of version_of in_table table-path table-delta rows)
-    ∙ ap (λ vs. flat_map (λ (row : FileRow). filter_map version_of row.past) rows ++ vs) (blocks-map by_number by_text number_of file_path files_of frozen_of in_change change-number change-path changes)
+    ∙ ap (λ vs. flat_map (λ (row : FileRow). filter_map version_of row.past) rows ++ vs) (blocks-map by_number by_text number_of_change file_path files_of frozen_of in_change change-number change-path changes)
 
 -- the rows and the changes are in order, and so are their entries and files
 pub record InOrder (rows : List FileRow) (changes : List Change) : Type 0 where
   pub up : Ascends by_text row_path rows
   pub pasts : (path : List ℕ) (row : FileRow) → at by_text row_path path rows ≡ Some row → Ascends by_number entry_delta row.past
-  pub upward : Ascends by_number number_of changes
-  pub files : (number : ℕ) (change : Change) → at by_number number_of number changes ≡ Some change → Ascends by_text file_path change.files
+  pub upward : Ascends by_number number_of_change changes
+  pub files : (number : ℕ) (change : Change) → at by_number number_of_change number changes ≡ Some change → Ascends by_text file_path change.files
 
 module _ (rows : List FileRow) (changes : List Change) where
   pub stands-found : InOrder rows changes → (s : Stand) → In (stands rows changes) s → version_at rows changes s.0 ≡ Some s.1
@@ -189,20 +189,20 @@ module _ (rows : List FileRow) (changes : List Change) where
       go : In (table_stands rows) s ⊎ In (frozen_stands changes) s → version_at rows changes s.0 ≡ Some s.1
       go (inl m) = let f = blocks-found by_text by_number row_path entry_delta past_of version_of in_table table-path table-delta rows (a.up, a.pasts) s m in
           ap (version_at rows changes) f.2 ∙ f.3
-      go (inr m) = let f = blocks-found by_number by_text number_of file_path files_of frozen_of in_change change-number change-path changes (a.upward, a.files) s m in
+      go (inr m) = let f = blocks-found by_number by_text number_of_change file_path files_of frozen_of in_change change-number change-path changes (a.upward, a.files) s m in
           ap (version_at rows changes) f.2 ∙ f.3
 
   pub found-stands : (p : Place) (v : VersionRef) → version_at rows changes p ≡ Some v → In (stands rows changes) (p, v)
   found-stands (in_table path delta) v e = in-left (table_stands rows) (frozen_stands changes) (in_table path delta, v) (found-blocks by_text by_number row_path entry_delta past_of version_of in_table table-path table-delta rows path delta v e)
-  found-stands (in_change number path) v e = in-right (table_stands rows) (frozen_stands changes) (in_change number path, v) (found-blocks by_number by_text number_of file_path files_of frozen_of in_change change-number change-path changes number path v e)
+  found-stands (in_change number path) v e = in-right (table_stands rows) (frozen_stands changes) (in_change number path, v) (found-blocks by_number by_text number_of_change file_path files_of frozen_of in_change change-number change-path changes number path v e)
 
   pub stands-distinct : InOrder rows changes → Distinct stand_place (stands rows changes)
   stands-distinct a = distinct-append stand_place (table_stands rows) (frozen_stands changes)
       (blocks-distinct by_text by_number row_path entry_delta past_of version_of in_table table-path table-delta rows a.up (λ row m. a.pasts row.path row (in-found by_text row_path rows a.up row m)))
-      (blocks-distinct by_number by_text number_of file_path files_of frozen_of in_change change-number change-path changes a.upward (λ change m. a.files change.number change (in-found by_number number_of changes a.upward change m)))
+      (blocks-distinct by_number by_text number_of_change file_path files_of frozen_of in_change change-number change-path changes a.upward (λ change m. a.files change.number change (in-found by_number number_of_change changes a.upward change m)))
       (λ s t m n same.
         let f = blocks-found by_text by_number row_path entry_delta past_of version_of in_table table-path table-delta rows (a.up, a.pasts) s m in
-        let g = blocks-found by_number by_text number_of file_path files_of frozen_of in_change change-number change-path changes (a.upward, a.files) t n in
+        let g = blocks-found by_number by_text number_of_change file_path files_of frozen_of in_change change-number change-path changes (a.upward, a.files) t n in
         never-both f.0 f.1 g.0 g.1 (sym f.2 ∙ same ∙ g.2))
     where
       never-both : (p : List ℕ) (d : ℕ) (n : ℕ) (q : List ℕ) → in_table p d ≡ in_change n q → ⊥

@@ -19,7 +19,7 @@ use Rattle.ae_types.specs.declared.project.Project.{Project}
 use Rattle.ae_types.specs.declared.version.VersionRef.{VersionRef}
 use Rattle.ae_types.specs.Ordered.{itself, ascends}
 use Rattle.ae_types.specs.Phases.{is_awaiting_development, is_reviewed, may_be_reviewing, has_integrator, holds_locks, is_remove}
-use Rattle.ae_types.specs.Found.{number_of, file_path, row_path, entry_delta, delta_number, delta_in, has_number, change_in, if_there}
+use Rattle.ae_types.specs.Found.{number_of_change, file_path, row_path, entry_delta, number_of_delta, delta_in, has_number, change_in, if_there}
 use Rattle.ae_types.specs.Trees.{text_cmp, tree_at, paths_of}
 use Rattle.ae_types.specs.Runs.{run_cmp, run_of, RunKey}
 use Rattle.ae_types.specs.Clashes.{none_clash}
@@ -54,22 +54,22 @@ facts-differ (u ∷ us) h = λ i. all us h.0 i && facts-differ us h.1 i
 
 -- ---- the project
 
-counted-above : (k first : ℕ) (deltas : List DeltaRow) → k < first → counts_up first (map delta_number deltas) ≡ true → Above by_number delta_number k deltas
+counted-above : (k first : ℕ) (deltas : List DeltaRow) → k < first → counts_up first (map number_of_delta deltas) ≡ true → Above by_number number_of_delta k deltas
 counted-above k first [] h e = tt
 counted-above k first (d ∷ ds) h e =
-    let a = and2 (nat_eq first d.delta) (counts_up (first + 1) (map delta_number ds)) e in
+    let a = and2 (nat_eq first d.delta) (counts_up (first + 1) (map number_of_delta ds)) e in
     let is = eqb-true first d.delta a.0 in
     (less k d.delta (omega (arith, h, is)), counted-above k (first + 1) ds (omega (arith, h)) a.1)
 
-counted-ascend : (first : ℕ) (deltas : List DeltaRow) → counts_up first (map delta_number deltas) ≡ true → Ascends by_number delta_number deltas
+counted-ascend : (first : ℕ) (deltas : List DeltaRow) → counts_up first (map number_of_delta deltas) ≡ true → Ascends by_number number_of_delta deltas
 counted-ascend first [] e = tt
 counted-ascend first (d ∷ ds) e =
-    let a = and2 (nat_eq first d.delta) (counts_up (first + 1) (map delta_number ds)) e in
+    let a = and2 (nat_eq first d.delta) (counts_up (first + 1) (map number_of_delta ds)) e in
     let is = eqb-true first d.delta a.0 in
     (counted-above d.delta (first + 1) ds (omega (arith, is)) a.1, counted-ascend (first + 1) ds a.1)
 
 -- deltas that are numbered 1, 2 and on ascend
-pub deltas-ascend : (deltas : List DeltaRow) → deltas_are_numbered deltas ≡ true → Ascends by_number delta_number deltas
+pub deltas-ascend : (deltas : List DeltaRow) → deltas_are_numbered deltas ≡ true → Ascends by_number number_of_delta deltas
 deltas-ascend deltas e = counted-ascend 1 deltas e
 
 role-facts : (users : List (List ℕ)) → role_is_good users ≡ true → IsGoodRole users
@@ -88,7 +88,7 @@ project-facts p ns e =
       administrator = below 0 (length p.administrators) a.1;
       numbers_ascend = test-ascends by_number itself ns a.2;
       numbered = a.3;
-      moments = λ n d found. most d.when 4102444799 (all-found by_number delta_number (λ (d : DeltaRow). is_moment d.when) p.deltas a.4 n d found);
+      moments = λ n d found. most d.when 4102444799 (all-found by_number number_of_delta (λ (d : DeltaRow). is_moment d.when) p.deltas a.4 n d found);
       next = (most 1 p.next_version n.0, most p.next_version 4611686018427388904 n.1)
     }
   where
@@ -104,7 +104,7 @@ facts-project p ns g = λ i. roles i && is-below 0 (length p.administrators) g.a
     roles : roles_are_good p ≡ true
     roles = λ i. facts-role p.administrators (g.roles Administrator) i && facts-role p.developers (g.roles Developer) i && facts-role p.reviewers (g.roles Reviewer) i && facts-role p.integrators (g.roles Integrator) i
     moments : deltas_have_moments p.deltas ≡ true
-    moments = found-all by_number delta_number (λ (d : DeltaRow). is_moment d.when) p.deltas (deltas-ascend p.deltas g.numbered) (λ n d found. is-most d.when 4102444799 (g.moments n d found))
+    moments = found-all by_number number_of_delta (λ (d : DeltaRow). is_moment d.when) p.deltas (deltas-ascend p.deltas g.numbered) (λ n d found. is-most d.when 4102444799 (g.moments n d found))
     next : next_version_is_good p.next_version ≡ true
     next = λ i. is-most 1 p.next_version g.next.0 i && is-most p.next_version 4611686018427388904 g.next.1 i
 
@@ -230,16 +230,16 @@ facts-change x g = λ i. is-most (length x.files) 1000 g.files.few i && ascends-
     frozen : list_all (version_fits x.phase) x.files ≡ true
     frozen = found-all by_text file_path (version_fits x.phase) x.files g.files.ascend (λ q f found. is-same (is_some f.frozen) (holds_locks x.phase && not (is_remove f.action)) (g.files.frozen q f found))
 
-pub changes-facts : (numbers : List ℕ) (changes : List Change) → ascends nat_cmp number_of changes ≡ true → list_all (is_change_of numbers) changes ≡ true → AreChanges numbers changes
+pub changes-facts : (numbers : List ℕ) (changes : List Change) → ascends nat_cmp number_of_change changes ≡ true → list_all (is_change_of numbers) changes ≡ true → AreChanges numbers changes
 changes-facts ns xs up e = record {
-      ascend = test-ascends by_number number_of xs up;
-      numbered = λ n x found. ap (has_number ns) (sym (found-key by_number number_of n xs x found)) ∙ (both n x found).0;
+      ascend = test-ascends by_number number_of_change xs up;
+      numbered = λ n x found. ap (has_number ns) (sym (found-key by_number number_of_change n xs x found)) ∙ (both n x found).0;
       good = λ n x found. change-facts x (both n x found).1
     }
   where
     both : (n : ℕ) (x : Change) → change_in xs n ≡ Some x → (has_number ns x.number ≡ true) × (change_is_good x ≡ true)
-    both n x found = and2 (has_number ns x.number) (change_is_good x) (all-found by_number number_of (is_change_of ns) xs e n x found)
+    both n x found = and2 (has_number ns x.number) (change_is_good x) (all-found by_number number_of_change (is_change_of ns) xs e n x found)
 
 pub facts-changes : (numbers : List ℕ) (changes : List Change) → AreChanges numbers changes → list_all (is_change_of numbers) changes ≡ true
-facts-changes ns xs g = found-all by_number number_of (is_change_of ns) xs g.ascend (λ n x found i.
-    (ap (has_number ns) (found-key by_number number_of n xs x found) ∙ g.numbered n x found) i && facts-change x (g.good n x found) i)
+facts-changes ns xs g = found-all by_number number_of_change (is_change_of ns) xs g.ascend (λ n x found i.
+    (ap (has_number ns) (found-key by_number number_of_change n xs x found) ∙ g.numbered n x found) i && facts-change x (g.good n x found) i)

@@ -9,7 +9,7 @@ use Rattle.ae_types.specs.declared.blame.Blame.TheVariants as blame
 use Rattle.ae_types.specs.declared.change.Change.{Change}
 use Rattle.ae_types.specs.Observation.{Observation}
 use Rattle.ae_types.specs.Ordered.{ascends}
-use Rattle.ae_types.specs.Found.{number_of}
+use Rattle.ae_types.specs.Found.{number_of_change}
 use Rattle.ae_types.specs.Versions.{live}
 use Rattle.ae_types.specs.Rules.{blamed, blame_unless, bad_change, is_change_of, project_is_good, files_are_good, project_fits_changes, files_fit_changes, integration_fits, deltas_fit, versions_fit, entries_fit, locks_fit, candidate_fits}
 use Rattle.ae_types.specs.Sound.{Sound, AreRows, AreChanges}
@@ -34,7 +34,7 @@ no-change : (v rest : Option Blame) → option_or v rest ≡ None → (v ≡ Non
 no-change None rest e = (refl, e)
 no-change (Some name) rest e = cc
 
-none-bad : (numbers : List ℕ) (changes : List Change) → bad_change numbers changes ≡ None → list_all (is_change_of numbers) changes ≡ true
+pub none-bad : (numbers : List ℕ) (changes : List Change) → bad_change numbers changes ≡ None → list_all (is_change_of numbers) changes ≡ true
 none-bad ns [] e = refl
 none-bad ns (x ∷ xs) e = go (is_change_of ns x) e (none-bad ns xs)
   where
@@ -60,12 +60,12 @@ in-order n o r c = record {
 
 pub blamed-sound : (o : Observation) → blamed o ≡ None → Sound o
 blamed-sound o e =
-    let a = none-blamed (project_is_good o.project o.numbers && ascends nat_cmp number_of o.changes) blame.Project _ e in
+    let a = none-blamed (project_is_good o.project o.numbers && ascends nat_cmp number_of_change o.changes) blame.Project _ e in
     let b = none-blamed (files_are_good (length o.project.deltas) o.files) blame.Files _ a.1 in
     let c = no-change (bad_change o.numbers o.changes) _ b.1 in
     let d = none-blamed (project_fits_changes o) blame.Project _ c.1 in
     let f = last-blamed (files_fit_changes o) blame.Files d.1 in
-    let p = and2 (project_is_good o.project o.numbers) (ascends nat_cmp number_of o.changes) a.0 in
+    let p = and2 (project_is_good o.project o.numbers) (ascends nat_cmp number_of_change o.changes) a.0 in
     let q = and3 (integration_fits (length o.project.deltas) o.changes) (deltas_fit o.project.deltas o.numbers o.changes) (versions_fit o.project.next_version (live o.files o.changes)) d.0 in
     let r = and3 (entries_fit o.project.deltas o.files o.changes) (locks_fit o.numbers o.locks o.changes) (list_all (candidate_fits (length o.project.deltas) o.files) o.changes) f in
     let rows = rows-facts (length o.project.deltas) o.files b.0 in
@@ -90,8 +90,8 @@ sound-blamed o s =
     ∙ ap (λ b. option_or (blame_unless b blame.Project) (blame_unless (files_fit_changes o) blame.Files)) fourth
     ∙ ap (λ b. blame_unless b blame.Files) fifth
   where
-    first : (project_is_good o.project o.numbers && ascends nat_cmp number_of o.changes) ≡ true
-    first = λ i. facts-project o.project o.numbers s.project i && ascends-test by_number number_of o.changes s.changes.ascend i
+    first : (project_is_good o.project o.numbers && ascends nat_cmp number_of_change o.changes) ≡ true
+    first = λ i. facts-project o.project o.numbers s.project i && ascends-test by_number number_of_change o.changes s.changes.ascend i
     fourth : project_fits_changes o ≡ true
     fourth = λ i. facts-integrating (length o.project.deltas) o.changes s.changes.ascend s.integrating i
       && facts-deltas o.project.deltas o.numbers o.changes (deltas-ascend o.project.deltas s.project.numbered) s.changes.ascend s.deltas i

@@ -14,7 +14,7 @@ use Rattle.ae_types.specs.declared.project.DeltaRow.{DeltaRow}
 use Rattle.ae_types.specs.declared.version.VersionRef.{VersionRef}
 use Rattle.ae_types.specs.Ordered.{ascends}
 use Rattle.ae_types.specs.Phases.{is_integrating, is_completed, holds_locks, is_remove}
-use Rattle.ae_types.specs.Found.{number_of, file_path, row_path, entry_delta, lock_path, delta_number, change_in, file_in, row_in, entry_in, lock_in, delta_in, delta_of, has_number, has_file, is_there, if_there}
+use Rattle.ae_types.specs.Found.{number_of_change, file_path, row_path, entry_delta, lock_path, number_of_delta, change_in, file_in, row_in, entry_in, lock_in, delta_in, delta_of, has_number, has_file, there_and, if_there}
 use Rattle.ae_types.specs.Trees.{text_cmp, tree_at, overlaid, paths_of}
 use Rattle.ae_types.specs.Clashes.{none_clash, NoneClash}
 use Rattle.ae_types.specs.Versions.{Place, version_at, live, has_units, end_of, meet, same_number, no_two}
@@ -37,7 +37,7 @@ no-one : (xs : List Change) (n : ℕ) → (nat_eq (length (integrating xs)) 0 ||
 no-one xs n e x m is = go (nat_eq (length (integrating xs)) 0) refl e
   where
     some : 0 < length (integrating xs)
-    some = counted-some by_number number_of integrates xs (there xs m)
+    some = counted-some by_number number_of_change integrates xs (there xs m)
       where
         there : (xs : List Change) → In xs x → is_some (find integrates xs) ≡ true
         there [] m = absurd m
@@ -56,16 +56,16 @@ integrating-facts n xs e =
     let a = and2 (nat_le (length (integrating xs)) 1) (nat_eq (length (integrating xs)) 0 || nat_lt n 1990) e in
     record {
       one = λ m k x y fx fy ix iy.
-        let same = few-one by_number number_of integrates xs (most (length (integrating xs)) 1 a.0) x y (found-in by_number number_of xs m x fx) (found-in by_number number_of xs k y fy) ix iy in
-        sym (found-key by_number number_of m xs x fx) ∙ ap number_of same ∙ found-key by_number number_of k xs y fy;
-      room = λ k x found is. no-one xs n a.1 x (found-in by_number number_of xs k x found) is
+        let same = few-one by_number number_of_change integrates xs (most (length (integrating xs)) 1 a.0) x y (found-in by_number number_of_change xs m x fx) (found-in by_number number_of_change xs k y fy) ix iy in
+        sym (found-key by_number number_of_change m xs x fx) ∙ ap number_of_change same ∙ found-key by_number number_of_change k xs y fy;
+      room = λ k x found is. no-one xs n a.1 x (found-in by_number number_of_change xs k x found) is
     }
 
-pub facts-integrating : (deltas : ℕ) (changes : List Change) → Ascends by_number number_of changes → IsIntegrating deltas changes → integration_fits deltas changes ≡ true
+pub facts-integrating : (deltas : ℕ) (changes : List Change) → Ascends by_number number_of_change changes → IsIntegrating deltas changes → integration_fits deltas changes ≡ true
 facts-integrating n xs up g = λ i. is-most (length (integrating xs)) 1 one i && room (find integrates xs) refl i
   where
     one : length (integrating xs) ≤ 1
-    one = one-few by_number number_of integrates xs up (λ x y m k ix iy. g.one x.number y.number x y (in-found by_number number_of xs up x m) (in-found by_number number_of xs up y k) ix iy)
+    one = one-few by_number number_of_change integrates xs up (λ x y m k ix iy. g.one x.number y.number x y (in-found by_number number_of_change xs up x m) (in-found by_number number_of_change xs up y k) ix iy)
     none : (xs : List Change) → find integrates xs ≡ None → length (integrating xs) ≡ 0
     none [] e = refl
     none (x ∷ xs) e = go (integrates x) e (none xs)
@@ -88,7 +88,7 @@ facts-integrating n xs up g = λ i. is-most (length (integrating xs)) 1 one i &&
     or-true false = refl
     room : (v : Option Change) → find integrates xs ≡ v → (nat_eq (length (integrating xs)) 0 || nat_lt n 1990) ≡ true
     room None e = ap (λ k. nat_eq k 0 || nat_lt n 1990) (none xs e)
-    room (Some x) e = let f = first xs x e in ap (λ b. nat_eq (length (integrating xs)) 0 || b) (is-below n 1990 (g.room x.number x (in-found by_number number_of xs up x f.0) f.1)) ∙ or-true (nat_eq (length (integrating xs)) 0)
+    room (Some x) e = let f = first xs x e in ap (λ b. nat_eq (length (integrating xs)) 0 || b) (is-below n 1990 (g.room x.number x (in-found by_number number_of_change xs up x f.0) f.1)) ∙ or-true (nat_eq (length (integrating xs)) 0)
 
 -- ---- deltas
 
@@ -101,37 +101,37 @@ deltas-facts ds ns xs e = record {
       completed = λ n d found. to-if (λ (x : Change). is_completed x.phase ≡ true) (change_in xs d.change) (if-found (change_in xs d.change) (λ x. is_completed x.phase) (delta n d found).1);
       once = λ m n d f fd ff same loaded.
         let x = some-found (change_in xs d.change) loaded in
-        let key = found-key by_number number_of d.change xs x.0 x.1 in
+        let key = found-key by_number number_of_change d.change xs x.0 x.1 in
         let t = (change d.change x.0 x.1).0 in
-        let is = few-one by_number delta_number (names x.0) ds (most (length (naming ds x.0)) 1 t) d f (found-in by_number delta_number ds m d fd) (found-in by_number delta_number ds n f ff)
+        let is = few-one by_number number_of_delta (names x.0) ds (most (length (naming ds x.0)) 1 t) d f (found-in by_number number_of_delta ds m d fd) (found-in by_number number_of_delta ds n f ff)
               (ap (λ k. nat_eq k d.change) key ∙ by_number.same_self d.change) (ap (λ k. nat_eq k f.change) (key ∙ same) ∙ by_number.same_self f.change) in
-        sym (found-key by_number delta_number m ds d fd) ∙ ap delta_number is ∙ found-key by_number delta_number n ds f ff;
-      named = λ n x found done. ap (λ k. is_some (delta_of ds k)) (sym (found-key by_number number_of n xs x found))
-        ∙ some-counted by_number delta_number (names x) ds (below 0 (length (naming ds x)) (where-so (is_completed x.phase) (nat_lt 0 (length (naming ds x))) (change n x found).1 done))
+        sym (found-key by_number number_of_delta m ds d fd) ∙ ap number_of_delta is ∙ found-key by_number number_of_delta n ds f ff;
+      named = λ n x found done. ap (λ k. is_some (delta_of ds k)) (sym (found-key by_number number_of_change n xs x found))
+        ∙ some-counted by_number number_of_delta (names x) ds (below 0 (length (naming ds x)) (where-so (is_completed x.phase) (nat_lt 0 (length (naming ds x))) (change n x found).1 done))
     }
   where
     a : (list_all (delta_has_change ns xs) ds ≡ true) × (list_all (change_has_delta ds) xs ≡ true)
     a = and2 (list_all (delta_has_change ns xs) ds) (list_all (change_has_delta ds) xs) e
     delta : (n : ℕ) (d : DeltaRow) → delta_in ds n ≡ Some d → (has_number ns d.change ≡ true) × (if_there (change_in xs d.change) (λ x. is_completed x.phase) ≡ true)
-    delta n d found = and2 (has_number ns d.change) (if_there (change_in xs d.change) (λ x. is_completed x.phase)) (all-found by_number delta_number (delta_has_change ns xs) ds a.0 n d found)
+    delta n d found = and2 (has_number ns d.change) (if_there (change_in xs d.change) (λ x. is_completed x.phase)) (all-found by_number number_of_delta (delta_has_change ns xs) ds a.0 n d found)
     change : (n : ℕ) (x : Change) → change_in xs n ≡ Some x → (nat_le (length (naming ds x)) 1 ≡ true) × ((not (is_completed x.phase) || nat_lt 0 (length (naming ds x))) ≡ true)
-    change n x found = and2 (nat_le (length (naming ds x)) 1) (not (is_completed x.phase) || nat_lt 0 (length (naming ds x))) (all-found by_number number_of (change_has_delta ds) xs a.1 n x found)
+    change n x found = and2 (nat_le (length (naming ds x)) 1) (not (is_completed x.phase) || nat_lt 0 (length (naming ds x))) (all-found by_number number_of_change (change_has_delta ds) xs a.1 n x found)
 
-pub facts-deltas : (deltas : List DeltaRow) (numbers : List ℕ) (changes : List Change) → Ascends by_number delta_number deltas → Ascends by_number number_of changes → AreDeltas deltas numbers changes → deltas_fit deltas numbers changes ≡ true
+pub facts-deltas : (deltas : List DeltaRow) (numbers : List ℕ) (changes : List Change) → Ascends by_number number_of_delta deltas → Ascends by_number number_of_change changes → AreDeltas deltas numbers changes → deltas_fit deltas numbers changes ≡ true
 facts-deltas ds ns xs up upward g = λ i. delta i && change i
   where
     delta : list_all (delta_has_change ns xs) ds ≡ true
-    delta = found-all by_number delta_number (delta_has_change ns xs) ds up (λ n d found i. g.numbered n d found i
+    delta = found-all by_number number_of_delta (delta_has_change ns xs) ds up (λ n d found i. g.numbered n d found i
       && found-if (change_in xs d.change) (λ x. is_completed x.phase) (λ x is. from-if (λ (x : Change). is_completed x.phase ≡ true) (change_in xs d.change) (g.completed n d found) x is) i)
     one : (n : ℕ) (x : Change) → change_in xs n ≡ Some x → length (naming ds x) ≤ 1
-    one n x found = one-few by_number delta_number (names x) ds up (λ d f m k nd nf.
+    one n x found = one-few by_number number_of_delta (names x) ds up (λ d f m k nd nf.
       let c = sym (eqb-true x.number d.change nd) in
-      g.once d.delta f.delta d f (in-found by_number delta_number ds up d m) (in-found by_number delta_number ds up f k) (c ∙ eqb-true x.number f.change nf)
-        (found-some (change_in xs d.change) x (ap (change_in xs) (c ∙ found-key by_number number_of n xs x found) ∙ found)))
+      g.once d.delta f.delta d f (in-found by_number number_of_delta ds up d m) (in-found by_number number_of_delta ds up f k) (c ∙ eqb-true x.number f.change nf)
+        (found-some (change_in xs d.change) x (ap (change_in xs) (c ∙ found-key by_number number_of_change n xs x found) ∙ found)))
     change : list_all (change_has_delta ds) xs ≡ true
-    change = found-all by_number number_of (change_has_delta ds) xs upward (λ n x found i. is-most (length (naming ds x)) 1 (one n x found) i
-      && so-where (is_completed x.phase) (nat_lt 0 (length (naming ds x))) (λ done. is-below 0 (length (naming ds x)) (counted-some by_number delta_number (names x) ds
-           (ap (λ k. is_some (delta_of ds k)) (found-key by_number number_of n xs x found) ∙ g.named n x found done))) i)
+    change = found-all by_number number_of_change (change_has_delta ds) xs upward (λ n x found i. is-most (length (naming ds x)) 1 (one n x found) i
+      && so-where (is_completed x.phase) (nat_lt 0 (length (naming ds x))) (λ done. is-below 0 (length (naming ds x)) (counted-some by_number number_of_delta (names x) ds
+           (ap (λ k. is_some (delta_of ds k)) (found-key by_number number_of_change n xs x found) ∙ g.named n x found done))) i)
 
 -- ---- versions
 
@@ -202,10 +202,10 @@ is_entry file entry = is_some entry.version ≡ not (is_remove file.action)
 pub entries-facts : (deltas : List DeltaRow) (rows : List FileRow) (changes : List Change) → entries_fit deltas rows changes ≡ true → AreEntries deltas rows changes
 entries-facts ds rows xs e n d found x loaded = record {
       entered = λ p f ff.
-        let t = there-found (row_in rows f.path) (λ row. is_there (entry_in row.past d.delta) (fits_action f)) (all-found by_text file_path (file_is_entered rows d.delta) x.files (if-found (change_in xs d.change) (λ x. list_all (file_is_entered rows d.delta) x.files) (all-found by_number delta_number (delta_is_entered rows xs) ds a.0 n d found) x loaded) p f ff) in
+        let t = there-found (row_in rows f.path) (λ row. there_and (entry_in row.past d.delta) (fits_action f)) (all-found by_text file_path (file_is_entered rows d.delta) x.files (if-found (change_in xs d.change) (λ x. list_all (file_is_entered rows d.delta) x.files) (all-found by_number number_of_delta (delta_is_entered rows xs) ds a.0 n d found) x loaded) p f ff) in
         let y = there-found (entry_in t.0.past d.delta) (fits_action f) t.2 in
         to-is (λ (row : FileRow). IsSomeAnd (entry_in row.past n) (is_entry f)) (row_in rows p) t.0 (ap (row_in rows) (sym (found-key by_text file_path p x.files f ff)) ∙ t.1)
-          (to-is (is_entry f) (entry_in t.0.past n) y.0 (ap (entry_in t.0.past) (sym (found-key by_number delta_number n ds d found)) ∙ y.1) (same-is (is_some y.0.version) (not (is_remove f.action)) y.2));
+          (to-is (is_entry f) (entry_in t.0.past n) y.0 (ap (entry_in t.0.past) (sym (found-key by_number number_of_delta n ds d found)) ∙ y.1) (same-is (is_some y.0.version) (not (is_remove f.action)) y.2));
       no_other = λ p r y fr fy.
         let t = all-found by_number entry_delta (entry_has_file ds xs r.path) r.past (all-found by_text row_path (λ (row : FileRow). list_all (entry_has_file ds xs row.path) row.past) rows a.1 p r fr) n y fy in
         let there = if-found (delta_in ds y.delta) (λ delta. if_there (change_in xs delta.change) (λ change. has_file change r.path)) t d (ap (delta_in ds) (found-key by_number entry_delta n r.past y fy) ∙ found) in
@@ -215,11 +215,11 @@ entries-facts ds rows xs e n d found x loaded = record {
     a : (list_all (delta_is_entered rows xs) ds ≡ true) × (list_all (λ (row : FileRow). list_all (entry_has_file ds xs row.path) row.past) rows ≡ true)
     a = and2 (list_all (delta_is_entered rows xs) ds) (list_all (λ (row : FileRow). list_all (entry_has_file ds xs row.path) row.past) rows) e
 
-pub facts-entries : (deltas : List DeltaRow) (rows : List FileRow) (changes : List Change) → Ascends by_number delta_number deltas
+pub facts-entries : (deltas : List DeltaRow) (rows : List FileRow) (changes : List Change) → Ascends by_number number_of_delta deltas
     → Ascends by_text row_path rows → ((p : List ℕ) (r : FileRow) → row_in rows p ≡ Some r → Ascends by_number entry_delta r.past)
     → ((n : ℕ) (x : Change) → change_in changes n ≡ Some x → Ascends by_text file_path x.files) → AreEntries deltas rows changes → entries_fit deltas rows changes ≡ true
 facts-entries ds rows xs up rise pasts files g = λ i.
-    found-all by_number delta_number (delta_is_entered rows xs) ds up (λ n d found. found-if (change_in xs d.change) (λ x. list_all (file_is_entered rows d.delta) x.files) (λ x loaded.
+    found-all by_number number_of_delta (delta_is_entered rows xs) ds up (λ n d found. found-if (change_in xs d.change) (λ x. list_all (file_is_entered rows d.delta) x.files) (λ x loaded.
       found-all by_text file_path (file_is_entered rows d.delta) x.files (files d.change x loaded) (λ p f ff. entered n d found x loaded p f ff))) i
     && found-all by_text row_path (λ (row : FileRow). list_all (entry_has_file ds xs row.path) row.past) rows rise (λ p r fr.
       found-all by_number entry_delta (entry_has_file ds xs r.path) r.past (pasts p r fr) (λ n y fy.
@@ -232,8 +232,8 @@ facts-entries ds rows xs up rise pasts files g = λ i.
     entered n d found x loaded p f ff =
         let r = from-is (λ (row : FileRow). IsSomeAnd (entry_in row.past n) (is_entry f)) (row_in rows p) ((g n d found x loaded).entered p f ff) in
         let y = from-is (is_entry f) (entry_in r.0.past n) r.2 in
-        found-there (row_in rows f.path) (λ row. is_there (entry_in row.past d.delta) (fits_action f)) r.0 (ap (row_in rows) (found-key by_text file_path p x.files f ff) ∙ r.1)
-          (found-there (entry_in r.0.past d.delta) (fits_action f) y.0 (ap (entry_in r.0.past) (found-key by_number delta_number n ds d found) ∙ y.1) (is-same (is_some y.0.version) (not (is_remove f.action)) y.2))
+        found-there (row_in rows f.path) (λ row. there_and (entry_in row.past d.delta) (fits_action f)) r.0 (ap (row_in rows) (found-key by_text file_path p x.files f ff) ∙ r.1)
+          (found-there (entry_in r.0.past d.delta) (fits_action f) y.0 (ap (entry_in r.0.past) (found-key by_number number_of_delta n ds d found) ∙ y.1) (is-same (is_some y.0.version) (not (is_remove f.action)) y.2))
 
 -- ---- locks
 
@@ -250,7 +250,7 @@ abbrev of_change : Change → Lock → Bool
 of_change change lock = nat_eq lock.change change.number
 
 abbrev has_lock : List Lock → Change → ChangeFile → Bool
-has_lock locks change file = is_there (lock_in locks file.path) (of_change change)
+has_lock locks change file = there_and (lock_in locks file.path) (of_change change)
 
 pub locks-facts : (numbers : List ℕ) (locks : List Lock) (changes : List Change) → locks_fit numbers locks changes ≡ true → AreLocks numbers locks changes
 locks-facts ns ls xs e = record {
@@ -261,10 +261,10 @@ locks-facts ns ls xs e = record {
         (b.0, ap (has_file x) (sym (found-key by_text lock_path p ls l found)) ∙ b.1));
       taken = λ n x found holding p has.
         let f = some-found (file_in x.files p) has in
-        let t = all-found by_text file_path (has_lock ls x) x.files (where-so (holds_locks x.phase) (list_all (has_lock ls x) x.files) (all-found by_number number_of (files_have_locks ls) xs a.2 n x found) holding) p f.0 f.1 in
+        let t = all-found by_text file_path (has_lock ls x) x.files (where-so (holds_locks x.phase) (list_all (has_lock ls x) x.files) (all-found by_number number_of_change (files_have_locks ls) xs a.2 n x found) holding) p f.0 f.1 in
         let l = there-found (lock_in ls f.0.path) (of_change x) t in
         ap (λ q. option_map lock_change (lock_in ls q)) (sym (found-key by_text file_path p x.files f.0 f.1)) ∙ ap (option_map lock_change) l.1
-          ∙ ap (λ (m : ℕ). Some m) (eqb-true l.0.change x.number l.2 ∙ found-key by_number number_of n xs x found)
+          ∙ ap (λ (m : ℕ). Some m) (eqb-true l.0.change x.number l.2 ∙ found-key by_number number_of_change n xs x found)
     }
   where
     a : (ascends text_cmp lock_path ls ≡ true) × (list_all (lock_has_file ns xs) ls ≡ true) × (list_all (files_have_locks ls) xs ≡ true)
@@ -272,14 +272,14 @@ locks-facts ns ls xs e = record {
     lock : (p : List ℕ) (l : Lock) → lock_in ls p ≡ Some l → (has_number ns l.change ≡ true) × (if_there (change_in xs l.change) (holds l.path) ≡ true)
     lock p l found = and2 (has_number ns l.change) (if_there (change_in xs l.change) (holds l.path)) (all-found by_text lock_path (lock_has_file ns xs) ls a.1 p l found)
 
-pub facts-locks : (numbers : List ℕ) (locks : List Lock) (changes : List Change) → Ascends by_number number_of changes
+pub facts-locks : (numbers : List ℕ) (locks : List Lock) (changes : List Change) → Ascends by_number number_of_change changes
     → ((n : ℕ) (x : Change) → change_in changes n ≡ Some x → Ascends by_text file_path x.files) → AreLocks numbers locks changes → locks_fit numbers locks changes ≡ true
 facts-locks ns ls xs up files g = λ i. ascends-test by_text lock_path ls g.ascend i
     && found-all by_text lock_path (lock_has_file ns xs) ls g.ascend (λ p l found j. g.numbered p l found j
       && found-if (change_in xs l.change) (holds l.path) (λ x is.
         let b = from-if (Holds p) (change_in xs l.change) (g.held p l found) x is in
         λ k. b.0 k && (ap (has_file x) (found-key by_text lock_path p ls l found) ∙ b.1) k) j) i
-    && found-all by_number number_of (files_have_locks ls) xs up (λ n x found. so-where (holds_locks x.phase) (list_all (has_lock ls x) x.files) (λ holding.
+    && found-all by_number number_of_change (files_have_locks ls) xs up (λ n x found. so-where (holds_locks x.phase) (list_all (has_lock ls x) x.files) (λ holding.
       found-all by_text file_path (has_lock ls x) x.files (files n x found) (λ p f ff. taken n x found holding p f ff))) i
   where
     taken : (n : ℕ) (x : Change) → change_in xs n ≡ Some x → holds_locks x.phase ≡ true → (p : List ℕ) (f : ChangeFile) → file_in x.files p ≡ Some f → has_lock ls x f ≡ true
@@ -287,7 +287,7 @@ facts-locks ns ls xs up files g = λ i. ascends-test by_text lock_path ls g.asce
       where
         go : (v : Option Lock) → lock_in ls p ≡ v → option_map lock_change v ≡ Some n → has_lock ls x f ≡ true
         go (Some l) is e = found-there (lock_in ls f.path) (of_change x) l (ap (lock_in ls) (found-key by_text file_path p x.files f ff) ∙ is)
-            (ap (λ (m : ℕ). nat_eq m x.number) (some-is l.change n e ∙ sym (found-key by_number number_of n xs x found)) ∙ by_number.same_self x.number)
+            (ap (λ (m : ℕ). nat_eq m x.number) (some-is l.change n e ∙ sym (found-key by_number number_of_change n xs x found)) ∙ by_number.same_self x.number)
         go None is e = none-some n e
 
 -- ---- the candidate
@@ -296,7 +296,7 @@ abbrev candidate_paths : ℕ → List FileRow → Change → List (List ℕ)
 candidate_paths deltas rows change = paths_of (overlaid (tree_at deltas rows) change)
 
 pub candidate-facts : (deltas : ℕ) (rows : List FileRow) (changes : List Change) → list_all (candidate_fits deltas rows) changes ≡ true → EachChange changes (λ n x. is_integrating x.phase ≡ true → NoneClash (candidate_paths deltas rows x))
-candidate-facts n rows xs e k x found is = clash-facts (candidate_paths n rows x) (where-so (is_integrating x.phase) (none_clash (candidate_paths n rows x)) (all-found by_number number_of (candidate_fits n rows) xs e k x found) is)
+candidate-facts n rows xs e k x found is = clash-facts (candidate_paths n rows x) (where-so (is_integrating x.phase) (none_clash (candidate_paths n rows x)) (all-found by_number number_of_change (candidate_fits n rows) xs e k x found) is)
 
-pub facts-candidate : (deltas : ℕ) (rows : List FileRow) (changes : List Change) → Ascends by_number number_of changes → EachChange changes (λ n x. is_integrating x.phase ≡ true → NoneClash (candidate_paths deltas rows x)) → list_all (candidate_fits deltas rows) changes ≡ true
-facts-candidate n rows xs up h = found-all by_number number_of (candidate_fits n rows) xs up (λ k x found. so-where (is_integrating x.phase) (none_clash (candidate_paths n rows x)) (λ is. facts-clash (candidate_paths n rows x) (h k x found is)))
+pub facts-candidate : (deltas : ℕ) (rows : List FileRow) (changes : List Change) → Ascends by_number number_of_change changes → EachChange changes (λ n x. is_integrating x.phase ≡ true → NoneClash (candidate_paths deltas rows x)) → list_all (candidate_fits deltas rows) changes ≡ true
+facts-candidate n rows xs up h = found-all by_number number_of_change (candidate_fits n rows) xs up (λ k x found. so-where (is_integrating x.phase) (none_clash (candidate_paths n rows x)) (λ is. facts-clash (candidate_paths n rows x) (h k x found is)))

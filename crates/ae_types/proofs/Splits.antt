@@ -1,7 +1,7 @@
 -- What follows from tests of several parts, and from tests of what is found.
 use Rattle.std.proofs.Common.{◌≡◌, ℕ, ◌≤◌, ◌<◌, refl, sym, ◌∙◌, ap, Option, Some, None, Bool, true, false, ◌&&◌, ◌||◌, not, cond}
 use Rattle.std.specs.Prelude.{is_some, is_none, nat_le, nat_lt, IfSome, IsSomeAnd}
-use Rattle.ae_types.specs.Found.{is_there, if_there}
+use Rattle.ae_types.specs.Found.{there_and, if_there}
 use Rattle.ae_types.specs.Rules.{same_bool}
 
 pub never : {P : Type 0} → false ≡ true → P
@@ -75,12 +75,12 @@ is-below m n e = Rattle.std.proofs.lemmas.Bool.lt-ltb m n e
 
 -- ---- what is found
 
-pub there-found : {A : Type 0} (v : Option A) (t : A → Bool) → is_there v t ≡ true → (x : A) × (v ≡ Some x) × (t x ≡ true)
+pub there-found : {A : Type 0} (v : Option A) (t : A → Bool) → there_and v t ≡ true → (x : A) × (v ≡ Some x) × (t x ≡ true)
 there-found (Some x) t e = (x, refl, e)
 there-found None t e = never e
 
-pub found-there : {A : Type 0} (v : Option A) (t : A → Bool) (x : A) → v ≡ Some x → t x ≡ true → is_there v t ≡ true
-found-there v t x is e = ap (λ w. is_there w t) is ∙ e
+pub found-there : {A : Type 0} (v : Option A) (t : A → Bool) (x : A) → v ≡ Some x → t x ≡ true → there_and v t ≡ true
+found-there v t x is e = ap (λ w. there_and w t) is ∙ e
 
 pub if-found : {A : Type 0} (v : Option A) (t : A → Bool) → if_there v t ≡ true → (x : A) → v ≡ Some x → t x ≡ true
 if-found v t e x is = sym (ap (λ w. if_there w t) is) ∙ e

@@ -14,8 +14,8 @@ use Rattle.ae_types.specs.Observation.{Observation}
 
 -- ---- keys
 
-abbrev pub number_of : Change → ℕ
-number_of change = change.number
+abbrev pub number_of_change : Change → ℕ
+number_of_change change = change.number
 
 abbrev pub file_path : ChangeFile → List ℕ
 file_path file = file.path
@@ -29,14 +29,14 @@ entry_delta entry = entry.delta
 abbrev pub lock_path : Lock → List ℕ
 lock_path lock = lock.path
 
-abbrev pub delta_number : DeltaRow → ℕ
-delta_number delta = delta.delta
+abbrev pub number_of_delta : DeltaRow → ℕ
+number_of_delta delta = delta.delta
 
 -- ---- what they find
 
 -- the change of this number
 abbrev pub change_in : List Change → ℕ → Option Change
-change_in changes number = find (λ change. nat_eq number (number_of change)) changes
+change_in changes number = find (λ change. nat_eq number (number_of_change change)) changes
 
 -- the file of this path in a change
 abbrev pub file_in : List ChangeFile → List ℕ → Option ChangeFile
@@ -56,7 +56,7 @@ lock_in locks path = find (λ lock. bytes_eq path (lock_path lock)) locks
 
 -- the delta of this number
 abbrev pub delta_in : List DeltaRow → ℕ → Option DeltaRow
-delta_in deltas number = find (λ delta. nat_eq number (delta_number delta)) deltas
+delta_in deltas number = find (λ delta. nat_eq number (number_of_delta delta)) deltas
 
 -- the delta that names this change
 abbrev pub delta_of : List DeltaRow → ℕ → Option DeltaRow
@@ -82,9 +82,9 @@ locked_of o path = option_map (λ (lock : Lock). lock.change) (lock_in o.locks p
 -- ---- tests of what is found
 
 -- it is there, and passes
-abbrev pub is_there : {A : Type 0} → Option A → (A → Bool) → Bool
-is_there (Some found) test = test found
-is_there None test = false
+abbrev pub there_and : {A : Type 0} → Option A → (A → Bool) → Bool
+there_and (Some found) test = test found
+there_and None test = false
 
 -- it passes, where it is there
 abbrev pub if_there : {A : Type 0} → Option A → (A → Bool) → Bool

@@ -21,7 +21,7 @@ use Rattle.ae_types.specs.declared.version.VersionRef.{VersionRef}
 use Rattle.ae_types.specs.Observation.{Observation}
 use Rattle.ae_types.specs.Ordered.{ascends, itself}
 use Rattle.ae_types.specs.Phases.{is_awaiting_development, is_integrating, is_completed, is_reviewed, may_be_reviewing, has_integrator, holds_locks, is_remove}
-use Rattle.ae_types.specs.Found.{number_of, file_path, row_path, entry_delta, lock_path, change_in, file_in, row_in, entry_in, lock_in, delta_in, has_number, has_file, is_there, if_there}
+use Rattle.ae_types.specs.Found.{number_of_change, file_path, row_path, entry_delta, lock_path, change_in, file_in, row_in, entry_in, lock_in, delta_in, has_number, has_file, there_and, if_there}
 use Rattle.ae_types.specs.Trees.{text_cmp, tree_at, overlaid, paths_of}
 use Rattle.ae_types.specs.Runs.{run_cmp, run_of}
 use Rattle.ae_types.specs.Clashes.{none_clash}
@@ -197,7 +197,7 @@ project_fits_changes o =
 
 -- the path of the file has an entry of the delta, with no version exactly where it is removed
 abbrev pub file_is_entered : List FileRow → ℕ → ChangeFile → Bool
-file_is_entered rows delta file = is_there (row_in rows file.path) (λ row. is_there (entry_in row.past delta) (λ entry. same_bool (is_some entry.version) (not (is_remove file.action))))
+file_is_entered rows delta file = there_and (row_in rows file.path) (λ row. there_and (entry_in row.past delta) (λ entry. same_bool (is_some entry.version) (not (is_remove file.action))))
 
 -- each file of the delta's change is entered, where the change is looked at
 abbrev pub delta_is_entered : List FileRow → List Change → DeltaRow → Bool
@@ -217,7 +217,7 @@ lock_has_file numbers changes lock = has_number numbers lock.change && if_there 
 
 -- where the change holds its files, each has a lock of that change
 abbrev pub files_have_locks : List Lock → Change → Bool
-files_have_locks locks change = not (holds_locks change.phase) || list_all (λ (file : ChangeFile). is_there (lock_in locks file.path) (λ lock. nat_eq lock.change change.number)) change.files
+files_have_locks locks change = not (holds_locks change.phase) || list_all (λ (file : ChangeFile). there_and (lock_in locks file.path) (λ lock. nat_eq lock.change change.number)) change.files
 
 -- the locks are exactly the paths of the changes that hold their files, each once, with that change
 abbrev pub locks_fit : List ℕ → List Lock → List Change → Bool
@@ -246,7 +246,7 @@ bad_change numbers changes = option_map (λ (change : Change). blame.Change chan
 -- beside the changes; the changes stand in the order of their numbers
 abbrev pub blamed : Observation → Option Blame
 blamed o =
-    option_or (blame_unless (project_is_good o.project o.numbers && ascends nat_cmp number_of o.changes) blame.Project)
+    option_or (blame_unless (project_is_good o.project o.numbers && ascends nat_cmp number_of_change o.changes) blame.Project)
     (option_or (blame_unless (files_are_good (length o.project.deltas) o.files) blame.Files)
     (option_or (bad_change o.numbers o.changes)
     (option_or (blame_unless (project_fits_changes o) blame.Project)

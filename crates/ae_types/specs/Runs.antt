@@ -15,7 +15,7 @@ use Rattle.ae_types.specs.declared.change.ChangeFile.{ChangeFile}
 use Rattle.ae_types.specs.declared.change.Evidence.{Evidence}
 use Rattle.ae_types.specs.Observation.{Observation}
 use Rattle.ae_types.specs.Phases.{is_remove, is_test}
-use Rattle.ae_types.specs.Found.{has_file, is_there}
+use Rattle.ae_types.specs.Found.{has_file, there_and}
 use Rattle.ae_types.specs.Trees.{text_cmp, TreeRow, baseline_of}
 
 -- ---- what a run was of, and the order of the rows of evidence
@@ -115,7 +115,7 @@ counts digest run = nat_eq run.status (wanted run.kind) && run.clean && bytes_eq
 
 -- the latest run is there, and counts
 abbrev pub has_counting : Change → Ground → List ℕ → Needed → Bool
-has_counting change during digest run = is_there (latest_of change during run.kind run.path) (counts digest)
+has_counting change during digest run = there_and (latest_of change during run.kind run.path) (counts digest)
 
 abbrev pub path_or_empty : Option (List ℕ) → List ℕ
 path_or_empty (Some path) = path

@@ -18,7 +18,7 @@ use Rattle.ae_types.specs.declared.version.VersionRef.{VersionRef}
 use Rattle.ae_types.specs.Observation.{Observation}
 use Rattle.ae_types.specs.Ordered.{Ascends, itself}
 use Rattle.ae_types.specs.Phases.{is_awaiting_development, is_integrating, is_completed, is_reviewed, may_be_reviewing, has_integrator, holds_locks, is_remove}
-use Rattle.ae_types.specs.Found.{number_of, file_path, row_path, entry_delta, lock_path, change_in, file_in, row_in, entry_in, lock_in, delta_in, delta_of, has_number, has_file}
+use Rattle.ae_types.specs.Found.{number_of_change, file_path, row_path, entry_delta, lock_path, change_in, file_in, row_in, entry_in, lock_in, delta_in, delta_of, has_number, has_file}
 use Rattle.ae_types.specs.Trees.{text_cmp, tree_at, overlaid, paths_of}
 use Rattle.ae_types.specs.Runs.{RunKey, run_cmp, run_of, evidence_in}
 use Rattle.ae_types.specs.Roles.{users_of}
@@ -93,7 +93,7 @@ pub record IsGoodChange (change : Change) : Type 0 where
   pub history : All (λ (row : HistoryRow). IsMoment row.when) change.history
 
 pub record AreChanges (numbers : List ℕ) (changes : List Change) : Type 0 where
-  pub ascend : Ascends nat_cmp number_of changes
+  pub ascend : Ascends nat_cmp number_of_change changes
   pub numbered : EachChange changes (λ number change. has_number numbers number ≡ true)
   pub good : EachChange changes (λ number change. IsGoodChange change)
 

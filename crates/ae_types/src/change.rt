@@ -1,5 +1,5 @@
 // A change: its settings, phase, people, files, runs and history.
-ghost use Rattle.std.specs.Prelude.{◌≡◌, IfOk};
+ghost use Rattle.std.specs.Prelude.{◌≡◌, IfOk, option_copied};
 
 use crate::{Rows, TryCopy, VersionRef};
 use ae_base::{Action, Cause, ChangeNo, Ground, Kind, Path, Phase, Text, Usage, User, What};
@@ -78,8 +78,8 @@ pub struct Change {
 pub type ChangeList = Rows<Change>;
 
 // an equal user, or nobody
-fn copy_user(user: &Option<User>, alloc: Global) -> Result<Option<User>, AllocError>
-    ensures { IfOk result (λ copy. copy ≡ user.now) }
+fn copy_user(user: Option<&User>, alloc: Global) -> Result<Option<User>, AllocError>
+    ensures { IfOk result (λ copy. copy ≡ option_copied user.entry) }
 {
     match user {
         Some(user) => Ok(Some(user.copy(alloc)?)),
@@ -88,8 +88,8 @@ fn copy_user(user: &Option<User>, alloc: Global) -> Result<Option<User>, AllocEr
 }
 
 // an equal path, or none
-fn copy_path(path: &Option<Path>, alloc: Global) -> Result<Option<Path>, AllocError>
-    ensures { IfOk result (λ copy. copy ≡ path.now) }
+fn copy_path(path: Option<&Path>, alloc: Global) -> Result<Option<Path>, AllocError>
+    ensures { IfOk result (λ copy. copy ≡ option_copied path.entry) }
 {
     match path {
         Some(path) => Ok(Some(path.copy(alloc)?)),
@@ -114,7 +114,7 @@ impl TryCopy for Evidence {
         Ok(Evidence {
             during: self.during,
             kind: self.kind,
-            path: copy_path(&self.path, alloc)?,
+            path: copy_path(self.path.as_ref(), alloc)?,
             status: self.status,
             clean: self.clean,
             subject: self.subject,
@@ -153,10 +153,10 @@ impl TryCopy for Change {
             number: self.number,
             attributes: self.attributes.copy(alloc)?,
             phase: self.phase,
-            developer: copy_user(&self.developer, alloc)?,
-            reviewing: copy_user(&self.reviewing, alloc)?,
-            reviewer: copy_user(&self.reviewer, alloc)?,
-            integrator: copy_user(&self.integrator, alloc)?,
+            developer: copy_user(self.developer.as_ref(), alloc)?,
+            reviewing: copy_user(self.reviewing.as_ref(), alloc)?,
+            reviewer: copy_user(self.reviewer.as_ref(), alloc)?,
+            integrator: copy_user(self.integrator.as_ref(), alloc)?,
             files: self.files.copy(alloc)?,
             evidence: self.evidence.copy(alloc)?,
             history: self.history.copy(alloc)?,

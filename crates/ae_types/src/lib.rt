@@ -23,3 +23,6 @@ pub use project::{Attributes, DeltaList, DeltaRow, EndAction, NumberList, Projec
 pub use rows::{Rows, TryCopy};
 pub use state::{Parts, State};
 pub use version::VersionRef;
+
+#[cfg(test)]
+mod tests;

@@ -2,7 +2,7 @@
 ghost use Rattle.std.specs.Prelude.{◌≡◌, option_copied};
 ghost use Rattle.std.specs.Ordering.{nat_cmp};
 ghost use Rattle.ae_types.specs.Ordered.{Ascends, itself};
-ghost use Rattle.ae_types.specs.Found.{number_of, file_path, row_path, entry_delta, lock_path, delta_number, change_in, file_in, row_in, entry_in, lock_in, delta_in, has_number};
+ghost use Rattle.ae_types.specs.Found.{number_of_change, file_path, row_path, entry_delta, lock_path, number_of_delta, change_in, file_in, row_in, entry_in, lock_in, delta_in, has_number};
 ghost use Rattle.ae_types.specs.Trees.{text_cmp};
 
 use crate::{Change, ChangeFile, DeltaRow, FileRow, FileVersion, Lock};
@@ -73,7 +73,7 @@ pub fn file_in<'a>(files: &'a [ChangeFile], path: &[u8]) -> Option<&'a ChangeFil
 
 /// The change of this number. The changes ascend.
 pub fn change_in<'a>(changes: &'a [Change], number: ChangeNo) -> Option<&'a Change>
-    requires { Ascends nat_cmp number_of changes.now }
+    requires { Ascends nat_cmp number_of_change changes.now }
     ensures { option_copied result ≡ change_in changes.now number }
 {
     match changes.binary_search_by(|change| compare_change(change.number, number)) {
@@ -84,7 +84,7 @@ pub fn change_in<'a>(changes: &'a [Change], number: ChangeNo) -> Option<&'a Chan
 
 /// The delta of this number. The deltas ascend.
 pub fn delta_in<'a>(deltas: &'a [DeltaRow], number: Delta) -> Option<&'a DeltaRow>
-    requires { Ascends nat_cmp delta_number deltas.now }
+    requires { Ascends nat_cmp number_of_delta deltas.now }
     ensures { option_copied result ≡ delta_in deltas.now number }
 {
     match deltas.binary_search_by(|delta| compare_delta(delta.delta, number)) {
@@ -98,8 +98,7 @@ pub fn has_number(numbers: &[ChangeNo], number: ChangeNo) -> bool
     requires { Ascends nat_cmp itself numbers.now }
     ensures { result ≡ has_number numbers.now number }
 {
-    match numbers.binary_search_by(|other| compare_change(*other, number)) {
-        Ok(_) => true,
-        Err(_) => false,
-    }
+    numbers
+        .binary_search_by(|other| compare_change(*other, number))
+        .is_ok()
 }

@@ -3,9 +3,9 @@ use Rattle.std.proofs.lemmas.Fn.{always_returns_same}
 use Rattle.std.proofs.lemmas.List.Sorted.{IsNonDecreasingBy-from_sort_by_key}
 use Rattle.ae_types.specs.declared.version.VersionRef.{VersionRef}
 use Rattle.ae_rules.proofs.Adjacent.{adjacent-next}
-use Rattle.ae_rules.proofs.VersionsApart.{number_of, numbered_before, numbers-sorted}
+use Rattle.ae_rules.proofs.VersionsApart.{version_number, numbered_before, numbers-sorted}
 use Rattle.ae_rules.proofs.versions.numbers_differ.Goals as goal
 
 pub returns : goal.returns
 returns c = adjacent-next numbered_before _ c.is_sorted_by.result (c.is_sorted_by.ensures.cases numbered_before (always_returns_same _ _ _ (λ a r f' called. search rules)))
-    ∙ numbers-sorted c.args.versions.now _ c.sort_unstable_by_key.ensures.permutation (IsNonDecreasingBy-from_sort_by_key number_of _ c.sort_unstable_by_key.ensures.sorted (λ a r f' called. search rules))
+    ∙ numbers-sorted c.args.versions.now _ c.sort_unstable_by_key.ensures.permutation (IsNonDecreasingBy-from_sort_by_key version_number _ c.sort_unstable_by_key.ensures.sorted (λ a r f' called. search rules))
