@@ -1,1 +1,4 @@
 pub mod Places
+pub mod RowLists
+pub mod Texts
+pub mod Fine

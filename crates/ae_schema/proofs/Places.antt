@@ -1,7 +1,10 @@
 -- The first wrong place of a list of fields.
-use Rattle.std.proofs.Common.{◌≡◌, ◌≤◌, ◌<◌, ℕ, zero, suc, ◌+◌, List, [], ◌∷◌, ◌++◌, length, map, drop, refl, sym, ap, ◌∙◌, subst, arith}
+use Rattle.std.proofs.Common.{◌≡◌, ◌≤◌, ◌<◌, ℕ, zero, suc, ◌+◌, List, [], ◌∷◌, ◌++◌, length, map, take, drop, ◌-◌, get_or, refl, sym, ap, ◌∙◌, subst, arith}
+use Rattle.std.proofs.lemmas.List.{take_rest}
 use Rattle.ae_text.specs.Tree.{Node}
-use Rattle.ae_schema.specs.Records.{Named, named, Piece, field, end, pieces, Begins, IsWrongAt}
+use Rattle.ae_schema.specs.Records.{Named, named, Piece, field, end, pieces, Begins, IsWrongAt, BadAt, BadFirst, stop_behind}
+use Rattle.ae_schema.specs.declared.fields.Stop.{Stop}
+use Rattle.ae_schema.specs.declared.fields.Stop.TheVariants.{Bad, Memory}
 use Rattle.ae_schema.specs.declared.fields.Then.{Then}
 
 -- every record begins with no piece
@@ -76,3 +79,42 @@ behind_wrong FitsA FitsB spelled values k ks x fits m is ms at w =
       stops = λ b. w.stops (record { value = b.value.rest; fits = b.fits.1; more = b.more; pieces_are = let all = b.pieces_are in cc });
       place = omega (arith, w.place);
     }
+
+-- ---- as the reader meets them
+
+-- the reader's stop at the first field
+pub first_stop : {A : Type 0} {Fits : A → Type 0} {fields_of : A → List Named} {ms : List Named} {Reason : Type 0} (stop : Stop)
+    → BadFirst Reason stop → (Reason → IsWrongAt Fits fields_of ms 0) → BadAt Fits fields_of ms stop
+first_stop {A} {Fits} {fields_of} {ms} (Bad at) (is, why) make =
+    let P : ℕ → Type 0 = λ n. IsWrongAt Fits fields_of ms n in
+    (omega arith, subst P (sym is) (make why))
+first_stop Memory h make = tt
+
+-- the first field is wrong, of the fields and names in slices
+pub first_at : {A B X Y : Type 0} (FitsA : A → Type 0) (FitsB : B → Type 0) (x : Then A B) → FitsA x.first × FitsB x.rest
+    → (spelled : A → Node) (values : B → List Node) (f : X → List ℕ) (ns : List X) (d : X) → 1 ≤ length ns
+    → (h : Y → Named) (ys : List Y) (y : Y) → y ≡ get_or ys 0 y → 1 ≤ length ys
+    → ((a : A) → FitsA a → (f (get_or ns 0 d), spelled a) ≡ h y → ⊥)
+    → IsWrongAt (λ (z : Then A B). FitsA z.first × FitsB z.rest) (λ (z : Then A B). named (map f ns) (spelled z.first ∷ values z.rest)) (map h ys) 0
+first_at FitsA FitsB x fits spelled values f [] d some h ys y is more none = absurd (omega arith)
+first_at FitsA FitsB x fits spelled values f (n ∷ ns) d some h [] y is more none = absurd (omega arith)
+first_at FitsA FitsB x fits spelled values f (n ∷ ns) d some h (m ∷ ms) y is more none =
+    first_field_wrong FitsA FitsB x fits spelled values (f n) (map f ns) (h m) (map h ms) (λ a fit e. none a fit (e ∙ ap h (sym is)))
+
+-- what a pattern leaves behind the first element
+rest_of : {X : Type 0} (x : X) (xs : List X) → take (length (x ∷ xs) - 1) (drop 1 (x ∷ xs)) ≡ xs
+rest_of x xs = take_rest (x ∷ xs) 1
+
+-- a wrong place behind the first field, of the fields and names in slices
+pub behind_at : {A B X Y : Type 0} (FitsA : A → Type 0) (FitsB : B → Type 0) (spelled : A → Node) (values : B → List Node)
+    → (f : X → List ℕ) (ns : List X) (d : X) → 1 ≤ length ns → (h : Y → Named) (ys : List Y) (y : Y) → y ≡ get_or ys 0 y → 1 ≤ length ys
+    → (a : A) → FitsA a → (f (get_or ns 0 d), spelled a) ≡ h y → (stop : Stop)
+    → BadAt FitsB (λ (z : B). named (map f (take (length ns - 1) (drop 1 ns))) (values z)) (map h (take (length ys - 1) (drop 1 ys))) stop
+    → BadAt (λ (z : Then A B). FitsA z.first × FitsB z.rest) (λ (z : Then A B). named (map f ns) (spelled z.first ∷ values z.rest)) (map h ys) (stop_behind stop)
+behind_at FitsA FitsB spelled values f [] d some h ys y is more a fit e stop w = absurd (omega arith)
+behind_at FitsA FitsB spelled values f (n ∷ ns) d some h [] y is more a fit e stop w = absurd (omega arith)
+behind_at FitsA FitsB spelled values f (n ∷ ns) d some h (m ∷ ms) y is more a fit e Memory w = tt
+behind_at {A} {B} {X} {Y} FitsA FitsB spelled values f (n ∷ ns) d some h (m ∷ ms) y is more a fit e (Bad at) w =
+    let P : List X → List Y → Type 0 = λ ks fs. BadAt FitsB (λ (z : B). named (map f ks) (values z)) (map h fs) (Bad at) in
+    let ready = subst (λ (fs : List Y). P ns fs) (rest_of m ms) (subst (λ (ks : List X). P ks (take (length (m ∷ ms) - 1) (drop 1 (m ∷ ms)))) (rest_of n ns) w) in
+    (omega (arith, ready.0), behind_wrong FitsA FitsB spelled values (f n) (map f ns) a fit (h m) (e ∙ ap h is) (map h ms) at ready.1)

@@ -3,3 +3,4 @@ pub mod Spelled
 pub mod Fits
 pub mod SomeValues
 pub mod Files
+pub mod Shapes

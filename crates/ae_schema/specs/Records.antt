@@ -1,6 +1,6 @@
 -- Records as lists of fields, each a name with its value, and the first place of a list that is wrong.
 use Rattle.std.specs.Prelude.{◌≡◌, ◌≤◌, ℕ, ◌+◌, List, [], ◌∷◌, ◌++◌, ◌⊎◌, length, unwrap_or, slice_get, Result, Ok, Err}
-use Rattle.ae_text.specs.Tree.{Node, fields}
+use Rattle.ae_text.specs.Tree.{Node, word, number, str, list, fields}
 use Rattle.ae_text.specs.View.{members_of}
 use Rattle.ae_text.specs.Grammar.{Reads, line_ends, line_after}
 use Rattle.ae_text.specs.Wrong.{IsError}
@@ -22,6 +22,14 @@ named (k ∷ ks) (v ∷ vs) = (k, v) ∷ named ks vs
 -- a structure of these fields
 abbrev pub structure : List Named → Node
 structure ms = fields (members_of ms)
+
+-- it is a structure, as a text is
+abbrev pub IsStructure : Node → Type 0
+IsStructure (word w) = ⊥
+IsStructure (number n) = ⊥
+IsStructure (str s) = ⊥
+IsStructure (list js) = ⊥
+IsStructure (fields ms) = Unit {0}
 
 -- ---- the first wrong place
 

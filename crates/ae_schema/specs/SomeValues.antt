@@ -49,25 +49,25 @@ pub some_version : (v : VersionRef) × FitsVersion v
 some_version = (zero_version, zero_version_fits)
 
 pub some_delta : (row : DeltaRow) × FitsDelta row
-some_delta = (record { delta = 0; change = 10; when = 0; who = codes "a" }, (omega arith, (omega arith, omega arith), omega arith, tt))
+some_delta = (record { delta = 0; change = 10; when = 0; who = codes "a" }, (omega arith, (omega arith, omega arith), omega arith, refl))
 
 pub some_file_version : (entry : FileVersion) × FitsFileVersion entry
 some_file_version = (record { delta = 0; usage = Source; version = None }, (omega arith, tt))
 
 pub some_file : (row : FileRow) × FitsFile row
-some_file = (record { path = codes "a"; past = [] }, (tt, omega arith, All-nil))
+some_file = (record { path = codes "a"; past = [] }, (refl, omega arith, All-nil FitsFileVersion))
 
 pub some_lock : (l : Lock) × FitsLock l
-some_lock = (record { path = codes "a"; change = 10 }, (tt, (omega arith, omega arith)))
+some_lock = (record { path = codes "a"; change = 10 }, (refl, (omega arith, omega arith)))
 
 pub some_change_file : (file : ChangeFile) × FitsChangeFile file
-some_change_file = (record { path = codes "a"; action = Create; usage = Source; origin = 0; frozen = None }, (tt, omega arith, tt))
+some_change_file = (record { path = codes "a"; action = Create; usage = Source; origin = 0; frozen = None }, (refl, omega arith, tt))
 
 pub some_evidence : (run : Evidence) × FitsEvidence run
 some_evidence = (
   record { during = Develop; kind = Build; path = None; status = 0; clean = true; subject = zero_digest; when = 0; who = codes "a" },
-  (tt, omega arith, zero_digest_fits, omega arith, tt),
+  (tt, omega arith, zero_digest_fits, omega arith, refl),
 )
 
 pub some_history : (row : HistoryRow) × FitsHistory row
-some_history = (record { what = NewChange; who = codes "a"; when = 0 }, (tt, omega arith))
+some_history = (record { what = NewChange; who = codes "a"; when = 0 }, (refl, omega arith))

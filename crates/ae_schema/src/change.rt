@@ -6,6 +6,7 @@ ghost use Rattle.ae_types.specs.declared.change.Change.{Change};
 ghost use Rattle.ae_schema.specs.Records.{IsTextOf, IsBadLine, IsAnswer, IsRefusal};
 ghost use Rattle.ae_schema.specs.Files.{subject_fields, exemption_fields, people_fields, row_fields, change_fields};
 ghost use Rattle.ae_schema.specs.Fits.{FitsChange};
+ghost use Rattle.ae_schema.specs.Shapes.{settings_from, change_from};
 
 use crate::SchemaError;
 use crate::fields::{End, Then};
@@ -26,12 +27,15 @@ type PersonFields = Then<
 
 type ExemptionFields = Then<bool, Then<bool, Then<bool, Then<Phase, PersonFields>>>>;
 
-type ChangeFields = Then<ChangeNo, Then<Text, Then<Text, Then<Cause, ExemptionFields>>>>;
+type SettingsFields = Then<Text, Then<Text, Then<Cause, ExemptionFields>>>;
+
+type ChangeFields = Then<ChangeNo, SettingsFields>;
 
 // The settings, and the fields behind them.
-fn attributes_of(
-    fields: Then<Text, Then<Text, Then<Cause, ExemptionFields>>>,
-) -> (ChangeAttributes, Then<Phase, PersonFields>) {
+fn attributes_of(fields: SettingsFields) -> (ChangeAttributes, Then<Phase, PersonFields>)
+    ensures settings { result.0 ≡ settings_from fields }
+    ensures behind { result.1 ≡ fields.rest.rest.rest.rest.rest.rest }
+{
     let Then { first: brief, rest } = fields;
     let Then {
         first: description,
@@ -61,7 +65,9 @@ fn attributes_of(
     (attributes, rest)
 }
 
-fn change_of(fields: ChangeFields) -> Change {
+fn change_of(fields: ChangeFields) -> Change
+    ensures { result ≡ change_from fields }
+{
     let Then {
         first: number,
         rest,

@@ -2,6 +2,7 @@
 ghost use Rattle.std.specs.Prelude.{◌≡◌, IfOk, map};
 ghost use Rattle.ae_text.specs.View.{named_node};
 ghost use Rattle.ae_schema.specs.Spelled.{run_fields, outcome_fields};
+ghost use Rattle.ae_schema.specs.Shapes.{evidence_from};
 
 use crate::fields::{End, Then};
 use crate::structure::{read_structure, structure_of};
@@ -73,7 +74,9 @@ type OutcomeFields = Then<bool, Then<[u8; 32], Then<u64, Then<User, End>>>>;
 
 type EvidenceFields = Then<Ground, Then<Kind, Then<Option<Path>, Then<u16, OutcomeFields>>>>;
 
-fn evidence_of(fields: EvidenceFields) -> Evidence {
+fn evidence_of(fields: EvidenceFields) -> Evidence
+    ensures { result ≡ evidence_from fields }
+{
     let Then {
         first: during,
         rest,

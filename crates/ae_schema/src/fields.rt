@@ -59,10 +59,9 @@ impl Fields for End {
     ghost Fits = { λ x. Unit {0} };
 
     fn read(_alloc: Global, _names: &[&[u8]], fields: &[Field]) -> Result<End, Stop> {
-        if fields.is_empty() {
-            Ok(End)
-        } else {
-            Err(Stop::Bad(0))
+        match fields {
+            [] => Ok(End),
+            [_, ..] => Err(Stop::Bad(0)),
         }
     }
 

@@ -1,5 +1,5 @@
 // The file of the file table: the rows of files, and the locks.
-ghost use Rattle.std.specs.Prelude.{◌≡◌, ℕ, List, Err, IfOk, OnOk, map};
+ghost use Rattle.std.specs.Prelude.{◌≡◌, ℕ, List, Some, Err, length, IfSome, IfOk, OnOk, map};
 ghost use Rattle.ae_text.specs.Canonical.{fields_text};
 ghost use Rattle.ae_text.specs.View.{members_of, named_node};
 ghost use Rattle.ae_types.specs.declared.file_table.FileRow.{FileRow};
@@ -7,6 +7,7 @@ ghost use Rattle.ae_types.specs.declared.file_table.Lock.{Lock};
 ghost use Rattle.ae_schema.specs.Records.{IsTextOf, IsBadLine, IsAnswer, IsRefusal};
 ghost use Rattle.ae_schema.specs.Files.{files_fields};
 ghost use Rattle.ae_schema.specs.Fits.{FitsFiles};
+ghost use Rattle.ae_schema.specs.Shapes.{row_from};
 
 use crate::SchemaError;
 use crate::fields::{End, Then};
@@ -65,7 +66,10 @@ impl Value for FileVersion {
 type FileRowFields = Then<Path, Then<u64, Then<FileVersionList, End>>>;
 
 // The row of these fields, where its edit is the length of its past.
-fn row_of(fields: FileRowFields) -> Option<FileRow> {
+fn row_of(fields: FileRowFields) -> Option<FileRow>
+    ensures some { IfSome result (λ row. (row ≡ row_from fields) × (fields.rest.first ≡ length row.past)) }
+    ensures only { fields.rest.first ≡ length fields.rest.rest.first → result ≡ Some (row_from fields) }
+{
     let Then { first: path, rest } = fields;
     let Then { first: edit, rest } = rest;
     let Then {

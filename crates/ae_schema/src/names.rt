@@ -9,7 +9,7 @@ use ae_text::Tree;
 use std::alloc::{AllocError, Global};
 
 impl Value for Path {
-    ghost use Rattle.std.specs.Prelude.{codes};
+    ghost use Rattle.std.specs.Prelude.{codes, refl};
     ghost use Rattle.ae_text.specs.Tree.{str};
     ghost use Rattle.ae_base.specs.Names.{IsPath};
 
@@ -28,11 +28,11 @@ impl Value for Path {
         Tree::string(alloc, self.bytes())
     }
 
-    ghost some_value = { (codes "a", tt) };
+    ghost some_value = { (codes "a", refl) };
 }
 
 impl Value for User {
-    ghost use Rattle.std.specs.Prelude.{codes};
+    ghost use Rattle.std.specs.Prelude.{codes, refl};
     ghost use Rattle.ae_text.specs.Tree.{str};
     ghost use Rattle.ae_base.specs.Names.{IsUser};
 
@@ -51,11 +51,11 @@ impl Value for User {
         Tree::string(alloc, self.bytes())
     }
 
-    ghost some_value = { (codes "a", tt) };
+    ghost some_value = { (codes "a", refl) };
 }
 
 impl Value for ProjectName {
-    ghost use Rattle.std.specs.Prelude.{codes};
+    ghost use Rattle.std.specs.Prelude.{codes, refl};
     ghost use Rattle.ae_text.specs.Tree.{str};
     ghost use Rattle.ae_base.specs.Names.{IsProjectName};
 
@@ -74,7 +74,7 @@ impl Value for ProjectName {
         Tree::string(alloc, self.bytes())
     }
 
-    ghost some_value = { (codes "a", tt) };
+    ghost some_value = { (codes "a", refl) };
 }
 
 fn is_empty_string(tree: &Tree) -> bool

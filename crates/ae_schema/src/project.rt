@@ -6,6 +6,7 @@ ghost use Rattle.ae_types.specs.declared.project.Project.{Project};
 ghost use Rattle.ae_schema.specs.Records.{IsTextOf, IsBadLine, IsAnswer, IsRefusal};
 ghost use Rattle.ae_schema.specs.Files.{identity_fields, permission_fields, default_fields, role_fields, counted_fields, project_fields};
 ghost use Rattle.ae_schema.specs.Fits.{FitsProject};
+ghost use Rattle.ae_schema.specs.Shapes.{attributes_from, project_from};
 
 use crate::SchemaError;
 use crate::fields::{End, Then};
@@ -129,7 +130,10 @@ type PermissionFields = Then<bool, Then<bool, Then<bool, Then<bool, DefaultField
 type ProjectFields = Then<Format, Then<Packed, Then<ProjectName, Then<Text, PermissionFields>>>>;
 
 // The settings, and the fields behind them.
-fn attributes_of(description: Text, fields: PermissionFields) -> (Attributes, RoleFields) {
+fn attributes_of(description: Text, fields: PermissionFields) -> (Attributes, RoleFields)
+    ensures settings { result.0 ≡ attributes_from description fields }
+    ensures behind { result.1 ≡ fields.rest.rest.rest.rest.rest.rest }
+{
     let Then {
         first: developer_may_review,
         rest,
@@ -166,7 +170,9 @@ fn attributes_of(description: Text, fields: PermissionFields) -> (Attributes, Ro
     (attributes, rest)
 }
 
-fn project_of(fields: ProjectFields) -> (Project, NumberList) {
+fn project_of(fields: ProjectFields) -> (Project, NumberList)
+    ensures { result ≡ project_from fields }
+{
     let Then { first: _, rest } = fields;
     let Then { first: _, rest } = rest;
     let Then { first: name, rest } = rest;

@@ -1,11 +1,12 @@
 // A state file: one record.
 ghost use Rattle.std.specs.Prelude.{◌≡◌, ◌^◌, ℕ, List, Err, length, map, unwrap_or, slice_get, IfOk};
 ghost use Rattle.ae_text.specs.Grammar.{line_after, line_ends};
-ghost use Rattle.ae_schema.specs.Records.{named, IsTextOf, IsBadLine, last_line};
+ghost use Rattle.ae_schema.specs.Records.{named, structure, IsStructure, IsTextOf, IsBadLine, last_line};
+ghost use Rattle.ae_text.specs.View.{node, fields_seen};
 
 use crate::SchemaError;
 use crate::fields::{Fields, Stop};
-use ae_text::{Parsed, TextError, Tree, read_tree};
+use ae_text::{Field, Parsed, TextError, Tree, read_tree};
 use std::alloc::Global;
 
 fn line_behind(ends: usize) -> u32
@@ -35,13 +36,14 @@ fn line_at(bytes: &[u8], lines: &[u32], at: usize) -> u32
     }
 }
 
-// The values of the fields that were read.
-fn read_fields<R: Fields>(alloc: Global, names: &[&[u8]], parsed: &Parsed) -> Result<R, Stop>
-    requires { length names.now ≡ R.count }
+// The fields of a text that was read.
+fn fields_of(parsed: &Parsed) -> &[Field]
+    requires { IsStructure (node parsed.now.tree) }
+    ensures { node parsed.now.tree ≡ structure (fields_seen result.now) }
 {
     match &parsed.tree {
-        Tree::Fields(list) => R::read(alloc, names, list.items()),
-        _ => Err(Stop::Bad(0)),
+        Tree::Fields(list) => list.items(),
+        _ => unreachable!(),
     }
 }
 
@@ -63,7 +65,7 @@ pub(crate) fn read_record<R: Fields>(
         Err(TextError::TooDeep(line)) => return Err(SchemaError::Field(line)),
         Err(TextError::Memory) => return Err(SchemaError::Memory),
     };
-    match read_fields::<R>(alloc, names, &parsed) {
+    match R::read(alloc, names, fields_of(&parsed)) {
         Ok(record) => Ok(record),
         Err(Stop::Bad(at)) => Err(SchemaError::Field(line_at(bytes, parsed.lines.lines(), at))),
         Err(Stop::Memory) => Err(SchemaError::Memory),

@@ -2,6 +2,7 @@
 ghost use Rattle.std.specs.Prelude.{◌≡◌, ◌↔◌, [], ℕ, List, Some, IsTrue, IfOk, IfSome};
 ghost use Rattle.hex.specs.Hex.{encode_lower};
 ghost use Rattle.ae_schema.specs.Fits.{IsDigest};
+ghost use Rattle.ae_schema.specs.Shapes.{version_from};
 ghost use Rattle.ae_text.specs.View.{node};
 ghost use Rattle.ae_schema.specs.Records.{structure};
 
@@ -87,7 +88,7 @@ impl Value for VersionRef {
 }
 
 fn version_of(fields: VersionFields) -> VersionRef
-    ensures { result ≡ record { number = fields.first; at = fields.rest.first; length = fields.rest.rest.first; digest = fields.rest.rest.rest.first } }
+    ensures { result ≡ version_from fields }
 {
     let Then {
         first: number,

@@ -1,0 +1,10 @@
+use Rattle.std.proofs.Common.{◌≡◌, List, All, map, take}
+use Rattle.ae_text.specs.View.{node}
+use Rattle.ae_schema.proofs.lists.read_rows.Given as goal
+
+abbrev pub invariant-loop-tree : goal.invariant-loop-tree
+invariant-loop-tree g l = record {
+  fits : All g.T.Value.Fits l.rows.items;
+  trees : map g.T.Value.spelled l.rows.items ≡ map node (take l.tree-index l.trees);
+  only : (xs : List g.row.T.Denot) → All g.T.Value.Fits xs → map g.T.Value.spelled xs ≡ map node l.trees → l.rows.items ≡ take l.tree-index xs
+}

@@ -1,0 +1,161 @@
+-- The state files' values as their fields, one after another.
+use Rattle.std.specs.Prelude.{ℕ, List, Bool, Option}
+use Rattle.ae_base.specs.declared.words.Cause.{Cause}
+use Rattle.ae_base.specs.declared.words.Phase.{Phase}
+use Rattle.ae_base.specs.declared.words.Ground.{Ground}
+use Rattle.ae_base.specs.declared.words.Kind.{Kind}
+use Rattle.ae_types.specs.declared.project.EndAction.{EndAction}
+use Rattle.ae_types.specs.declared.project.DeltaRow.{DeltaRow}
+use Rattle.ae_types.specs.declared.project.Attributes.{Attributes}
+use Rattle.ae_types.specs.declared.project.Project.{Project}
+use Rattle.ae_types.specs.declared.version.VersionRef.{VersionRef}
+use Rattle.ae_types.specs.declared.file_table.FileVersion.{FileVersion}
+use Rattle.ae_types.specs.declared.file_table.FileRow.{FileRow}
+use Rattle.ae_types.specs.declared.file_table.Lock.{Lock}
+use Rattle.ae_types.specs.declared.change.ChangeFile.{ChangeFile}
+use Rattle.ae_types.specs.declared.change.Evidence.{Evidence}
+use Rattle.ae_types.specs.declared.change.HistoryRow.{HistoryRow}
+use Rattle.ae_types.specs.declared.change.ChangeAttributes.{ChangeAttributes}
+use Rattle.ae_types.specs.declared.change.Change.{Change}
+use Rattle.ae_schema.specs.declared.fields.Then.{Then}
+use Rattle.ae_schema.specs.declared.fields.End.{End}
+use Rattle.ae_schema.specs.declared.project.Format.{Format}
+use Rattle.ae_schema.specs.declared.project.Packed.{Packed}
+
+-- ---- project
+
+abbrev pub CountedShape : Type 0
+CountedShape = Then ℕ (Then (List ℕ) (Then (List DeltaRow) End))
+
+abbrev pub RoleShape : Type 0
+RoleShape = Then (List (List ℕ)) (Then (List (List ℕ)) (Then (List (List ℕ)) (Then (List (List ℕ)) CountedShape)))
+
+abbrev pub PermissionShape : Type 0
+PermissionShape = Then Bool (Then Bool (Then Bool (Then Bool (Then EndAction (Then Bool RoleShape)))))
+
+abbrev pub ProjectShape : Type 0
+ProjectShape = Then Format (Then Packed (Then (List ℕ) (Then (List ℕ) PermissionShape)))
+
+-- the settings of these fields
+abbrev pub attributes_from : List ℕ → PermissionShape → Attributes
+attributes_from text settings = record {
+  description = text;
+  developer_may_review = settings.first;
+  developer_may_integrate = settings.rest.first;
+  reviewer_may_integrate = settings.rest.rest.first;
+  developers_may_create_changes = settings.rest.rest.rest.first;
+  develop_end_action = settings.rest.rest.rest.rest.first;
+  default_test_exemption = settings.rest.rest.rest.rest.rest.first;
+}
+
+-- the project and its numbers of these fields
+abbrev pub project_from : ProjectShape → Project × List ℕ
+project_from f =
+    let text = f.rest.rest in
+    let settings = text.rest.rest in
+    let roles = settings.rest.rest.rest.rest.rest.rest in
+    let counted = roles.rest.rest.rest.rest in
+    (record {
+      name = text.first;
+      attributes = attributes_from text.rest.first settings;
+      administrators = roles.first;
+      developers = roles.rest.first;
+      reviewers = roles.rest.rest.first;
+      integrators = roles.rest.rest.rest.first;
+      next_version = counted.first;
+      deltas = counted.rest.rest.first;
+    }, counted.rest.first)
+
+-- the fields of a project and its numbers
+abbrev pub project_shape : Project × List ℕ → ProjectShape
+project_shape p = record { first = record {}; rest = record { first = record {}; rest =
+    record { first = p.0.name; rest = record { first = p.0.attributes.description; rest =
+    record { first = p.0.attributes.developer_may_review; rest = record { first = p.0.attributes.developer_may_integrate; rest =
+    record { first = p.0.attributes.reviewer_may_integrate; rest = record { first = p.0.attributes.developers_may_create_changes; rest =
+    record { first = p.0.attributes.develop_end_action; rest = record { first = p.0.attributes.default_test_exemption; rest =
+    record { first = p.0.administrators; rest = record { first = p.0.developers; rest =
+    record { first = p.0.reviewers; rest = record { first = p.0.integrators; rest =
+    record { first = p.0.next_version; rest = record { first = p.1; rest = record { first = p.0.deltas; rest = record {} }
+    } } } } } } } } } } } } } } } }
+
+-- ---- rows
+
+abbrev pub version_from : Then ℕ (Then ℕ (Then ℕ (Then (List ℕ) End))) → VersionRef
+version_from f = record { number = f.first; at = f.rest.first; length = f.rest.rest.first; digest = f.rest.rest.rest.first }
+
+abbrev pub row_from : Then (List ℕ) (Then ℕ (Then (List FileVersion) End)) → FileRow
+row_from f = record { path = f.first; past = f.rest.rest.first }
+
+abbrev pub evidence_from : Then Ground (Then Kind (Then (Option (List ℕ)) (Then ℕ (Then Bool (Then (List ℕ) (Then ℕ (Then (List ℕ) End))))))) → Evidence
+evidence_from f =
+    let rest = f.rest.rest.rest.rest in
+    record {
+      during = f.first; kind = f.rest.first; path = f.rest.rest.first; status = f.rest.rest.rest.first;
+      clean = rest.first; subject = rest.rest.first; when = rest.rest.rest.first; who = rest.rest.rest.rest.first }
+
+-- ---- files
+
+abbrev pub FilesShape : Type 0
+FilesShape = Then (List FileRow) (Then (List Lock) End)
+
+abbrev pub files_from : FilesShape → List FileRow × List Lock
+files_from f = (f.first, f.rest.first)
+
+abbrev pub files_shape : List FileRow × List Lock → FilesShape
+files_shape t = record { first = t.0; rest = record { first = t.1; rest = record {} } }
+
+-- ---- a change
+
+abbrev pub RowShape : Type 0
+RowShape = Then (List ChangeFile) (Then (List Evidence) (Then (List HistoryRow) End))
+
+abbrev pub PersonShape : Type 0
+PersonShape = Then (Option (List ℕ)) (Then (Option (List ℕ)) (Then (Option (List ℕ)) (Then (Option (List ℕ)) RowShape)))
+
+abbrev pub SettingsShape : Type 0
+SettingsShape = Then (List ℕ) (Then (List ℕ) (Then Cause (Then Bool (Then Bool (Then Bool (Then Phase PersonShape))))))
+
+abbrev pub ChangeShape : Type 0
+ChangeShape = Then ℕ SettingsShape
+
+-- the settings of these fields
+abbrev pub settings_from : SettingsShape → ChangeAttributes
+settings_from settings = record {
+  brief = settings.first;
+  description = settings.rest.first;
+  cause = settings.rest.rest.first;
+  test_exempt = settings.rest.rest.rest.first;
+  test_baseline_exempt = settings.rest.rest.rest.rest.first;
+  regression_test_exempt = settings.rest.rest.rest.rest.rest.first;
+}
+
+-- the change of these fields
+abbrev pub change_from : ChangeShape → Change
+change_from f =
+    let standing = f.rest.rest.rest.rest.rest.rest.rest in
+    let people = standing.rest in
+    let rows = people.rest.rest.rest.rest in
+    record {
+      number = f.first;
+      attributes = settings_from f.rest;
+      phase = standing.first;
+      developer = people.first;
+      reviewing = people.rest.first;
+      reviewer = people.rest.rest.first;
+      integrator = people.rest.rest.rest.first;
+      files = rows.first;
+      evidence = rows.rest.first;
+      history = rows.rest.rest.first;
+    }
+
+-- the fields of a change
+abbrev pub change_shape : Change → ChangeShape
+change_shape c = record { first = c.number; rest =
+    record { first = c.attributes.brief; rest = record { first = c.attributes.description; rest =
+    record { first = c.attributes.cause; rest = record { first = c.attributes.test_exempt; rest =
+    record { first = c.attributes.test_baseline_exempt; rest = record { first = c.attributes.regression_test_exempt; rest =
+    record { first = c.phase; rest =
+    record { first = c.developer; rest = record { first = c.reviewing; rest =
+    record { first = c.reviewer; rest = record { first = c.integrator; rest =
+    record { first = c.files; rest = record { first = c.evidence; rest = record { first = c.history; rest = record {} }
+    } } } } } } } } } } } } } }
