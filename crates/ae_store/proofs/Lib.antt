@@ -1,2 +1,7 @@
 pub mod Reading
 pub mod FileNames
+pub mod Disks
+pub mod OneRecord
+pub mod Laws
+pub mod Told
+pub mod Loading

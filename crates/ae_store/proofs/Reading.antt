@@ -1,6 +1,6 @@
 -- What a record's reader answers, as a step of loading.
 use Rattle.std.proofs.Common.{◌≡◌, ℕ, ◌+◌, ◌<◌, List, [], ◌∷◌, ◌++◌, length, take, drop, get_or, Result, Ok, Err, refl, sym, ◌∙◌, ap, subst}
-use Rattle.std.proofs.lemmas.List.{drop_more, take_drop}
+use Rattle.std.proofs.lemmas.List.{drop_more, take-append-drop}
 use Rattle.ae_outside.specs.Image.{Image}
 use Rattle.ae_schema.specs.Records.{IsAnswer}
 use Rattle.ae_schema.specs.declared.error.SchemaError.{SchemaError}
@@ -25,7 +25,7 @@ pub none_read : {A : Type 0} (Reads : A → Type 0) (x : A) (r : Result A Schema
 none_read Reads x r is only bad value reads = bad (subst Reads (sym (subst (IsAnswer value) is (only value reads))) reads)
 
 -- a bad record is no fault of the disk
-pub stops : (error : SchemaError) (b : Blame) (s : Stop) → s ≡ stop_schema b error → s ≡ DiskFault → ⊥
+pub stops : {T : Type 0} (error : SchemaError) (b : Blame) (s : Stop) → s ≡ stop_schema b error → ◌≡◌ {A = Result T Stop} (Err s) (Err DiskFault) → ⊥
 stops (schema.Field line) b s is fault = cc
 stops schema.Memory b s is fault = cc
 
@@ -44,7 +44,7 @@ first_bad files numbers i number changes (Blamed b) lt is read bad = record {
   before = take i numbers;
   number = number;
   after = drop (i + 1) numbers;
-  splits = sym (take_drop i numbers) ∙ ap (λ (rest : List ℕ). take i numbers ++ rest) (drop_more numbers i number lt ∙ ap (λ (n : ℕ). n ∷ drop (i + 1) numbers) (sym is));
+  splits = sym (take-append-drop i numbers) ∙ ap (λ (rest : List ℕ). take i numbers ++ rest) (drop_more numbers i number lt ∙ ap (λ (n : ℕ). n ∷ drop (i + 1) numbers) (sym is));
   changes = changes;
   read = read;
   bad = bad.1;

@@ -71,6 +71,6 @@ IsLoaded files (Err Memory) = Unit {0}
 -- the answer of the loader, of that of its steps
 abbrev pub IsToldOf : Result (Option Observation) Stop → Result (Option Observation) StoreError → Type 0
 IsToldOf (Ok o) told = told ≡ Ok o
-IsToldOf (Err (Blamed b)) told = IsBlamed b told
+IsToldOf (Err (Blamed b)) told = IsBlamed b told × (told ≢ Err store.DiskFault)
 IsToldOf (Err DiskFault) told = told ≡ Err store.DiskFault
 IsToldOf (Err Memory) told = told ≡ Err store.Memory

@@ -24,4 +24,4 @@ returns-in-Err-clause-value c = λ files at.
             (λ t reads. c.read_files.ensures.only t reads.is.0 (subst (λ (bytes : List ℕ). IsTextOf bytes (files_fields t)) at reads.is.1)))
 
 pub returns-in-Err-clause-no_fault : goal.returns-in-Err-clause-no_fault
-returns-in-Err-clause-no_fault c = λ fault. stops c.in-Err.error _ c.stop_of.result c.stop_of.ensures (let h = fault in ?)
+returns-in-Err-clause-no_fault c = λ fault. stops c.in-Err.error _ c.stop_of.result c.stop_of.ensures fault
