@@ -1,5 +1,5 @@
 -- Files stand for one thing, or blame one file, and never both.
-use Rattle.std.proofs.Common.{◌≡◌, ◌≢◌, ℕ, Bool, true, false, ◌&&◌, not, List, [], ◌∷◌, ◌++◌, length, Option, Some, None, refl, sym, ◌∙◌, ap, subst}
+use Rattle.std.proofs.Common.{◌≡◌, ◌≢◌, ℕ, Bool, true, false, ◌&&◌, not, if◌then◌else◌, List, [], ◌∷◌, ◌++◌, length, Option, Some, None, refl, sym, ◌∙◌, ap, subst}
 use Rattle.std.specs.Option.{option_or, option_map}
 use Rattle.std.specs.List.{find}
 use Rattle.ae_outside.specs.Image.{Image}
@@ -87,17 +87,21 @@ both : (a b : Bool) → (a && b) ≡ true → (a ≡ true) × (b ≡ true)
 both true b e = (refl, e)
 both false b e = cc
 
+good_first : (files : Image) (all : List ℕ) (n : ℕ) (numbers : List ℕ) (c : Change) (cs : List Change) (b : Bool) → is_change_of all c ≡ b
+    → (bad_change all cs ≡ None → ReadsChanges files numbers cs) → bad_change all (c ∷ cs) ≡ None → IsChange (files (change_file n)) c → c.number ≡ n → ReadsChanges files (n ∷ numbers) (c ∷ cs)
+good_first files all n numbers c cs true good rest none is numbered =
+    let no_more : bad_change all cs ≡ None = ap (λ (b : Bool). option_map (λ (change : Change). blame.Change change.number) (if not b then Some c else find (λ change. not (is_change_of all change)) cs)) (sym good) ∙ none in
+    (record { is = is; numbered = numbered; good = (both (has_number all c.number) (change_is_good c) good).1 }, rest no_more)
+good_first files all n numbers c cs false bad rest none is numbered =
+    let no : bad_change all (c ∷ cs) ≡ Some (blame.Change c.number) = ap (λ (b : Bool). option_map (λ (change : Change). blame.Change change.number) (if not b then Some c else find (λ change. not (is_change_of all change)) cs)) bad in
+    cc
+
 good_changes : (files : Image) (all numbers : List ℕ) (cs : List Change) → bad_change all cs ≡ None → AreChangeFiles files numbers cs → ReadsChanges files numbers cs
 good_changes files all [] [] none are = tt
 good_changes files all [] (c ∷ cs) none are = absurd are
 good_changes files all (n ∷ numbers) [] none are = absurd are
-good_changes files all (n ∷ numbers) (c ∷ cs) none are = go (is_change_of all c) refl
-  where
-    go : (b : Bool) → is_change_of all c ≡ b → ReadsChanges files (n ∷ numbers) (c ∷ cs)
-    go true good =
-        let rest : bad_change all cs ≡ None = grind in
-        (record { is = are.0; numbered = are.1; good = (both (has_number all c.number) (change_is_good c) good).1 }, good_changes files all numbers cs rest are.2)
-    go false bad = let no : bad_change all (c ∷ cs) ≡ Some (blame.Change c.number) = grind in cc
+good_changes files all (n ∷ numbers) (c ∷ cs) none are =
+    good_first files all n numbers c cs (is_change_of all c) refl (λ no_more. good_changes files all numbers cs no_more are.2) none are.0 are.1
 
 pub sound_reads : (files : Image) (o : Observation) → AreRecords files o → Sound o → Reads files o
 sound_reads files o are sound =

@@ -4,4 +4,4 @@ pub mod Disks
 pub mod OneRecord
 pub mod Laws
 pub mod Told
-pub mod Loading
+pub mod LoadSteps

@@ -10,7 +10,7 @@ use Rattle.ae_store.specs.Names.{project_file}
 use Rattle.ae_store.specs.Damage.{ReadsProject, ReadsTable, ReadsChanges}
 use Rattle.ae_store.specs.Steps.{AreRead}
 use Rattle.ae_store.proofs.Laws.{Reads}
-use Rattle.ae_store.proofs.Loading.{project_err, table_err, changes_err, checked_err, checked_ok}
+use Rattle.ae_store.proofs.LoadSteps.{project_err, table_err, changes_err, checked_err, checked_ok}
 use Rattle.ae_store.proofs.loading.load_project.Goals as goal
 
 pub returns-in_err-project-clause-loaded : goal.returns-in_err-project-clause-loaded
