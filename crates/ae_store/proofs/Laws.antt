@@ -75,7 +75,7 @@ pub record Reads (files : Image) (o : Observation) : Type 0 where
 pub read_records : (files : Image) (o : Observation) → Reads files o → AreRecords files o
 read_records files o reads = record { project = reads.project.is; table = reads.table.is; changes = change_files files o.numbers o.changes reads.changes }
 
-or_none : (x y : Option Blame) → option_or x y ≡ None → (x ≡ None) × (y ≡ None)
+pub or_none : (x y : Option Blame) → option_or x y ≡ None → (x ≡ None) × (y ≡ None)
 or_none None y e = (refl, e)
 or_none (Some b) y e = cc
 
@@ -83,7 +83,7 @@ unless_none : (test : Bool) (b : Blame) → blame_unless test b ≡ None → tes
 unless_none true b e = refl
 unless_none false b e = cc
 
-both : (a b : Bool) → (a && b) ≡ true → (a ≡ true) × (b ≡ true)
+pub both : (a b : Bool) → (a && b) ≡ true → (a ≡ true) × (b ≡ true)
 both true b e = (refl, e)
 both false b e = cc
 

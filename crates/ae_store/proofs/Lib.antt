@@ -5,3 +5,7 @@ pub mod OneRecord
 pub mod Laws
 pub mod Told
 pub mod LoadSteps
+pub mod EntryPlaces
+pub mod EntryOrder
+pub mod ChangedFiles
+pub mod ChangeTexts

@@ -1,5 +1,5 @@
 -- The texts of the state files, and those of them that a step changes.
-use Rattle.std.specs.Prelude.{◌≡◌, ℕ, List, [], ◌∷◌, map, Option, Some, None, if◌then◌else◌}
+use Rattle.std.specs.Prelude.{◌≡◌, ◌≤◌, ℕ, List, [], ◌∷◌, map, Option, Some, None, if◌then◌else◌}
 use Rattle.std.specs.Str.{bytes_eq}
 use Rattle.ae_text.specs.Canonical.{fields_text}
 use Rattle.ae_text.specs.View.{members_of}
@@ -46,3 +46,8 @@ IsWhole o = map number_of_change o.changes ≡ o.numbers
 -- the names of the files of these changes
 abbrev pub change_files : List Change → List (List ℕ)
 change_files changes = map (λ (change : Change). change_file change.number) changes
+
+-- the numbers are those that changes may have
+abbrev pub AreNumbered : List Change → Type 0
+AreNumbered [] = Unit {0}
+AreNumbered (change ∷ changes) = (change.number ≤ 1999) × AreNumbered changes

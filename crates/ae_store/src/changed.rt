@@ -1,9 +1,9 @@
 // A batch of the state files that a step changes.
-ghost use Rattle.std.specs.Prelude.{◌≡◌, ◌∷◌, ◌++◌, [], ℕ, List, true, Some, IfOk, OnOk, option_copied};
+ghost use Rattle.std.specs.Prelude.{◌≡◌, ◌∷◌, ◌++◌, [], ℕ, List, true, Some, IfOk, IfSome, OnOk, option_copied};
 ghost use Rattle.ae_outside.specs.Image.{Image};
 ghost use Rattle.ae_vault.specs.Pieces.{are_pieces};
 ghost use Rattle.ae_vault.specs.Vault.{content_of, put};
-ghost use Rattle.ae_store.specs.Changed.{change_files, entry_for, IsWhole};
+ghost use Rattle.ae_store.specs.Changed.{AreNumbered, change_files, entry_for, IsWhole};
 ghost use Rattle.ae_store.specs.Entries.{HasChanged};
 ghost use Rattle.ae_store.specs.Names.{project_file, files_file};
 ghost use Rattle.ae_store.specs.Records.{StandsFor};
@@ -21,7 +21,9 @@ fn changed_heads(
     old: Option<&State>,
     new: &State,
 ) -> Result<Vec<Entry>, AllocError>
-    ensures { IfOk result (λ entries. HasChanged (project_file ∷ files_file ∷ []) (option_copied old.entry) new.now entries.items) }
+    ensures old { OnOk result (IfSome (option_copied old.entry) (λ o. AreNumbered o.changes)) }
+    ensures new { OnOk result (AreNumbered new.now.changes) }
+    ensures entries { IfOk result (λ entries. HasChanged (project_file ∷ files_file ∷ []) (option_copied old.entry) new.now entries.items) }
 {
     let mut entries = Vec::new(alloc);
     let name = String::from_str(alloc, PROJECT)?;
@@ -43,6 +45,8 @@ fn put_changes(
     old: Option<&State>,
     new: &State,
 ) -> Result<(), AllocError>
+    requires old { IfSome (option_copied old) (λ o. AreNumbered o.changes) }
+    requires new { AreNumbered new.now.changes }
     ensures { OnOk result ((names : List (List ℕ)) → HasChanged names (option_copied old.entry) new.now entries.old.items → HasChanged (names ++ change_files of.now.changes) (option_copied old.entry) new.now entries.new.items) }
 {
     for change in of.changes() {

@@ -1,0 +1,11 @@
+use Rattle.std.proofs.Common.{◌≡◌, ℕ, List, Some, IfOk, IfSome, OnOk, option_copied, sym, subst}
+use Rattle.ae_schema.specs.Files.{project_fields}
+use Rattle.ae_types.specs.declared.project.Project.{Project}
+use Rattle.ae_store.specs.Changed.{canonical, text_of, AreNumbered}
+use Rattle.ae_store.specs.Names.{project_file}
+use Rattle.ae_store.proofs.texts.project_text.Goals as goal
+
+pub returns-in-Some-clause-text : goal.returns-in-Some-clause-text
+returns-in-Some-clause-text c =
+    subst (λ o. IfOk c.print_project.result (λ text. text.items ≡ text_of (option_copied o) project_file)) (sym c.in-Some.is)
+        (subst (λ (p : Project × List ℕ). IfOk c.print_project.result (λ text. text.items ≡ canonical (project_fields p))) (λ i. (c.project.ensures.project i, c.numbers.ensures i)) c.print_project.ensures.value)
