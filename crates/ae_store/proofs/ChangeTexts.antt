@@ -25,8 +25,8 @@ use Rattle.ae_types.specs.Sound.{Sound}
 use Rattle.ae_types.proofs.Keys.{less-is}
 use Rattle.ae_types.proofs.RulesAre.{sound-blamed}
 use Rattle.ae_store.specs.Names.{change_file}
-use Rattle.ae_store.specs.Changed.{AreNumbered, canonical, change_text, change_files}
-use Rattle.ae_store.proofs.Laws.{or_none, both}
+use Rattle.ae_store.specs.Changed.{AreNumbered, canonical, text_of, change_text, change_files, old_files}
+use Rattle.ae_store.proofs.OneState.{or_none, both}
 
 -- ---- names and numbers
 
@@ -109,3 +109,14 @@ count_above k (c ∷ cs) le above ascends numbered =
 pub few_changes : (cs : List Change) → Ascends nat_cmp number_of_change cs → AreNumbered cs → length cs ≤ 2000
 few_changes [] ascends numbered = omega arith
 few_changes (c ∷ cs) ascends numbered = let rest = count_above c.number cs numbered.0 ascends.0 ascends.1 numbered.1 in omega (arith, rest)
+
+pub text_of_found : (o : Observation) (n : ℕ) (found : Option Change) → n ≤ 1999 → AreNumbered o.changes → found ≡ change_in o.changes n → text_of (Some o) (change_file n) ≡ text_found found
+text_of_found o n found le numbered e = text_at o.changes n le numbered ∙ ap text_found (sym e)
+
+pub length_files : (changes : List Change) → length (change_files changes) ≡ length changes
+length_files [] = refl
+length_files (c ∷ changes) = let rest = length_files changes in omega (arith, rest)
+
+pub few_files : (o : Option Observation) → IfSome o (λ (o : Observation). AreNumbered o.changes) → IfSome o (λ (o : Observation). Ascends nat_cmp number_of_change o.changes) → length (old_files o) ≤ 2000
+few_files None numbered ascends = omega arith
+few_files (Some o) numbered ascends = let few = few_changes o.changes ascends numbered in let same = length_files o.changes in omega (arith, few, same)

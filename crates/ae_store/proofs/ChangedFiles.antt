@@ -1,5 +1,5 @@
 -- One more state file is put, where it changes.
-use Rattle.std.proofs.Common.{◌≡◌, ℕ, ◌+◌, ◌≤◌, ◌<◌, take, get_or, append_assoc, Bool, true, false, ◌&&◌, ◌||◌, if◌then◌else◌, List, [], ◌∷◌, ◌++◌, length, Option, Some, None, refl, sym, ◌∙◌, ap, subst, arith}
+use Rattle.std.proofs.Common.{◌≡◌, ℕ, ◌+◌, ◌≤◌, ◌<◌, take, get_or, append_assoc, Bool, true, false, ◌&&◌, ◌||◌, if◌then◌else◌, List, [], ◌∷◌, ◌++◌, length, Option, Some, None, Result, Ok, Err, IfOk, refl, sym, ◌∙◌, ap, subst, arith}
 use Rattle.std.specs.List.{list_any}
 use Rattle.std.specs.Str.{bytes_eq}
 use Rattle.std.proofs.lemmas.Slice.Eq.{bytes_eq-Decides}
@@ -7,8 +7,9 @@ use Rattle.ae_types.specs.Observation.{Observation}
 use Rattle.ae_vault.specs.declared.entry.Entry.{Entry}
 use Rattle.ae_vault.specs.Pieces.{pack, no_entry_is_pack}
 use Rattle.ae_vault.specs.Vault.{content_of, is_entry_name, names_ascend, all_entry_names, are_entries}
-use Rattle.ae_store.specs.Changed.{text_of, text_in, change_of, change_files, entry_for}
-use Rattle.ae_store.specs.Names.{change_file}
+use Rattle.ae_store.specs.Changed.{text_of, text_in, change_of, change_text, change_files, old_files, canonical, entry_for}
+use Rattle.ae_schema.specs.Files.{project_fields, files_fields, change_fields}
+use Rattle.ae_store.specs.Names.{project_file, files_file, change_file}
 use Rattle.std.proofs.lemmas.List.{take_more}
 use Rattle.ae_types.specs.declared.change.Change.{Change}
 use Rattle.ae_store.specs.Entries.{put_entry, is_among, HasChanged}
@@ -113,3 +114,64 @@ more_files names changes i c lt is =
     pushed : (front : List Change) → change_files front ++ change_file c.number ∷ [] ≡ change_files (front ++ c ∷ [])
     pushed [] = refl
     pushed (d ∷ front) = ap (λ (rest : List (List ℕ)). change_file d.number ∷ rest) (pushed front)
+
+-- ---- all of them
+
+not_among : (changes : List Change) (name : List ℕ) → is_among (change_files changes) name ≡ false → change_text changes name ≡ []
+not_among [] name _ = refl
+not_among (c ∷ changes) name none = by_test (bytes_eq name (change_file c.number)) (λ rest. not_among changes name rest) none
+  where
+    by_test : (b : Bool) → (is_among (change_files changes) name ≡ false → change_text changes name ≡ []) → (b || is_among (change_files changes) name) ≡ false
+        → (if b then canonical (change_fields c) else change_text changes name) ≡ []
+    by_test true rest none_is = cc
+    by_test false rest none_is = rest none_is
+
+neither : (a b : Bool) → (a || b) ≡ false → (a ≡ false) × (b ≡ false)
+neither true b e = cc
+neither false b e = (refl, e)
+
+among_append : (names more : List (List ℕ)) (name : List ℕ) → is_among (names ++ more) name ≡ (is_among names name || is_among more name)
+among_append [] more name = refl
+among_append (n ∷ names) more name = ap (λ (b : Bool). bytes_eq name n || b) (among_append names more name) ∙ assoc (bytes_eq name n) (is_among names name) (is_among more name)
+  where
+    assoc : (a b c : Bool) → (a || (b || c)) ≡ ((a || b) || c)
+    assoc true b c = refl
+    assoc false b c = refl
+
+abbrev pub heads : List (List ℕ)
+heads = project_file ∷ files_file ∷ []
+
+no_text : (o : Observation) (name : List ℕ) → is_among heads name ≡ false → is_among (change_files o.changes) name ≡ false → text_in o name ≡ []
+no_text o name none no_change =
+    let first = neither (bytes_eq name project_file) (bytes_eq name files_file || false) none in
+    let second = neither (bytes_eq name files_file) false first.1 in
+    ap (λ (b : Bool). if b then canonical (project_fields (o.project, o.numbers)) else if bytes_eq name files_file then canonical (files_fields (o.files, o.locks)) else change_text o.changes name) first.0
+    ∙ ap (λ (b : Bool). if b then canonical (files_fields (o.files, o.locks)) else change_text o.changes name) second.0
+    ∙ not_among o.changes name no_change
+
+no_old_text : (o : Option Observation) (name : List ℕ) → is_among heads name ≡ false → is_among (old_files o) name ≡ false → text_of o name ≡ []
+no_old_text None name none no_change = refl
+no_old_text (Some o) name none no_change = no_text o name none no_change
+
+pub whole_content : (old : Option Observation) (new : Observation) (entries : List Entry)
+    → HasChanged ((heads ++ change_files new.changes) ++ old_files old) old new entries → (name : List ℕ) → content_of entries name ≡ entry_for old new name
+whole_content old new entries has name = has.content name ∙ by_test (is_among ((heads ++ change_files new.changes) ++ old_files old) name) refl
+  where
+    by_test : (b : Bool) → is_among ((heads ++ change_files new.changes) ++ old_files old) name ≡ b → (if b then entry_for old new name else None) ≡ entry_for old new name
+    by_test true is = refl
+    by_test false is =
+        let one = neither (is_among (heads ++ change_files new.changes) name) (is_among (old_files old) name) (sym (among_append (heads ++ change_files new.changes) (old_files old) name) ∙ is) in
+        let two = neither (is_among heads name) (is_among (change_files new.changes) name) (sym (among_append heads (change_files new.changes) name) ∙ one.0) in
+        sym (λ i. change_of (no_old_text old name two.0 one.1 i) (no_text new name two.0 two.1 i))
+
+pub length_all : (old : Option Observation) (new : Observation) → length ((heads ++ change_files new.changes) ++ old_files old) ≡ 2 + length (change_files new.changes) + length (old_files old)
+length_all old new = append_length (heads ++ change_files new.changes) (old_files old) ∙ ap (λ (n : ℕ). n + length (old_files old)) (append_length heads (change_files new.changes))
+  where
+    append_length : (xs ys : List (List ℕ)) → length (xs ++ ys) ≡ length xs + length ys
+    append_length [] ys = omega arith
+    append_length (x ∷ xs) ys = let rest = append_length xs ys in omega (arith, rest)
+
+-- what follows from a fact that holds at Ok
+pub if_ok_from : {T E : Type 0} {P : T → Type 0} (Q : T → Type 0) (r : Result T E) → ((x : T) → P x → Q x) → IfOk r P → IfOk r Q
+if_ok_from Q (Ok x) gives holds = gives x holds
+if_ok_from Q (Err e) gives holds = tt

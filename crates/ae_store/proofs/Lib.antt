@@ -2,7 +2,7 @@ pub mod Reading
 pub mod FileNames
 pub mod Disks
 pub mod OneRecord
-pub mod Laws
+pub mod OneState
 pub mod Told
 pub mod LoadSteps
 pub mod EntryPlaces

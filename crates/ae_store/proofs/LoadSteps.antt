@@ -16,7 +16,7 @@ use Rattle.ae_store.specs.Names.{project_file}
 use Rattle.ae_store.specs.Records.{StandsFor, records}
 use Rattle.ae_store.specs.Damage.{ReadsProject, ReadsTable, IsDamaged, project, table, change, beside}
 use Rattle.ae_store.specs.Steps.{IsReading, AreRead, IsChecked, IsLoaded}
-use Rattle.ae_store.proofs.Laws.{Reads, read_records}
+use Rattle.ae_store.proofs.OneState.{Reads, read_records}
 
 pub project_err : (files : Image) (s : Stop) → files project_file ≢ [] → IsReading (λ (p : Project × List ℕ). ReadsProject files p.0 p.1) blame.Project (Err s) → IsLoaded files (Err s)
 project_err files (Blamed b) some is = (some, subst (IsDamaged files) (sym is.0) (project (λ p numbers reads. is.1 (p, numbers) reads)))

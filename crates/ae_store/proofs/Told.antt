@@ -12,7 +12,7 @@ use Rattle.ae_store.specs.Records.{StandsFor}
 use Rattle.ae_store.specs.Damage.{IsDamaged}
 use Rattle.ae_store.specs.Answers.{IsState, IsBlamed, IsNamed}
 use Rattle.ae_store.specs.Steps.{IsLoaded, IsToldOf}
-use Rattle.ae_store.proofs.Laws.{one_state, sound_not_damaged, one_blamed}
+use Rattle.ae_store.proofs.OneState.{one_state, sound_not_damaged, one_blamed}
 
 abbrev Told : Type 0
 Told = Result (Option Observation) StoreError

@@ -1,12 +1,11 @@
 -- The texts of the state files, and those of them that a step changes.
-use Rattle.std.specs.Prelude.{◌≡◌, ◌≤◌, ℕ, List, [], ◌∷◌, map, Option, Some, None, if◌then◌else◌}
+use Rattle.std.specs.Prelude.{◌≤◌, ℕ, List, [], ◌∷◌, map, Option, Some, None, if◌then◌else◌}
 use Rattle.std.specs.Str.{bytes_eq}
 use Rattle.ae_text.specs.Canonical.{fields_text}
 use Rattle.ae_text.specs.View.{members_of}
 use Rattle.ae_schema.specs.Files.{project_fields, files_fields, change_fields}
 use Rattle.ae_schema.specs.Records.{Named}
 use Rattle.ae_types.specs.declared.change.Change.{Change}
-use Rattle.ae_types.specs.Found.{number_of_change}
 use Rattle.ae_types.specs.Observation.{Observation}
 use Rattle.ae_store.specs.Names.{project_file, files_file, change_file}
 
@@ -39,10 +38,6 @@ change_of old new = if bytes_eq old new then None else Some new
 abbrev pub entry_for : Option Observation → Observation → List ℕ → Option (List ℕ)
 entry_for old new name = change_of (text_of old name) (text_in new name)
 
--- all changes of the project are looked at
-abbrev pub IsWhole : Observation → Type 0
-IsWhole o = map number_of_change o.changes ≡ o.numbers
-
 -- the names of the files of these changes
 abbrev pub change_files : List Change → List (List ℕ)
 change_files changes = map (λ (change : Change). change_file change.number) changes
@@ -51,3 +46,8 @@ change_files changes = map (λ (change : Change). change_file change.number) cha
 abbrev pub AreNumbered : List Change → Type 0
 AreNumbered [] = Unit {0}
 AreNumbered (change ∷ changes) = (change.number ≤ 1999) × AreNumbered changes
+
+-- the names of the files of the old state's changes
+abbrev pub old_files : Option Observation → List (List ℕ)
+old_files None = []
+old_files (Some o) = change_files o.changes

@@ -1,12 +1,10 @@
 // A batch of the state files that a step changes.
-ghost use Rattle.std.specs.Prelude.{◌≡◌, ◌∷◌, ◌++◌, [], ℕ, List, true, Some, IfOk, IfSome, OnOk, option_copied};
-ghost use Rattle.ae_outside.specs.Image.{Image};
+ghost use Rattle.std.specs.Prelude.{◌≡◌, ◌≤◌, length, ◌∷◌, ◌++◌, [], ℕ, List, true, Some, IfOk, IfSome, OnOk, option_copied};
 ghost use Rattle.ae_vault.specs.Pieces.{are_pieces};
-ghost use Rattle.ae_vault.specs.Vault.{content_of, put};
-ghost use Rattle.ae_store.specs.Changed.{AreNumbered, change_files, entry_for, IsWhole};
+ghost use Rattle.ae_vault.specs.Vault.{content_of};
+ghost use Rattle.ae_store.specs.Changed.{AreNumbered, change_files, old_files, entry_for};
 ghost use Rattle.ae_store.specs.Entries.{HasChanged};
 ghost use Rattle.ae_store.specs.Names.{project_file, files_file};
-ghost use Rattle.ae_store.specs.Records.{StandsFor};
 
 use crate::entries::put_changed;
 use crate::names::{FILES, PROJECT, change_name};
@@ -23,6 +21,8 @@ fn changed_heads(
 ) -> Result<Vec<Entry>, AllocError>
     ensures old { OnOk result (IfSome (option_copied old.entry) (λ o. AreNumbered o.changes)) }
     ensures new { OnOk result (AreNumbered new.now.changes) }
+    ensures few_old { OnOk result (length (old_files (option_copied old.entry)) ≤ 2000) }
+    ensures few_new { OnOk result (length (change_files new.now.changes) ≤ 2000) }
     ensures entries { IfOk result (λ entries. HasChanged (project_file ∷ files_file ∷ []) (option_copied old.entry) new.now entries.items) }
 {
     let mut entries = Vec::new(alloc);
@@ -58,6 +58,23 @@ fn put_changes(
     Ok(())
 }
 
+// Puts the entries of the old state's changes, where they change.
+fn put_old_changes(
+    alloc: Global,
+    entries: &mut Vec<Entry>,
+    old: Option<&State>,
+    new: &State,
+) -> Result<(), AllocError>
+    requires old { IfSome (option_copied old) (λ o. AreNumbered o.changes) }
+    requires new { AreNumbered new.now.changes }
+    ensures { OnOk result ((names : List (List ℕ)) → HasChanged names (option_copied old.entry) new.now entries.old.items → HasChanged (names ++ old_files (option_copied old.entry)) (option_copied old.entry) new.now entries.new.items) }
+{
+    match old {
+        Some(state) => put_changes(alloc, entries, state, old, new),
+        None => Ok(()),
+    }
+}
+
 /// A batch that puts these pieces, and the state files whose records differ between the old state and the new one. The old
 /// state is `None` where there is no project.
 pub fn batch(
@@ -69,15 +86,11 @@ pub fn batch(
     requires { are_pieces pieces ≡ true }
     // exactly these pieces,
     ensures pieces { IfOk result (λ batch. batch.pieces ≡ pieces) }
-    // exactly the state files whose texts differ, each with its new text,
+    // exactly the state files whose texts differ, each with its new text; a change that goes gets no bytes.
     ensures entries { IfOk result (λ batch. (name : List ℕ) → content_of batch.entries name ≡ entry_for (option_copied old.entry) new.now name) }
-    // so that files of the old state become files of the new one, where all its changes are looked at.
-    ensures stands { IfOk result (λ batch. IsWhole new.now → (files : Image) → StandsFor files (option_copied old.entry) → StandsFor (put batch.entries files) (Some new.now)) }
 {
     let mut entries = changed_heads(alloc, old, new)?;
     put_changes(alloc, &mut entries, new, old, new)?;
-    if let Some(state) = old {
-        put_changes(alloc, &mut entries, state, old, new)?;
-    }
+    put_old_changes(alloc, &mut entries, old, new)?;
     Vault::prepare(alloc, EntryList::of(entries), pieces)
 }

@@ -6,6 +6,7 @@ mod changes;
 mod entries;
 mod error;
 mod files;
+mod laws;
 mod loading;
 mod names;
 mod records;
@@ -15,4 +16,10 @@ mod whole;
 
 pub use changed::batch;
 pub use error::StoreError;
+pub use laws::note_damage;
 pub use loading::load;
+
+#[cfg(test)]
+mod cases;
+#[cfg(test)]
+mod tests;

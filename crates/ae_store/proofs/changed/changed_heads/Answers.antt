@@ -4,6 +4,8 @@ use Rattle.ae_store.specs.Changed.{text_of, text_in}
 use Rattle.ae_store.specs.Entries.{HasChanged}
 use Rattle.ae_store.specs.Names.{project_file, files_file}
 use Rattle.ae_store.proofs.ChangedFiles.{with_changed, push_changed, none_changed}
+use Rattle.ae_store.proofs.ChangeTexts.{few_files}
+use Rattle.std.proofs.Common.{Some}
 use Rattle.ae_store.proofs.changed.changed_heads.Goals as goal
 
 pub returns-clause-entries : goal.returns-clause-entries
@@ -17,3 +19,9 @@ returns-clause-entries c =
     let second : c.put_changed-2.new.entries.items ≡ with_changed files_file (text_of old files_file) (text_in new files_file) c.put_changed.new.entries.items =
         c.in_ok-put_changed-2.ensures ∙ (λ i. with_changed (c.in_ok-name-2.ensures.ok i) ((c.as_slice-2.ensures.value ∙ c.in_ok-before-2.ensures) i) (c.in_ok-after-2.ensures i) c.put_changed.new.entries.items) in
     subst (λ (es : List Entry). HasChanged (project_file ∷ files_file ∷ []) old new es) (sym second) (push_changed (project_file ∷ []) old new c.put_changed.new.entries.items files_file refl refl has_first)
+
+pub returns-clause-few_old : goal.returns-clause-few_old
+returns-clause-few_old c = few_files (option_copied c.args.old) c.in_ok-before.ensures.numbered c.project_text.ensures.ascend
+
+pub returns-clause-few_new : goal.returns-clause-few_new
+returns-clause-few_new c = few_files (Some c.args.new.now) c.in_ok-after.ensures.numbered c.project_text-2.ensures.ascend

@@ -9,7 +9,7 @@ use Rattle.ae_types.specs.Observation.{Observation}
 use Rattle.ae_store.specs.Names.{project_file}
 use Rattle.ae_store.specs.Damage.{ReadsProject, ReadsTable, ReadsChanges}
 use Rattle.ae_store.specs.Steps.{AreRead}
-use Rattle.ae_store.proofs.Laws.{Reads}
+use Rattle.ae_store.proofs.OneState.{Reads}
 use Rattle.ae_store.proofs.LoadSteps.{project_err, table_err, changes_err, checked_err, checked_ok}
 use Rattle.ae_store.proofs.loading.load_project.Goals as goal
 

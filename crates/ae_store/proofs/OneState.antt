@@ -1,5 +1,5 @@
 -- Files stand for one thing, or blame one file, and never both.
-use Rattle.std.proofs.Common.{◌≡◌, ◌≢◌, ℕ, Bool, true, false, ◌&&◌, not, if◌then◌else◌, List, [], ◌∷◌, ◌++◌, length, Option, Some, None, refl, sym, ◌∙◌, ap, subst}
+use Rattle.std.proofs.Common.{◌≡◌, ◌≢◌, ℕ, Bool, true, false, ◌&&◌, not, if◌then◌else◌, List, [], ◌∷◌, ◌++◌, length, Option, Some, None, IsSomeAnd, refl, sym, ◌∙◌, ap, subst}
 use Rattle.std.specs.Option.{option_or, option_map}
 use Rattle.std.specs.List.{find}
 use Rattle.ae_outside.specs.Image.{Image}
@@ -17,7 +17,8 @@ use Rattle.std.specs.Ordering.{nat_cmp}
 use Rattle.ae_types.specs.Sound.{Sound}
 use Rattle.ae_types.proofs.RulesAre.{sound-blamed, blamed-sound}
 use Rattle.ae_store.specs.Names.{project_file, files_file, change_file}
-use Rattle.ae_store.specs.Records.{IsProject, IsTable, IsChange, AreChangeFiles, AreRecords, StandsFor, nothing, records}
+use Rattle.ae_store.specs.Records.{IsProject, IsTable, IsChange, AreChangeFiles, AreRecords, StandsFor, Stands, nothing, records}
+use Rattle.ae_vault.specs.Kept.{ByFiles}
 use Rattle.ae_store.specs.Damage.{ReadsProject, ReadsTable, ReadsChange, ReadsChanges, IsDamaged, project, table, change, beside}
 use Rattle.ae_store.proofs.OneRecord.{same_some, one_project, one_table, one_change, some_project}
 
@@ -203,3 +204,12 @@ one_blamed files _ _ (beside o b rp rt rc blames) (change q others rq rows locks
 one_blamed files _ _ (beside o b rp rt rc blames) (beside p c rq rt2 rc2 blames2) =
     let same = same_records files o p (read_records files o (record { project = rp; table = rt; changes = rc })) (read_records files p (record { project = rq; table = rt2; changes = rc2 })) in
     same_some b c (sym blames ∙ ap blamed same ∙ blames2)
+
+-- the effective files say what an image stands for
+pub by_files : ByFiles Stands
+by_files f g o same stands = subst (λ (e : Option Image). IsSomeAnd e (λ files. StandsFor files o)) same stands
+
+pub state_not_damaged : (files : Image) (o : Observation) (b : Blame) → StandsFor files (Some o) → IsDamaged files b → ⊥
+state_not_damaged files o b stands damaged =
+    let are = view files (Some o) stands in
+    not_damaged files o b (sound_reads files o are.0 are.1) (sound-blamed o are.1) damaged
