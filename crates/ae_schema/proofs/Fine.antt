@@ -1,10 +1,10 @@
 -- The records are well formed: their words are words, no name stands twice, and nothing nests too deep.
-use Rattle.std.proofs.Common.{◌≡◌, ◌≢◌, ℕ, ◌-◌, ◌<◌, Bool, true, false, not, ◌&&◌, IsTrue, List, [], ◌∷◌, ◌++◌, length, Option, Some, None, map, refl, sym, ◌∙◌, arith}
+use Rattle.std.proofs.Common.{◌≡◌, ◌≢◌, ℕ, ◌-◌, ◌<◌, Bool, true, false, not, ◌&&◌, IsTrue, List, [], ◌∷◌, ◌++◌, length, Option, Some, None, map, refl, arith}
 use Rattle.std.specs.Prelude.{codes}
 use Rattle.std.specs.Str.{bytes_eq}
 use Rattle.std.specs.Cmp.Lexicographic.{bytes_decides}
-use Rattle.std.proofs.lemmas.Bool.{and_parts, false≢true}
-use Rattle.ae_text.specs.Tree.{Node, word, number, str, list, fields, Items, Members}
+use Rattle.std.proofs.lemmas.Bool.{and_parts}
+use Rattle.ae_text.specs.Tree.{Node, word, number, str}
 use Rattle.ae_text.specs.View.{items_of, members_of}
 use Rattle.ae_text.specs.WellFormed.{is_word, HasGoodWords, ItemsHaveGoodWords, MembersHaveGoodWords, LacksName, HasDistinctNames, ItemsHaveDistinctNames, MembersHaveDistinctNames, FitsDepth, ItemsFitDepth, MembersFitDepth, IsWellFormed}
 use Rattle.ae_base.specs.Words.{phase_word, action_word, usage_word, cause_word, ground_word, kind_word, what_word}
@@ -35,7 +35,7 @@ use Rattle.ae_types.specs.declared.change.Evidence.{Evidence}
 use Rattle.ae_types.specs.declared.change.HistoryRow.{HistoryRow}
 use Rattle.ae_types.specs.declared.change.Change.{Change}
 use Rattle.ae_schema.specs.Records.{Named, structure}
-use Rattle.ae_schema.specs.Spelled.{hex_string, run_fields, outcome_fields, flag, end_action_word, optional, list_of, version, optional_version, delta_row, file_version, file_row, lock, change_file, evidence_row, history_row}
+use Rattle.ae_schema.specs.Spelled.{hex_string, run_fields, outcome_fields, flag, end_action_word, optional, list_of, optional_version, delta_row, file_version, file_row, lock, change_file, evidence_row, history_row}
 use Rattle.ae_schema.specs.Files.{project_fields, files_fields, change_fields}
 
 -- The value is well formed where so many levels are left.

@@ -1,5 +1,5 @@
 -- The first wrong place of a list of fields.
-use Rattle.std.proofs.Common.{◌≡◌, ◌≤◌, ◌<◌, ℕ, zero, suc, ◌+◌, List, [], ◌∷◌, ◌++◌, length, map, take, drop, ◌-◌, get_or, refl, sym, ap, ◌∙◌, subst, arith}
+use Rattle.std.proofs.Common.{◌≡◌, ◌≤◌, ◌<◌, ℕ, ◌+◌, List, [], ◌∷◌, length, map, take, drop, ◌-◌, get_or, refl, sym, ap, ◌∙◌, subst, arith}
 use Rattle.std.proofs.lemmas.List.{take_rest}
 use Rattle.ae_text.specs.Tree.{Node}
 use Rattle.ae_schema.specs.Records.{Named, named, Piece, field, end, pieces, Begins, IsWrongAt, BadAt, BadFirst, stop_behind}

@@ -1,5 +1,5 @@
 -- A text is a record or has a bad line, and never both, and one bad line at most.
-use Rattle.std.proofs.Common.{◌≡◌, ℕ, zero, suc, ◌+◌, ◌<◌, ◌⊎◌, inl, inr, List, [], ◌∷◌, ◌++◌, length, append_assoc, unwrap_or, Result, Err, refl, sym, ap, ◌∙◌, subst, arith}
+use Rattle.std.proofs.Common.{◌≡◌, ℕ, ◌<◌, ◌⊎◌, inl, inr, List, [], ◌∷◌, ◌++◌, length, append_assoc, unwrap_or, Result, Err, refl, sym, ap, ◌∙◌, subst, arith}
 use Rattle.std.specs.Prelude.{slice_get}
 use Rattle.std.proofs.lemmas.Bool.{cases_lt}
 use Rattle.ae_text.specs.Tree.{Node, word, number, str, list, fields}
@@ -8,7 +8,7 @@ use Rattle.ae_text.specs.Wrong.{IsSyntax, IsTooDeep, IsError}
 use Rattle.ae_text.specs.View.{members_of}
 use Rattle.ae_text.proofs.Whole.{one_tree}
 use Rattle.ae_text.proofs.Errors as errors
-use Rattle.ae_schema.specs.Records.{Named, Piece, pieces, structure, IsStructure, Begins, IsWrongAt, IsTextOf, IsWrongText, IsBadLine, last_line, IsAnswer, IsRefusal, BadAt, refusal_of, stop_error}
+use Rattle.ae_schema.specs.Records.{Named, Piece, pieces, structure, IsStructure, Begins, IsWrongAt, IsTextOf, IsBadLine, last_line, IsAnswer, IsRefusal, BadAt, refusal_of, stop_error}
 use Rattle.ae_schema.specs.declared.fields.Stop.{Stop}
 use Rattle.ae_schema.specs.declared.fields.Stop.TheVariants as stops
 use Rattle.ae_schema.specs.declared.error.SchemaError.{SchemaError}

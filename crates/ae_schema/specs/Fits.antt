@@ -1,5 +1,5 @@
 -- Which values their types can hold.
-use Rattle.std.specs.Prelude.{◌≡◌, ◌≤◌, ◌<◌, ◌^◌, ℕ, List, Option, IfSome, All, length}
+use Rattle.std.specs.Prelude.{◌≡◌, ◌≤◌, ◌<◌, ◌^◌, ℕ, List, IfSome, All, length}
 use Rattle.hex.specs.Hex.{IsBytes}
 use Rattle.ae_base.specs.Names.{IsPath, IsUser, IsProjectName}
 use Rattle.ae_base.specs.Users.{AllDiffer}

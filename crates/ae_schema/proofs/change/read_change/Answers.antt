@@ -1,9 +1,8 @@
-use Rattle.std.proofs.Common.{◌≡◌, ℕ, List, [], ◌∷◌, Err, All, refl, ap, ◌∙◌, sym}
-use Rattle.std.specs.Prelude.{codes, IfSome, ◌<◌, ◌^◌}
-use Rattle.ae_text.specs.Tree.{word, number, str}
+use Rattle.std.proofs.Common.{◌≡◌, ℕ, Err, All, refl, ap, ◌∙◌}
+use Rattle.std.specs.Prelude.{IfSome}
 use Rattle.ae_base.specs.Names.{IsUser}
 use Rattle.ae_schema.specs.Fits.{IsChangeNo, FitsChangeFile, FitsEvidence, FitsHistory, FitsChange}
-use Rattle.ae_schema.specs.Records.{Named, named, IsBadLine}
+use Rattle.ae_schema.specs.Records.{IsBadLine}
 use Rattle.ae_schema.specs.Files.{change_fields}
 use Rattle.ae_schema.specs.Shapes.{ChangeShape, change_from, change_shape}
 use Rattle.ae_schema.proofs.Texts.{never_both, same_line, same_error, bad_answer, bad_refusal}

@@ -1,4 +1,4 @@
-use Rattle.std.proofs.Common.{◌≡◌, ap, sym, ◌∙◌, subst}
+use Rattle.std.proofs.Common.{ap, sym, ◌∙◌, subst}
 use Rattle.ae_text.specs.Tree.{Node}
 use Rattle.ae_text.specs.WellFormed.{IsWellFormed}
 use Rattle.ae_schema.specs.Records.{structure}

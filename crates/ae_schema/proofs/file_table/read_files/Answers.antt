@@ -1,8 +1,6 @@
-use Rattle.std.proofs.Common.{◌≡◌, ℕ, List, [], ◌∷◌, Err, All, refl, ap, ◌∙◌, sym}
-use Rattle.std.specs.Prelude.{codes, IfSome, ◌<◌, ◌^◌}
-use Rattle.ae_text.specs.Tree.{word, number, str}
+use Rattle.std.proofs.Common.{◌≡◌, ℕ, Err, All, refl, ap, ◌∙◌}
 use Rattle.ae_schema.specs.Fits.{FitsFile, FitsLock, FitsFiles}
-use Rattle.ae_schema.specs.Records.{Named, named, IsBadLine}
+use Rattle.ae_schema.specs.Records.{IsBadLine}
 use Rattle.ae_schema.specs.Files.{files_fields}
 use Rattle.ae_schema.specs.Shapes.{FilesShape, files_from, files_shape}
 use Rattle.ae_schema.proofs.Texts.{never_both, same_line, same_error, bad_answer, bad_refusal}

@@ -1,5 +1,3 @@
-use Rattle.std.proofs.Common.{◌≡◌, ◌++◌, List, ℕ, IsTrue, refl, sym, subst, ◌∙◌}
-use Rattle.ae_base.specs.Users.{AllDiffer}
 use Rattle.ae_base.proofs.UsersDiffer.{not_before}
 use Rattle.ae_schema.proofs.lists.distinct.Goals as goal
 

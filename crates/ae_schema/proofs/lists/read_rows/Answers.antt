@@ -1,4 +1,4 @@
-use Rattle.std.proofs.Common.{◌≡◌, ◌∷◌, [], ◌++◌, List, ℕ, ◌+◌, All, map, take, Some, get_or, sym, ap, ◌∙◌, add-one, arith}
+use Rattle.std.proofs.Common.{◌≡◌, ◌∷◌, [], ◌++◌, sym, ap, ◌∙◌, add-one}
 use Rattle.ae_text.specs.View.{node}
 use Rattle.ae_schema.proofs.RowLists.{element, grown, grown_fits}
 use Rattle.ae_schema.proofs.lists.read_rows.Goals as goal

@@ -1,4 +1,4 @@
-use Rattle.std.proofs.Common.{◌≡◌, ℕ, List, ap, sym, ◌∙◌, subst}
+use Rattle.std.proofs.Common.{ℕ, List, ap, sym, ◌∙◌, subst}
 use Rattle.ae_text.specs.Tree.{Node}
 use Rattle.std.specs.Prelude.{IfOk}
 use Rattle.ae_text.specs.Grammar.{Reads}

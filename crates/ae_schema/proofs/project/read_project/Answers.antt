@@ -1,9 +1,8 @@
-use Rattle.std.proofs.Common.{◌≡◌, ℕ, List, [], ◌∷◌, Err, All, refl, ap, ◌∙◌, sym}
-use Rattle.std.specs.Prelude.{codes, IfSome, ◌<◌, ◌^◌}
-use Rattle.ae_text.specs.Tree.{word, number, str}
+use Rattle.std.proofs.Common.{◌≡◌, ℕ, Err, All, refl, ap, ◌∙◌}
+use Rattle.std.specs.Prelude.{◌<◌, ◌^◌}
 use Rattle.ae_base.specs.Names.{IsProjectName}
 use Rattle.ae_schema.specs.Fits.{AreUsers, IsChangeNo, FitsDelta, FitsProject}
-use Rattle.ae_schema.specs.Records.{Named, named, IsBadLine}
+use Rattle.ae_schema.specs.Records.{IsBadLine}
 use Rattle.ae_schema.specs.Files.{project_fields}
 use Rattle.ae_schema.specs.Shapes.{ProjectShape, project_from, project_shape}
 use Rattle.ae_schema.proofs.Texts.{never_both, same_line, same_error, bad_answer, bad_refusal}

@@ -1,4 +1,4 @@
-use Rattle.std.proofs.Common.{◌≡◌, Err, ap, sym, ◌∙◌}
+use Rattle.std.proofs.Common.{Err, ap, ◌∙◌}
 use Rattle.ae_schema.proofs.Texts.{told_token}
 use Rattle.ae_schema.proofs.record.read_text.Goals as goal
 

@@ -1,4 +1,4 @@
-use Rattle.std.proofs.Common.{◌≡◌, List, ℕ, map, Err, subst, sym, Bor}
+use Rattle.std.proofs.Common.{List, ℕ, map, subst, sym, Bor}
 use Rattle.ae_text.specs.Tree.{Node}
 use Rattle.ae_text.specs.View.{node, fields_seen}
 use Rattle.ae_text.specs.Grammar.{Reads}

@@ -1,4 +1,4 @@
-use Rattle.std.proofs.Common.{◌≡◌, List, ℕ, map, Some, ap, Bor}
+use Rattle.std.proofs.Common.{List, ℕ, map, Some, ap, Bor}
 use Rattle.ae_text.specs.View.{node, fields_seen}
 use Rattle.ae_schema.specs.Records.{named}
 use Rattle.ae_schema.proofs.RowLists.{same_structure}

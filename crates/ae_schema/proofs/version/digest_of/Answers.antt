@@ -1,5 +1,4 @@
-use Rattle.std.proofs.Common.{◌≡◌, List, ℕ, Some, Result, Ok, Err, ap, ◌∙◌, sym, subst}
-use Rattle.std.specs.Prelude.{IfOk}
+use Rattle.std.proofs.Common.{ap, ◌∙◌, sym}
 use Rattle.hex.specs.Hex.{encode_lower}
 use Rattle.ae_schema.proofs.Options.{decoded, decoding, no_error}
 use Rattle.ae_schema.proofs.version.digest_of.Goals as goal

@@ -1,5 +1,5 @@
-use Rattle.std.proofs.Common.{◌≡◌, List, ℕ, Some, ap, ◌∙◌, sym, subst, length, refl}
-use Rattle.ae_schema.proofs.Options.{no_none, some_is, read_from}
+use Rattle.std.proofs.Common.{Some, ap, ◌∙◌}
+use Rattle.ae_schema.proofs.Options.{no_none, some_is}
 use Rattle.ae_schema.specs.Shapes.{evidence_from}
 use Rattle.ae_schema.proofs.change_rows.EvidenceValue.of_tree.Goals as goal
 

@@ -1,5 +1,5 @@
-use Rattle.std.proofs.Common.{◌≡◌, List, ℕ, Some, ap, ◌∙◌, sym, subst, length, refl}
-use Rattle.ae_schema.proofs.Options.{no_none, some_is, read_from}
+use Rattle.std.proofs.Common.{Some, ap}
+use Rattle.ae_schema.proofs.Options.{no_none, some_is}
 use Rattle.ae_schema.proofs.change_rows.HistoryRowValue.of_tree.Goals as goal
 
 pub returns-in-None-clause-only : goal.returns-in-None-clause-only

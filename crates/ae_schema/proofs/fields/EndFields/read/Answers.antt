@@ -1,4 +1,4 @@
-use Rattle.std.proofs.Common.{◌≤◌, ℕ, List, length, map, arith, Bor}
+use Rattle.std.proofs.Common.{ℕ, List, map, arith, Bor}
 use Rattle.ae_text.specs.View.{named_node}
 use Rattle.ae_schema.proofs.Places.{end_wrong}
 use Rattle.ae_schema.proofs.fields.EndFields.read.Goals as goal

@@ -1,7 +1,6 @@
-use Rattle.std.proofs.Common.{◌≤◌, ℕ, List, length, map, ◌∷◌, arith, Bor}
+use Rattle.std.proofs.Common.{ℕ, List, map, arith, Bor}
 use Rattle.std.proofs.lemmas.List.{length-map}
 use Rattle.ae_text.specs.View.{named_node}
-use Rattle.ae_schema.specs.declared.fields.Then.{Then}
 use Rattle.ae_schema.proofs.Places.{missing_wrong, first_stop, first_at, behind_at}
 use Rattle.ae_schema.proofs.fields.ThenFields.read.Goals as goal
 

@@ -1,5 +1,5 @@
-use Rattle.std.proofs.Common.{◌≡◌, List, ℕ, Some, ap, ◌∙◌, sym, subst, length, refl}
-use Rattle.ae_schema.proofs.Options.{no_none, some_is, read_from}
+use Rattle.std.proofs.Common.{Some, ap, ◌∙◌, sym, length}
+use Rattle.ae_schema.proofs.Options.{no_none, some_is}
 use Rattle.ae_schema.specs.Shapes.{row_from}
 use Rattle.ae_schema.proofs.file_table.FileRowValue.of_tree.Goals as goal
 

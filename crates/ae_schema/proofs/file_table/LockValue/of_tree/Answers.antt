@@ -1,5 +1,4 @@
-use Rattle.std.proofs.Common.{◌≡◌, List, ℕ, Some, ap, ◌∙◌, sym, subst, length, refl}
-use Rattle.ae_schema.proofs.Options.{no_none, some_is, read_from}
+use Rattle.ae_schema.proofs.Options.{no_none}
 use Rattle.ae_schema.proofs.file_table.LockValue.of_tree.Goals as goal
 
 pub returns-in-None-clause-only : goal.returns-in-None-clause-only

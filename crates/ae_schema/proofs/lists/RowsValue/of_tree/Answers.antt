@@ -1,4 +1,4 @@
-use Rattle.std.proofs.Common.{◌≡◌, map, Some, ap, ◌∙◌}
+use Rattle.std.proofs.Common.{map, Some, ap, ◌∙◌}
 use Rattle.ae_text.specs.View.{node}
 use Rattle.ae_schema.proofs.RowLists.{same_list}
 use Rattle.ae_schema.proofs.lists.RowsValue.of_tree.Goals as goal

@@ -1,4 +1,4 @@
-use Rattle.std.proofs.Common.{◌≡◌, List, ℕ, map, Some, sym, subst}
+use Rattle.std.proofs.Common.{◌≡◌, List, ℕ, map, sym, subst}
 use Rattle.ae_text.specs.Tree.{str}
 use Rattle.ae_text.specs.View.{node}
 use Rattle.ae_base.specs.Users.{AllDiffer}
