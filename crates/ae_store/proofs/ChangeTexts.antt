@@ -1,16 +1,14 @@
 -- The texts of the files of changes, by number.
-use Rattle.std.proofs.Common.{◌≡◌, ◌≢◌, ℕ, ◌+◌, ◌-◌, ◌≤◌, ◌<◌, ◌^◌, nat_eq, Bool, true, false, ◌&&◌, ◌||◌, not, if◌then◌else◌, List, [], ◌∷◌, ◌++◌, length, drop, map, take, get_or, Option, Some, None, IfSome, refl, sym, ◌∙◌, ap, subst, arith}
+use Rattle.std.proofs.Common.{◌≡◌, ℕ, ◌+◌, ◌≤◌, ◌<◌, ◌^◌, nat_eq, Bool, true, false, not, if◌then◌else◌, List, [], ◌∷◌, length, drop, Option, Some, None, IfSome, refl, sym, ◌∙◌, ap, arith}
 use Rattle.std.specs.Prelude.{All, is_some}
 use Rattle.std.specs.List.{find}
 use Rattle.std.specs.Option.{option_map}
 use Rattle.std.specs.Ordering.{nat_cmp}
-use Rattle.std.specs.declared.cmp.Ordering.TheVariants.{Less}
 use Rattle.std.specs.Str.{bytes_eq}
 use Rattle.std.specs.Str.Parse.{digits_value}
 use Rattle.std.specs.Fmt.{decimal}
 use Rattle.std.proofs.lemmas.Bool.Decides.{nat_tests}
 use Rattle.std.proofs.lemmas.Fmt.{decimal_is_IsNumeral}
-use Rattle.std.proofs.lemmas.List.{take_more}
 use Rattle.std.proofs.lemmas.List.Elements.{All-head, All-tail}
 use Rattle.std.proofs.lemmas.Slice.Eq.{bytes_eq-Decides}
 use Rattle.ae_schema.specs.Fits.{IsChangeNo}
@@ -20,7 +18,7 @@ use Rattle.ae_types.specs.declared.change.Change.{Change}
 use Rattle.ae_types.specs.Observation.{Observation}
 use Rattle.ae_types.specs.Found.{number_of_change, change_in, has_number}
 use Rattle.ae_types.specs.Ordered.{Above, Ascends}
-use Rattle.ae_types.specs.Rules.{blamed, bad_change, is_change_of, change_is_good}
+use Rattle.ae_types.specs.Rules.{bad_change, is_change_of, change_is_good}
 use Rattle.ae_types.specs.Sound.{Sound}
 use Rattle.ae_types.proofs.Keys.{less-is}
 use Rattle.ae_types.proofs.RulesAre.{sound-blamed}
@@ -77,9 +75,10 @@ number_fits (m ∷ numbers) n all has = by_test (nat_eq n m) refl (λ more. numb
     by_test false is rest = rest (ap (λ (b : Bool). is_some (if b then Some m else find (λ other. nat_eq n other) numbers)) (sym is) ∙ has)
 
 good_number : (all : List ℕ) (c : Change) (cs : List Change) (b : Bool) → is_change_of all c ≡ b → bad_change all (c ∷ cs) ≡ None → (has_number all c.number ≡ true) × (bad_change all cs ≡ None)
-good_number all c cs true good none =
-    ((both (has_number all c.number) (change_is_good c) good).0,
-    ap (λ (b : Bool). option_map (λ (change : Change). blame.Change change.number) (if not b then Some c else find (λ change. not (is_change_of all change)) cs)) (sym good) ∙ none)
+good_number all c cs true good none = (
+  (both (has_number all c.number) (change_is_good c) good).0,
+  ap (λ (b : Bool). option_map (λ (change : Change). blame.Change change.number) (if not b then Some c else find (λ change. not (is_change_of all change)) cs)) (sym good) ∙ none,
+)
 good_number all c cs false bad none =
     let no : bad_change all (c ∷ cs) ≡ Some (blame.Change c.number) = ap (λ (b : Bool). option_map (λ (change : Change). blame.Change change.number) (if not b then Some c else find (λ change. not (is_change_of all change)) cs)) bad in
     cc

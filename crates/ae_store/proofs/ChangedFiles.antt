@@ -1,12 +1,11 @@
 -- One more state file is put, where it changes.
-use Rattle.std.proofs.Common.{◌≡◌, ℕ, ◌+◌, ◌≤◌, ◌<◌, take, get_or, append_assoc, Bool, true, false, ◌&&◌, ◌||◌, if◌then◌else◌, List, [], ◌∷◌, ◌++◌, length, Option, Some, None, Result, Ok, Err, IfOk, refl, sym, ◌∙◌, ap, subst, arith}
-use Rattle.std.specs.List.{list_any}
+use Rattle.std.proofs.Common.{◌≡◌, ℕ, ◌+◌, ◌<◌, take, get_or, append_assoc, Bool, true, false, ◌&&◌, ◌||◌, if◌then◌else◌, List, [], ◌∷◌, ◌++◌, length, Option, Some, None, Result, Ok, Err, IfOk, refl, sym, ◌∙◌, ap, arith}
 use Rattle.std.specs.Str.{bytes_eq}
 use Rattle.std.proofs.lemmas.Slice.Eq.{bytes_eq-Decides}
 use Rattle.ae_types.specs.Observation.{Observation}
 use Rattle.ae_vault.specs.declared.entry.Entry.{Entry}
-use Rattle.ae_vault.specs.Pieces.{pack, no_entry_is_pack}
-use Rattle.ae_vault.specs.Vault.{content_of, is_entry_name, names_ascend, all_entry_names, are_entries}
+use Rattle.ae_vault.specs.Pieces.{pack}
+use Rattle.ae_vault.specs.Vault.{content_of, is_entry_name, names_ascend, all_entry_names}
 use Rattle.ae_store.specs.Changed.{text_of, text_in, change_of, change_text, change_files, old_files, canonical, entry_for}
 use Rattle.ae_schema.specs.Files.{project_fields, files_fields, change_fields}
 use Rattle.ae_store.specs.Names.{project_file, files_file, change_file}
@@ -54,11 +53,11 @@ pub push_changed : (names : List (List ℕ)) (old : Option Observation) (new : O
 push_changed names old new entries name good other has = elim (bytes_eq (text_of old name) (text_in new name)) as
     (λ s. bytes_eq (text_of old name) (text_in new name) ≡ s → HasChanged (names ++ name ∷ []) old new (if s then entries else put_entry (record { name = name; bytes = Some (text_in new name) }) entries)) [
       | true ↦ λ same. record {
-          good = has.good;
-          no_pack = has.no_pack;
-          few = let few = has.few in let more = length_push names name in omega arith;
-          content = λ n. has.content n ∙ sym (ap (λ (b : Bool). if b then entry_for old new n else None) (among_push names name n) ∙ unchanged n (is_among names n) (bytes_eq n name) refl same);
-        }
+        good = has.good;
+        no_pack = has.no_pack;
+        few = let few = has.few in let more = length_push names name in omega arith;
+        content = λ n. has.content n ∙ sym (ap (λ (b : Bool). if b then entry_for old new n else None) (among_push names name n) ∙ unchanged n (is_among names n) (bytes_eq n name) refl same);
+      }
       | false ↦ λ differs.
           let parts = both (all_entry_names entries) (names_ascend entries) has.good in
           let entry : Entry = record { name = name; bytes = Some (text_in new name) } in

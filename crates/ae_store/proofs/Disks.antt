@@ -1,5 +1,5 @@
 -- What is read from a clean disk.
-use Rattle.std.proofs.Common.{◌≡◌, Some, sym, ap, subst, arith, IsSomeAnd}
+use Rattle.std.proofs.Common.{◌≡◌, Some, sym, subst, arith, IsSomeAnd}
 use Rattle.ae_outside.specs.Image.{Image}
 use Rattle.ae_outside.specs.State.{DiskState, reads}
 use Rattle.ae_vault.specs.Commit.{IsClean}

@@ -7,7 +7,7 @@ use Rattle.std.specs.declared.cmp.Ordering.TheVariants.{Less, Equal, Greater}
 use Rattle.std.specs.FinMap.Entries.{by_order}
 use Rattle.ae_types.specs.Trees.{text_cmp}
 use Rattle.ae_types.proofs.Keys.{by_text}
-use Rattle.ae_types.proofs.Ordered.{greater-less, less-apart, greater-apart}
+use Rattle.ae_types.proofs.Ordered.{greater-less, greater-apart}
 use Rattle.ae_vault.specs.declared.entry.Entry.{Entry}
 use Rattle.ae_vault.specs.Vault.{content_of, or_else, names_ascend}
 use Rattle.ae_store.specs.Entries.{put_entry}

@@ -1,21 +1,16 @@
 -- Entries put in their order.
-use Rattle.std.proofs.Common.{◌≡◌, ◌≢◌, ◌⊎◌, inl, inr, ℕ, suc, ◌+◌, ◌≤◌, Bool, true, false, ◌&&◌, not, if◌then◌else◌, List, [], ◌∷◌, ◌++◌, length, Option, Some, None, unwrap_or, refl, sym, ◌∙◌, ap, subst, arith}
+use Rattle.std.proofs.Common.{◌≡◌, suc, ◌+◌, ◌≤◌, true, false, List, [], ◌∷◌, length, refl, ap, arith}
 use Rattle.std.proofs.lemmas.Bool.Decides.{nat_tests}
-use Rattle.std.proofs.lemmas.Slice.Eq.{bytes_eq-Decides}
 use Rattle.std.proofs.Math.ListN.{set}
 use Rattle.std.specs.List.{insert}
 use Rattle.std.specs.Str.{bytes_eq}
-use Rattle.std.specs.Ordering.{is_lt, nat_cmp, ordering_reverse}
-use Rattle.std.specs.declared.cmp.Ordering.{Ordering}
 use Rattle.std.specs.declared.cmp.Ordering.TheVariants.{Less, Equal, Greater}
-use Rattle.std.specs.Cmp.Lexicographic.{slice_cmp, nat_list_cmp_total}
 use Rattle.std.specs.FinMap.Entries.{by_order}
 use Rattle.ae_types.specs.Trees.{text_cmp}
 use Rattle.ae_vault.specs.declared.entry.Entry.{Entry}
 use Rattle.ae_vault.specs.Pieces.{pack, no_entry_is_pack}
-use Rattle.ae_vault.specs.Vault.{content_of, or_else, is_entry_name, names_ascend, all_entry_names, are_entries}
+use Rattle.ae_vault.specs.Vault.{is_entry_name, all_entry_names}
 use Rattle.ae_store.specs.Entries.{place_of, has_entry, put_entry}
-use Rattle.ae_vault.proofs.Files.{bool_cases, option_cases}
 
 -- ---- the code's two ways
 

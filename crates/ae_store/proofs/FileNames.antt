@@ -3,7 +3,7 @@ use Rattle.std.proofs.Common.{◌≡◌, ℕ, ◌+◌, ◌<◌, ◌^◌, ◌%◌
 use Rattle.std.proofs.lemmas.Bool.Decides.{nat_tests}
 use Rattle.std.proofs.lemmas.Fmt.{decimal_by_steps, length-decimal-le}
 use Rattle.std.specs.Fmt.{decimal}
-use Rattle.ae_outside.specs.DiskNames.{is_disk_name, is_name_byte, all_name_bytes, IsDiskName}
+use Rattle.ae_outside.specs.DiskNames.{is_name_byte, all_name_bytes, IsDiskName}
 use Rattle.ae_vault.specs.Vault.{is_entry_name}
 use Rattle.ae_store.specs.Names.{change_file}
 

@@ -1,14 +1,11 @@
 -- What the steps of loading come to.
-use Rattle.std.proofs.Common.{◌≡◌, ◌≢◌, ℕ, List, [], Option, Some, None, Result, Ok, Err, sym, subst}
+use Rattle.std.proofs.Common.{◌≢◌, ℕ, List, [], Some, Ok, Err, sym, subst}
 use Rattle.ae_outside.specs.Image.{Image}
-use Rattle.ae_types.specs.declared.blame.Blame.{Blame}
 use Rattle.ae_types.specs.declared.blame.Blame.TheVariants as blame
-use Rattle.ae_types.specs.declared.change.Change.{Change}
 use Rattle.ae_types.specs.declared.file_table.FileRow.{FileRow}
 use Rattle.ae_types.specs.declared.file_table.Lock.{Lock}
 use Rattle.ae_types.specs.declared.project.Project.{Project}
 use Rattle.ae_types.specs.Observation.{Observation}
-use Rattle.ae_types.specs.Rules.{blamed}
 use Rattle.ae_types.proofs.RulesAre.{blamed-sound}
 use Rattle.ae_store.specs.declared.stop.Stop.{Stop}
 use Rattle.ae_store.specs.declared.stop.Stop.TheVariants.{Blamed, DiskFault, Memory}

@@ -1,5 +1,5 @@
 -- A text is the record of at most one value.
-use Rattle.std.proofs.Common.{◌≡◌, ℕ, zero, suc, Bool, true, false, List, [], ◌∷◌, ◌++◌, map, Option, Some, None, IfSome, unwrap_or, All, refl, sym, ◌∙◌, ap, subst, Result, Ok, Err}
+use Rattle.std.proofs.Common.{◌≡◌, ℕ, zero, suc, Bool, true, false, List, [], ◌∷◌, map, Option, Some, None, IfSome, unwrap_or, All, refl, sym, ◌∙◌, ap, subst, Result, Ok, Err}
 use Rattle.std.specs.Prelude.{codes}
 use Rattle.std.specs.Str.{bytes_eq}
 use Rattle.std.proofs.lemmas.List.Elements.{All-head, All-tail}
@@ -17,14 +17,11 @@ use Rattle.ae_base.specs.declared.words.Kind.{Kind}
 use Rattle.ae_base.specs.declared.words.What.{What}
 use Rattle.ae_base.proofs.WordsFound.{phase_found, action_found, usage_found, cause_found, ground_found, kind_found, what_found}
 use Rattle.ae_text.specs.Tree.{Node, word, number, str, list, fields, Items, no_items, item, Members, no_members, member}
-use Rattle.ae_text.specs.View.{members_of, items_of}
-use Rattle.ae_text.specs.Canonical.{text}
-use Rattle.ae_text.specs.Grammar.{Reads}
+use Rattle.ae_text.specs.View.{items_of}
 use Rattle.ae_text.proofs.Whole.{one_tree}
 use Rattle.ae_text.proofs.Again.{text_again}
 use Rattle.ae_types.specs.declared.project.EndAction.{EndAction}
 use Rattle.ae_types.specs.declared.project.EndAction.TheVariants.{BeingReviewed, AwaitingReview}
-use Rattle.ae_types.specs.declared.project.Attributes.{Attributes}
 use Rattle.ae_types.specs.declared.project.DeltaRow.{DeltaRow}
 use Rattle.ae_types.specs.declared.project.Project.{Project}
 use Rattle.ae_types.specs.declared.version.VersionRef.{VersionRef}
@@ -35,7 +32,7 @@ use Rattle.ae_types.specs.declared.change.Change.{Change}
 use Rattle.ae_types.specs.declared.change.ChangeFile.{ChangeFile}
 use Rattle.ae_types.specs.declared.change.Evidence.{Evidence}
 use Rattle.ae_types.specs.declared.change.HistoryRow.{HistoryRow}
-use Rattle.ae_schema.specs.Fits.{IsDigest, FitsVersion, FitsFileVersion, FitsFile, FitsChangeFile, FitsEvidence, FitsHistory, FitsProject, FitsFiles, FitsChange}
+use Rattle.ae_schema.specs.Fits.{IsDigest, FitsVersion, FitsFileVersion, FitsFile, FitsChangeFile, FitsEvidence}
 use Rattle.ae_schema.specs.Records.{Named, structure, IsTextOf}
 use Rattle.ae_schema.specs.Spelled.{flag, end_action_word, optional, list_of, optional_version, version, delta_row, file_version, file_row, lock, change_file, evidence_row, history_row}
 use Rattle.ae_schema.specs.Files.{project_fields, files_fields, change_fields}
@@ -286,8 +283,14 @@ one_settings p q numbers others e =
     let end_is = one_end a.develop_end_action b.develop_end_action (ap (field_at 8) e) in
     let exempt_is = one_flag a.default_test_exemption b.default_test_exemption (ap (field_at 9) e) in
     λ i. record {
-      description = description_is i; developer_may_review = review_is i; developer_may_integrate = integrate_is i; reviewer_may_integrate = reviewer_is i;
-      developers_may_create_changes = create_is i; develop_end_action = end_is i; default_test_exemption = exempt_is i }
+      description = description_is i;
+      developer_may_review = review_is i;
+      developer_may_integrate = integrate_is i;
+      reviewer_may_integrate = reviewer_is i;
+      developers_may_create_changes = create_is i;
+      develop_end_action = end_is i;
+      default_test_exemption = exempt_is i;
+    }
 
 pub one_project : (bytes : List ℕ) (p q : Project) (numbers others : List ℕ) → IsProject bytes p numbers → IsProject bytes q others → (p ≡ q) × (numbers ≡ others)
 one_project bytes p q numbers others one other =
@@ -329,5 +332,12 @@ one_change bytes c d one other =
     λ i. record {
       number = number_is i;
       attributes = record { brief = brief_is i; description = description_is i; cause = cause_is i; test_exempt = test_is i; test_baseline_exempt = baseline_is i; regression_test_exempt = regression_is i };
-      phase = phase_is i; developer = developer_is i; reviewing = reviewing_is i; reviewer = reviewer_is i; integrator = integrator_is i;
-      files = files_is i; evidence = evidence_is i; history = history_is i }
+      phase = phase_is i;
+      developer = developer_is i;
+      reviewing = reviewing_is i;
+      reviewer = reviewer_is i;
+      integrator = integrator_is i;
+      files = files_is i;
+      evidence = evidence_is i;
+      history = history_is i;
+    }

@@ -1,5 +1,5 @@
 -- Files stand for one thing, or blame one file, and never both.
-use Rattle.std.proofs.Common.{◌≡◌, ◌≢◌, ℕ, Bool, true, false, ◌&&◌, not, if◌then◌else◌, List, [], ◌∷◌, ◌++◌, length, Option, Some, None, IsSomeAnd, refl, sym, ◌∙◌, ap, subst}
+use Rattle.std.proofs.Common.{◌≡◌, ◌≢◌, ℕ, Bool, true, false, ◌&&◌, not, if◌then◌else◌, List, [], ◌∷◌, ◌++◌, Option, Some, None, IsSomeAnd, refl, sym, ◌∙◌, ap, subst}
 use Rattle.std.specs.Option.{option_or, option_map}
 use Rattle.std.specs.List.{find}
 use Rattle.ae_outside.specs.Image.{Image}
@@ -10,14 +10,14 @@ use Rattle.ae_types.specs.declared.file_table.FileRow.{FileRow}
 use Rattle.ae_types.specs.declared.file_table.Lock.{Lock}
 use Rattle.ae_types.specs.declared.project.Project.{Project}
 use Rattle.ae_types.specs.Observation.{Observation}
-use Rattle.ae_types.specs.Rules.{blamed, blame_unless, bad_change, is_change_of, change_is_good, project_is_good, files_are_good, project_fits_changes, files_fit_changes}
+use Rattle.ae_types.specs.Rules.{blamed, blame_unless, bad_change, is_change_of, change_is_good, project_is_good}
 use Rattle.ae_types.specs.Found.{has_number, number_of_change}
 use Rattle.ae_types.specs.Ordered.{ascends}
 use Rattle.std.specs.Ordering.{nat_cmp}
 use Rattle.ae_types.specs.Sound.{Sound}
-use Rattle.ae_types.proofs.RulesAre.{sound-blamed, blamed-sound}
+use Rattle.ae_types.proofs.RulesAre.{sound-blamed}
 use Rattle.ae_store.specs.Names.{project_file, files_file, change_file}
-use Rattle.ae_store.specs.Records.{IsProject, IsTable, IsChange, AreChangeFiles, AreRecords, StandsFor, Stands, nothing, records}
+use Rattle.ae_store.specs.Records.{IsProject, IsChange, AreChangeFiles, AreRecords, StandsFor, Stands, nothing, records}
 use Rattle.ae_vault.specs.Kept.{ByFiles}
 use Rattle.ae_store.specs.Damage.{ReadsProject, ReadsTable, ReadsChange, ReadsChanges, IsDamaged, project, table, change, beside}
 use Rattle.ae_store.proofs.OneRecord.{same_some, one_project, one_table, one_change, some_project}
@@ -193,7 +193,7 @@ one_blamed files _ _ (change p numbers rp rows locks rt before number after spli
     absurd (worse rows locks (same_table files p q rows locks (one_project (files project_file) p q numbers others rp.is rq.is).0 rt))
 one_blamed files _ _ (change p numbers rp rows locks rt before number after splits changes read bad) (change q others rq rows2 locks2 rt2 before2 number2 after2 splits2 changes2 read2 worse) =
     ap blame.Change (one_first files before before2 number number2 after after2 changes changes2
-        (sym splits ∙ (one_project (files project_file) p q numbers others rp.is rq.is).1 ∙ splits2) read bad read2 worse)
+    (sym splits ∙ (one_project (files project_file) p q numbers others rp.is rq.is).1 ∙ splits2) read bad read2 worse)
 one_blamed files _ _ (change p numbers rp rows locks rt before number after splits changes read bad) (beside o b rq rt2 rc blames) =
     absurd (not_first files o.numbers before number after o.changes ((one_project (files project_file) o.project p o.numbers numbers rq.is rp.is).1 ∙ splits) rc bad)
 one_blamed files _ _ (beside o b rp rt rc blames) (project worse) = absurd (worse o.project o.numbers rp)

@@ -1,5 +1,5 @@
 -- What the loader tells, of what its steps answer.
-use Rattle.std.proofs.Common.{◌≡◌, ◌≢◌, ℕ, List, [], Option, Some, None, Result, Ok, Err, IfOk, refl, sym, ◌∙◌, ap, subst}
+use Rattle.std.proofs.Common.{◌≡◌, ◌≢◌, ℕ, List, [], Option, Result, Ok, Err, IfOk, refl, sym, ◌∙◌, subst}
 use Rattle.ae_outside.specs.Image.{Image}
 use Rattle.ae_types.specs.declared.blame.Blame.{Blame}
 use Rattle.ae_types.specs.Observation.{Observation}
@@ -7,7 +7,7 @@ use Rattle.ae_store.specs.declared.error.StoreError.{StoreError}
 use Rattle.ae_store.specs.declared.error.StoreError.TheVariants as store
 use Rattle.ae_store.specs.declared.stop.Stop.{Stop}
 use Rattle.ae_store.specs.declared.stop.Stop.TheVariants.{Blamed, DiskFault, Memory}
-use Rattle.ae_store.specs.Names.{project_file, blamed_file}
+use Rattle.ae_store.specs.Names.{project_file}
 use Rattle.ae_store.specs.Records.{StandsFor}
 use Rattle.ae_store.specs.Damage.{IsDamaged}
 use Rattle.ae_store.specs.Answers.{IsState, IsBlamed, IsNamed}
@@ -34,7 +34,6 @@ told_only files (Ok p) told is by o stands = subst (IsState o) (sym by) (one_sta
 told_only files (Err (Blamed b)) told is by o stands = absurd (sound_not_damaged files o b stands is.0 is.1)
 told_only files (Err DiskFault) told is by o stands = subst (IsState o) (sym by) tt
 told_only files (Err Memory) told is by o stands = subst (IsState o) (sym by) tt
-
 
 pub told_damaged : (files : Image) (loaded : Loaded) (told : Told) → IsLoaded files loaded → IsToldOf loaded told
     → (name : List ℕ) → told ≡ Err (store.Damaged name) → IsNamed files name

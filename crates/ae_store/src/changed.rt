@@ -14,11 +14,7 @@ use ae_vault::{Batch, Entry, EntryList, PieceList, Vault};
 use std::alloc::{AllocError, Global};
 
 // The entries of `project` and `files`, where they change.
-fn changed_heads(
-    alloc: Global,
-    old: Option<&State>,
-    new: &State,
-) -> Result<Vec<Entry>, AllocError>
+fn changed_heads(alloc: Global, old: Option<&State>, new: &State) -> Result<Vec<Entry>, AllocError>
     ensures old { OnOk result (IfSome (option_copied old.entry) (λ o. AreNumbered o.changes)) }
     ensures new { OnOk result (AreNumbered new.now.changes) }
     ensures few_old { OnOk result (length (old_files (option_copied old.entry)) ≤ 2000) }

@@ -25,11 +25,7 @@ use ae_types::{Parts, State};
 use std::alloc::Global;
 
 // The project of these bytes, with its file table and its changes.
-fn load_project<D: Disk>(
-    alloc: Global,
-    disk: &mut D,
-    bytes: &[u8],
-) -> Result<Option<State>, Stop>
+fn load_project<D: Disk>(alloc: Global, disk: &mut D, bytes: &[u8]) -> Result<Option<State>, Stop>
     requires clean { D.tells → IsClean (D.state disk.old) }
     requires bytes { D.tells → files (reads (D.state disk.old)) project_file ≡ bytes.now }
     requires some { bytes.now ≢ [] }
@@ -66,10 +62,7 @@ fn load_state<D: Disk>(alloc: Global, disk: &mut D) -> Result<Option<State>, Sto
 }
 
 // The answer, with the name of the file that is blamed.
-fn told(
-    alloc: Global,
-    loaded: Result<Option<State>, Stop>,
-) -> Result<Option<State>, StoreError>
+fn told(alloc: Global, loaded: Result<Option<State>, Stop>) -> Result<Option<State>, StoreError>
     ensures { IsToldOf loaded result }
 {
     match loaded {

@@ -49,7 +49,10 @@ fn told(alloc: Global, disk: &mut MemDisk) -> Result<Vec<u8>, Fail>
 
 // what is told of a disk with these two files
 fn told_of(rt: &impl Abort, alloc: Global, project: &str, files: &str) -> Result<Vec<u8>, Fail> {
-    let entries = vec![in alloc; entry(alloc, "files", files)?, entry(alloc, "project", project)?]?;
+    let entries = vec![in alloc;
+        entry(alloc, "files", files)?,
+        entry(alloc, "project", project)?,
+    ]?;
     let mut disk = disk_with(rt, alloc, entries)?;
     told(alloc, &mut disk)
 }

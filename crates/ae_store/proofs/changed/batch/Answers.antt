@@ -1,4 +1,4 @@
-use Rattle.std.proofs.Common.{◌≡◌, ◌++◌, List, IfOk, option_copied, sym, subst, ap, ◌∙◌, ℕ, arith}
+use Rattle.std.proofs.Common.{◌≡◌, ◌++◌, List, option_copied, sym, subst, ap, ◌∙◌, ℕ, arith}
 use Rattle.ae_vault.specs.declared.entry.Entry.{Entry}
 use Rattle.ae_vault.specs.Batch.{BatchRecord}
 use Rattle.ae_vault.specs.Vault.{content_of}
@@ -29,6 +29,6 @@ pub returns-clause-entries : goal.returns-clause-entries
 returns-clause-entries c =
     let old = option_copied c.args.old in
     if_ok_from (λ (batch : BatchRecord). (name : List ℕ) → content_of batch.entries name ≡ entry_for old c.args.new.now name) c.prepare.result
-        (λ batch is name. ap (λ (b : BatchRecord). content_of b.entries name) is ∙ ap (λ (es : List Entry). content_of es name) c.of.ensures
-            ∙ whole_content old c.args.new.now c.put_old_changes.new.entries.items (c.in_ok-put_old_changes.ensures (heads ++ change_files c.args.new.now.changes) (c.in_ok-put_changes.ensures heads c.in_ok-entries.ensures.entries)) name)
-        c.prepare.ensures
+    (λ batch is name. ap (λ (b : BatchRecord). content_of b.entries name) is ∙ ap (λ (es : List Entry). content_of es name) c.of.ensures
+    ∙ whole_content old c.args.new.now c.put_old_changes.new.entries.items (c.in_ok-put_old_changes.ensures (heads ++ change_files c.args.new.now.changes) (c.in_ok-put_changes.ensures heads c.in_ok-entries.ensures.entries)) name)
+    c.prepare.ensures

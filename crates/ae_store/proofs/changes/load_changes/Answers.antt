@@ -1,4 +1,4 @@
-use Rattle.std.proofs.Common.{◌≡◌, ◌≤◌, ℕ, ◌+◌, List, [], ◌∷◌, ◌++◌, take, Err, ap, sym, ◌∙◌, subst, arith}
+use Rattle.std.proofs.Common.{◌≡◌, ℕ, ◌+◌, List, [], ◌∷◌, ◌++◌, take, Err, ap, sym, ◌∙◌, subst, arith}
 use Rattle.std.proofs.lemmas.List.{take_more}
 use Rattle.std.proofs.lemmas.Result.{err_from_is_err_and}
 use Rattle.ae_outside.specs.Image.{Image}
@@ -19,13 +19,13 @@ loop-number-preserved g c = record {
   change = λ t. same_on _ _ _ (c.loop-number.invariant.change t) (c.load_change.ensures.change t);
   later = let first = c.loop-number.invariant.later in let second = c.load_change.ensures.cause.later in omega arith;
   read = λ t.
-    let here : Image = files (reads (g.D.Disk.state c.args.disk.now)) in
-    let front : List ℕ = take c.loop-number.number-index c.args.numbers.now in
-    let number : ℕ = c.number-item.result in
-    let more : take (c.loop-number.number-index + 1) c.args.numbers.now ≡ front ++ number ∷ [] = take_more c.args.numbers.now c.loop-number.number-index number c.loop-number-test.true ∙ ap (λ (n : ℕ). front ++ n ∷ []) (sym c.number-item.is) in
-    let loaded : ReadsChange here number c.in_ok-change.change = subst (λ (f : Image). ReadsChange f number c.in_ok-change.change) (c.loop-number.invariant.same t) (c.in_ok-change.ensures.loaded t) in
-    subst (λ (ns : List ℕ). ReadsChanges here ns c.push.new.self) (sym more)
-        (subst (λ (cs : List Change). ReadsChanges here (front ++ number ∷ []) cs) (sym c.in_ok-push.ensures.ok) (reads_push here front c.loop-number.changes number c.in_ok-change.change (c.loop-number.invariant.read t) loaded));
+      let here : Image = files (reads (g.D.Disk.state c.args.disk.now)) in
+      let front : List ℕ = take c.loop-number.number-index c.args.numbers.now in
+      let number : ℕ = c.number-item.result in
+      let more : take (c.loop-number.number-index + 1) c.args.numbers.now ≡ front ++ number ∷ [] = take_more c.args.numbers.now c.loop-number.number-index number c.loop-number-test.true ∙ ap (λ (n : ℕ). front ++ n ∷ []) (sym c.number-item.is) in
+      let loaded : ReadsChange here number c.in_ok-change.change = subst (λ (f : Image). ReadsChange f number c.in_ok-change.change) (c.loop-number.invariant.same t) (c.in_ok-change.ensures.loaded t) in
+      subst (λ (ns : List ℕ). ReadsChanges here ns c.push.new.self) (sym more)
+      (subst (λ (cs : List Change). ReadsChanges here (front ++ number ∷ []) cs) (sym c.in_ok-push.ensures.ok) (reads_push here front c.loop-number.changes number c.in_ok-change.change (c.loop-number.invariant.read t) loaded));
 }
 
 pub returns-in_err-change-clause-loaded : goal.returns-in_err-change-clause-loaded

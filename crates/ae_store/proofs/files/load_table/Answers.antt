@@ -1,4 +1,4 @@
-use Rattle.std.proofs.Common.{◌∙◌, ap, sym, subst, ℕ, List}
+use Rattle.std.proofs.Common.{◌∙◌, sym}
 use Rattle.ae_outside.specs.State.{reads}
 use Rattle.ae_vault.specs.Vault.{files}
 use Rattle.ae_store.proofs.files.load_table.Goals as goal

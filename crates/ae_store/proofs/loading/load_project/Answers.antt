@@ -1,10 +1,9 @@
-use Rattle.std.proofs.Common.{◌≡◌, ◌≢◌, ℕ, List, [], Err, Ok, sym, ◌∙◌, subst, arith}
+use Rattle.std.proofs.Common.{◌≢◌, ℕ, List, [], Err, sym, ◌∙◌, subst, arith}
 use Rattle.std.proofs.lemmas.Result.{err_from_is_err_and}
 use Rattle.ae_outside.specs.Image.{Image}
 use Rattle.ae_outside.specs.State.{reads}
 use Rattle.ae_outside.specs.Time.{same_on}
 use Rattle.ae_vault.specs.Vault.{files}
-use Rattle.ae_types.specs.declared.change.Change.{Change}
 use Rattle.ae_types.specs.Observation.{Observation}
 use Rattle.ae_store.specs.Names.{project_file}
 use Rattle.ae_store.specs.Damage.{ReadsProject, ReadsTable, ReadsChanges}

@@ -1,9 +1,8 @@
-use Rattle.std.proofs.Common.{◌≡◌, ℕ, true, List, Err, sym, ◌∙◌, subst, arith}
+use Rattle.std.proofs.Common.{ℕ, List, Err, sym, ◌∙◌, subst, arith}
 use Rattle.std.proofs.lemmas.Bool.Decides.{nat_tests}
 use Rattle.ae_schema.specs.Files.{change_fields}
 use Rattle.ae_schema.specs.Records.{IsTextOf}
 use Rattle.ae_types.specs.declared.blame.Blame.TheVariants as blame
-use Rattle.ae_types.specs.Rules.{change_is_good}
 use Rattle.ae_store.specs.Damage.{ReadsChange}
 use Rattle.ae_store.specs.Steps.{IsReading}
 use Rattle.ae_store.proofs.Reading.{stops, reading_err}
@@ -19,8 +18,8 @@ returns-then-change_is_good-clause-value c = λ files at. record {
 pub returns-in-Err-clause-value : goal.returns-in-Err-clause-value
 returns-in-Err-clause-value c = λ files at.
     subst (λ s. IsReading (ReadsChange files c.args.number) (blame.Change c.args.number) (Err s)) (sym c.stop_of.ensures)
-        (reading_err (ReadsChange files c.args.number) (blame.Change c.args.number) c.in-Err.error c.read_change.result c.in-Err.is
-            (λ change reads. c.read_change.ensures.only change reads.is.0 (subst (λ (bytes : List ℕ). IsTextOf bytes (change_fields change)) at reads.is.1)))
+    (reading_err (ReadsChange files c.args.number) (blame.Change c.args.number) c.in-Err.error c.read_change.result c.in-Err.is
+    (λ change reads. c.read_change.ensures.only change reads.is.0 (subst (λ (bytes : List ℕ). IsTextOf bytes (change_fields change)) at reads.is.1)))
 
 pub returns-in-Err-clause-no_fault : goal.returns-in-Err-clause-no_fault
 returns-in-Err-clause-no_fault c = λ fault. stops c.in-Err.error _ c.stop_of.result c.stop_of.ensures fault

@@ -11,16 +11,18 @@ use Rattle.ae_store.proofs.records.good_project.Goals as goal
 
 pub returns-else-project_is_good-clause-value : goal.returns-else-project_is_good-clause-value
 returns-else-project_is_good-clause-value c = λ files at.
-    let bad : project_is_good c.in-Ok.project c.in-Ok.numbers ≡ false = grind arith in
-    (refl, none_read (λ (p : Project × List ℕ). ReadsProject files p.0 p.1) (c.in-Ok.project, c.in-Ok.numbers) c.read_project.result c.in-Ok.is
-        (λ p reads. c.read_project.ensures.only p reads.is.0 (subst (λ (bytes : List ℕ). IsTextOf bytes (project_fields p)) at reads.is.1))
-        (λ reads. let good = reads.good in cc))
+    let bad : project_is_good c.in-Ok.project c.in-Ok.numbers ≡ false = grind arith in (
+      refl,
+      none_read (λ (p : Project × List ℕ). ReadsProject files p.0 p.1) (c.in-Ok.project, c.in-Ok.numbers) c.read_project.result c.in-Ok.is
+          (λ p reads. c.read_project.ensures.only p reads.is.0 (subst (λ (bytes : List ℕ). IsTextOf bytes (project_fields p)) at reads.is.1))
+          (λ reads. let good = reads.good in cc),
+    )
 
 pub returns-in-Err-clause-value : goal.returns-in-Err-clause-value
 returns-in-Err-clause-value c = λ files at.
     subst (λ s. IsReading (λ (p : Project × List ℕ). ReadsProject files p.0 p.1) blame.Project (Err s)) (sym c.stop_of.ensures)
-        (reading_err (λ (p : Project × List ℕ). ReadsProject files p.0 p.1) blame.Project c.in-Err.error c.read_project.result c.in-Err.is
-            (λ p reads. c.read_project.ensures.only p reads.is.0 (subst (λ (bytes : List ℕ). IsTextOf bytes (project_fields p)) at reads.is.1)))
+    (reading_err (λ (p : Project × List ℕ). ReadsProject files p.0 p.1) blame.Project c.in-Err.error c.read_project.result c.in-Err.is
+    (λ p reads. c.read_project.ensures.only p reads.is.0 (subst (λ (bytes : List ℕ). IsTextOf bytes (project_fields p)) at reads.is.1)))
 
 pub returns-in-Err-clause-no_fault : goal.returns-in-Err-clause-no_fault
 returns-in-Err-clause-no_fault c = λ fault. stops c.in-Err.error _ c.stop_of.result c.stop_of.ensures fault

@@ -10,8 +10,8 @@ returns-in-Some-change c =
     let numbered : AreNumbered c.in-Some.state.now.changes = subst (λ o. IfSome (option_copied o) (λ o. AreNumbered o.changes)) c.in-Some.is c.requires.state in
     let found : Some c.in-Some-change.change.now ≡ change_in c.in-Some.state.now.changes c.args.number = sym (ap option_copied c.in-Some-change.is) ∙ c.change.ensures in
     subst (λ (bytes : List ℕ). IfOk c.print_change.result (λ text. text.items ≡ bytes))
-        (sym (ap (λ o. text_of (option_copied o) (change_file c.args.number)) c.in-Some.is ∙ text_of_found c.in-Some.state.now c.args.number (Some c.in-Some-change.change.now) c.requires.number numbered found))
-        c.print_change.ensures.value
+    (sym (ap (λ o. text_of (option_copied o) (change_file c.args.number)) c.in-Some.is ∙ text_of_found c.in-Some.state.now c.args.number (Some c.in-Some-change.change.now) c.requires.number numbered found))
+    c.print_change.ensures.value
 
 pub returns-in-None : goal.returns-in-None
 returns-in-None c =
