@@ -1,0 +1,11 @@
+pub mod Reading
+pub mod FileNames
+pub mod Disks
+pub mod OneRecord
+pub mod OneState
+pub mod Told
+pub mod LoadSteps
+pub mod EntryPlaces
+pub mod EntryOrder
+pub mod ChangedFiles
+pub mod ChangeTexts
