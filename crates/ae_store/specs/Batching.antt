@@ -1,5 +1,5 @@
 -- What the steps of making a batch leave.
-use Rattle.std.specs.Prelude.{◌≡◌, ◌<◌, ◌^◌, ℕ, Bool, true, not, ◌&&◌, List, [], length, Option, Some, None, IfSome}
+use Rattle.std.specs.Prelude.{◌≡◌, ◌<◌, ◌≤◌, ◌^◌, ℕ, Bool, true, not, ◌&&◌, List, [], length, Option, Some, None, IfSome, All}
 use Rattle.std.specs.Str.{bytes_eq}
 use Rattle.ae_vault.specs.declared.entry.Entry.{Entry}
 use Rattle.ae_vault.specs.Vault.{content_of, is_entry_name, are_entries}
@@ -55,3 +55,7 @@ TableIsWritten state = IfSome state (λ o. IsTable (text_in o files_file) o.file
 -- the text of the file of a change is the record of it
 abbrev pub ChangeIsWritten : Option Observation → ℕ → Type 0
 ChangeIsWritten state number = IfSome state (λ o. IfSome (change_at o number) (λ change. IsChange (text_in o (change_file number)) change))
+
+-- each change has a number that a change can have
+abbrev pub IsNumbered : Option Observation → Type 0
+IsNumbered state = IfSome state (λ o. All (λ (change : Change). change.number ≤ 1999) o.changes)

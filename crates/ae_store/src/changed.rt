@@ -8,7 +8,7 @@ ghost use Rattle.ae_types.specs.Sound.{Sound};
 ghost use Rattle.ae_store.specs.Names.{project_file, files_file, change_file};
 ghost use Rattle.ae_store.specs.Records.{StandsFor};
 ghost use Rattle.ae_store.specs.Changed.{entry_for};
-ghost use Rattle.ae_store.specs.Batching.{AreOrdered, AreRight, IsDone, KeepsDone, ProjectIsWritten, TableIsWritten, ChangeIsWritten};
+ghost use Rattle.ae_store.specs.Batching.{AreOrdered, AreRight, IsDone, KeepsDone, IsNumbered, ProjectIsWritten, TableIsWritten, ChangeIsWritten};
 
 use crate::entries::put_text;
 use crate::names::{FILES, PROJECT, change_name};
@@ -26,13 +26,15 @@ fn put_project(
     new: &State,
 ) -> Result<(), AllocError>
     requires { AreRight (option_copied old) new.now entries.old.items }
-    ensures right { OnOk result (AreRight (option_copied old) new.now entries.new.items) }
-    ensures done { OnOk result (IsDone (option_copied old) new.now entries.new.items project_file) }
-    ensures kept { OnOk result (KeepsDone (option_copied old) new.now entries.old.items entries.new.items) }
-    ensures written { OnOk result (ProjectIsWritten (option_copied old)) }
+    ensures right { OnOk result (AreRight (option_copied old.entry) new.now entries.new.items) }
+    ensures done { OnOk result (IsDone (option_copied old.entry) new.now entries.new.items project_file) }
+    ensures kept { OnOk result (KeepsDone (option_copied old.entry) new.now entries.old.items entries.new.items) }
+    ensures written { OnOk result (ProjectIsWritten (option_copied old.entry)) }
     ensures written_new { OnOk result (ProjectIsWritten (Some new.now)) }
-    ensures sound { IfSome (option_copied old) Sound }
+    ensures sound { IfSome (option_copied old.entry) Sound }
     ensures sound_new { OnOk result (Sound new.now) }
+    ensures numbered { OnOk result (IsNumbered (option_copied old.entry)) }
+    ensures numbered_new { OnOk result (IsNumbered (Some new.now)) }
 {
     let old_text = project_text(alloc, old)?;
     let new_text = project_text(alloc, Some(new))?;
@@ -48,10 +50,10 @@ fn put_table(
     new: &State,
 ) -> Result<(), AllocError>
     requires { AreRight (option_copied old) new.now entries.old.items }
-    ensures right { OnOk result (AreRight (option_copied old) new.now entries.new.items) }
-    ensures done { OnOk result (IsDone (option_copied old) new.now entries.new.items files_file) }
-    ensures kept { OnOk result (KeepsDone (option_copied old) new.now entries.old.items entries.new.items) }
-    ensures written { OnOk result (TableIsWritten (option_copied old)) }
+    ensures right { OnOk result (AreRight (option_copied old.entry) new.now entries.new.items) }
+    ensures done { OnOk result (IsDone (option_copied old.entry) new.now entries.new.items files_file) }
+    ensures kept { OnOk result (KeepsDone (option_copied old.entry) new.now entries.old.items entries.new.items) }
+    ensures written { OnOk result (TableIsWritten (option_copied old.entry)) }
     ensures written_new { OnOk result (TableIsWritten (Some new.now)) }
 {
     let old_text = table_text(alloc, old)?;
@@ -68,16 +70,19 @@ fn put_change(
     new: &State,
     number: ChangeNo,
 ) -> Result<(), AllocError>
-    requires { AreRight (option_copied old) new.now entries.old.items }
-    ensures right { OnOk result (AreRight (option_copied old) new.now entries.new.items) }
-    ensures done { OnOk result (IsDone (option_copied old) new.now entries.new.items (change_file number)) }
-    ensures kept { OnOk result (KeepsDone (option_copied old) new.now entries.old.items entries.new.items) }
-    ensures written { OnOk result (ChangeIsWritten (option_copied old) number) }
+    requires right { AreRight (option_copied old) new.now entries.old.items }
+    requires numbered { IsNumbered (option_copied old) }
+    requires numbered_new { IsNumbered (Some new.now) }
+    ensures right { OnOk result (AreRight (option_copied old.entry) new.now entries.new.items) }
+    ensures done { OnOk result (IsDone (option_copied old.entry) new.now entries.new.items (change_file number)) }
+    ensures kept { OnOk result (KeepsDone (option_copied old.entry) new.now entries.old.items entries.new.items) }
+    ensures written { OnOk result (ChangeIsWritten (option_copied old.entry) number) }
     ensures written_new { OnOk result (ChangeIsWritten (Some new.now) number) }
 {
+    let name = change_name(alloc, number)?;
     let old_text = change_text(alloc, old, number)?;
     let new_text = change_text(alloc, Some(new), number)?;
-    let name = Text::of(change_name(alloc, number)?.into_bytes());
+    let name = Text::of(name.into_bytes());
     put_text(entries, name, old_text.as_slice(), new_text)
 }
 
@@ -89,11 +94,13 @@ fn put_changes(
     new: &State,
     numbers: &[ChangeNo],
 ) -> Result<(), AllocError>
-    requires { AreRight (option_copied old) new.now entries.old.items }
-    ensures right { OnOk result (AreRight (option_copied old) new.now entries.new.items) }
-    ensures done { OnOk result (EachIndex numbers.now (λ k. IsDone (option_copied old) new.now entries.new.items (change_file (slice_index numbers.now k)))) }
-    ensures kept { OnOk result (KeepsDone (option_copied old) new.now entries.old.items entries.new.items) }
-    ensures written { OnOk result (EachIndex numbers.now (λ k. ChangeIsWritten (option_copied old) (slice_index numbers.now k))) }
+    requires right { AreRight (option_copied old) new.now entries.old.items }
+    requires numbered { IsNumbered (option_copied old) }
+    requires numbered_new { IsNumbered (Some new.now) }
+    ensures right { OnOk result (AreRight (option_copied old.entry) new.now entries.new.items) }
+    ensures done { OnOk result (EachIndex numbers.now (λ k. IsDone (option_copied old.entry) new.now entries.new.items (change_file (slice_index numbers.now k)))) }
+    ensures kept { OnOk result (KeepsDone (option_copied old.entry) new.now entries.old.items entries.new.items) }
+    ensures written { OnOk result (EachIndex numbers.now (λ k. ChangeIsWritten (option_copied old.entry) (slice_index numbers.now k))) }
     ensures written_new { OnOk result (EachIndex numbers.now (λ k. ChangeIsWritten (Some new.now) (slice_index numbers.now k))) }
 {
     for number in numbers {
@@ -105,8 +112,8 @@ fn put_changes(
 // The entries of the state files that change.
 fn changed_entries(alloc: Global, old: Option<&State>, new: &State) -> Result<Vec<Entry>, AllocError>
     ensures ordered { IfOk result (λ entries. AreOrdered entries.items) }
-    ensures entries { IfOk result (λ entries. (name : List ℕ) → content_of entries.items name ≡ entry_for (option_copied old) new.now name) }
-    ensures stands { IfOk result (λ entries. (files : Image) → new.now.numbers ≡ map number_of_change new.now.changes → StandsFor files (option_copied old) → StandsFor (put entries.items files) (Some new.now)) }
+    ensures entries { IfOk result (λ entries. (name : List ℕ) → content_of entries.items name ≡ entry_for (option_copied old.entry) new.now name) }
+    ensures stands { IfOk result (λ entries. (files : Image) → new.now.numbers ≡ map number_of_change new.now.changes → StandsFor files (option_copied old.entry) → StandsFor (put entries.items files) (Some new.now)) }
 {
     let mut entries = Vec::new(alloc);
     put_project(alloc, &mut entries, old, new)?;
@@ -127,9 +134,9 @@ pub fn batch(
     requires { are_pieces pieces ≡ true }
     ensures pieces { IfOk result (λ batch. batch.pieces ≡ pieces) }
     // Each file that changes has its new text, and no other is named.
-    ensures entries { IfOk result (λ batch. (name : List ℕ) → content_of batch.entries name ≡ entry_for (option_copied old) new.now name) }
+    ensures entries { IfOk result (λ batch. (name : List ℕ) → content_of batch.entries name ≡ entry_for (option_copied old.entry) new.now name) }
     // Put over the files of the old state, they give those of the new one.
-    ensures stands { IfOk result (λ batch. (files : Image) → new.now.numbers ≡ map number_of_change new.now.changes → StandsFor files (option_copied old) → StandsFor (put batch.entries files) (Some new.now)) }
+    ensures stands { IfOk result (λ batch. (files : Image) → new.now.numbers ≡ map number_of_change new.now.changes → StandsFor files (option_copied old.entry) → StandsFor (put batch.entries files) (Some new.now)) }
 {
     let entries = changed_entries(alloc, old, new)?;
     Vault::prepare(alloc, EntryList::of(entries), pieces)

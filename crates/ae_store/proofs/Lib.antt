@@ -1,0 +1,5 @@
+pub mod BatchEntries
+pub mod BatchSteps
+pub mod BatchNames
+pub mod BatchTexts
+pub mod BatchWhole
