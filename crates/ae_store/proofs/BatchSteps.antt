@@ -1,5 +1,6 @@
 -- One more file is looked at.
 use Rattle.std.proofs.Common.{◌≡◌, ◌⊎◌, inl, inr, ℕ, refl, sym, ◌∙◌, ap, Bool, true, false, if◌then◌else◌, List, [], Option, Some, None}
+use Rattle.std.specs.Prelude.{Result, Ok, Err, OnOk}
 use Rattle.std.specs.Str.{bytes_eq}
 use Rattle.std.proofs.lemmas.Slice.Eq.{bytes_eq-Decides}
 use Rattle.ae_vault.specs.declared.entry.Entry.{Entry}
@@ -60,18 +61,23 @@ kept_after wanted before after file goes name done = elim (option_cases (wanted 
 abbrev pub Puts : List Entry → List Entry → List ℕ → List ℕ → List ℕ → Type 0
 Puts before after file told new = (name : List ℕ) → content_of after name ≡ or_else (content_of before name) (if bytes_eq file name then change_of told new else None)
 
-goes_of : (old : Option Observation) (new : Observation) (before after : List Entry) (file told text : List ℕ) → told ≡ text_of old file → text ≡ text_in new file → Puts before after file told text
-    → Goes (entry_for old new) (content_of before) (content_of after) file
-goes_of old new before after file told text is_old is_new puts name =
-    puts name ∙ ap (λ (t : List ℕ). or_else (content_of before name) (if bytes_eq file name then change_of t text else None)) is_old
-    ∙ ap (λ (t : List ℕ). or_else (content_of before name) (if bytes_eq file name then change_of (text_of old file) t else None)) is_new
+-- what follows of a success from two facts about it
+pub on_ok : {A E P Q R : Type 0} (r : Result A E) → (P → Q → R) → OnOk r P → OnOk r Q → OnOk r R
+on_ok (Ok a) step p q = step p q
+on_ok (Err e) step p q = tt
 
-module _ (old : Option Observation) (new : Observation) (before after : List Entry) (file told text : List ℕ) (is_old : told ≡ text_of old file) (is_new : text ≡ text_in new file) (puts : Puts before after file told text) where
-  pub step_right : AreRight old new before → AreOrdered after → AreRight old new after
-  step_right r ordered = record { ordered = ordered; right = right_after (entry_for old new) (content_of before) (content_of after) file (goes_of old new before after file told text is_old is_new puts) r.right }
+module _ (old : Option Observation) (new : Observation) (before after : List Entry) (name file told text : List ℕ) (is_name : name ≡ file) (is_old : told ≡ text_of old file) (is_new : text ≡ text_in new file) where
+  goes_of : Puts before after name told text → Goes (entry_for old new) (content_of before) (content_of after) file
+  goes_of puts other =
+      puts other ∙ ap (λ (n : List ℕ). or_else (content_of before other) (if bytes_eq n other then change_of told text else None)) is_name
+      ∙ ap (λ (t : List ℕ). or_else (content_of before other) (if bytes_eq file other then change_of t text else None)) is_old
+      ∙ ap (λ (t : List ℕ). or_else (content_of before other) (if bytes_eq file other then change_of (text_of old file) t else None)) is_new
 
-  pub step_done : AreRight old new before → IsDone old new after file
-  step_done r = done_after (entry_for old new) (content_of before) (content_of after) file (goes_of old new before after file told text is_old is_new puts) r.right
+  pub step_right : AreRight old new before → Puts before after name told text → AreOrdered after → AreRight old new after
+  step_right r puts ordered = record { ordered = ordered; right = right_after (entry_for old new) (content_of before) (content_of after) file (goes_of puts) r.right }
 
-  pub step_kept : KeepsDone old new before after
-  step_kept = kept_after (entry_for old new) (content_of before) (content_of after) file (goes_of old new before after file told text is_old is_new puts)
+  pub step_done : AreRight old new before → Puts before after name told text → AreOrdered after → IsDone old new after file
+  step_done r puts ordered = done_after (entry_for old new) (content_of before) (content_of after) file (goes_of puts) r.right
+
+  pub step_kept : Puts before after name told text → AreOrdered after → KeepsDone old new before after
+  step_kept puts ordered = kept_after (entry_for old new) (content_of before) (content_of after) file (goes_of puts)
