@@ -1,9 +1,8 @@
 -- The tests of clashes go over the rows of the file table and the files of the change.
-use Rattle.std.proofs.Common.{◌≡◌, ◌⊎◌, inl, inr, ℕ, zero, suc, ◌+◌, ◌<◌, refl, sym, ◌∙◌, ap, subst, List, [], ◌∷◌, ◌++◌, map, Option, Some, None, Bool, true, false, cond, ◌&&◌, ◌||◌, not, if◌then◌else◌, arith}
-use Rattle.std.specs.Prelude.{filter, is_some, nat_le, length, IfSome}
-use Rattle.std.specs.List.{find, filter_map, list_all}
+use Rattle.std.proofs.Common.{◌≡◌, ◌⊎◌, inl, inr, ℕ, refl, sym, ◌∙◌, ap, subst, List, [], ◌∷◌, ◌++◌, map, Option, Some, None, Bool, true, false, ◌&&◌, ◌||◌, not, if◌then◌else◌}
+use Rattle.std.specs.Prelude.{is_some, nat_le}
+use Rattle.std.specs.List.{list_all}
 use Rattle.std.specs.Option.{option_map, option_and_then}
-use Rattle.std.specs.Str.{bytes_eq}
 use Rattle.ae_base.specs.Names.{is_slash}
 use Rattle.ae_types.specs.declared.change.Change.{Change}
 use Rattle.ae_types.specs.declared.change.ChangeFile.{ChangeFile}
@@ -12,13 +11,13 @@ use Rattle.ae_types.specs.declared.file_table.FileVersion.{FileVersion}
 use Rattle.ae_types.specs.declared.version.VersionRef.{VersionRef}
 use Rattle.ae_types.specs.Clashes.{has_path, none_clash, folders_of}
 use Rattle.ae_types.specs.Found.{file_path, row_path, file_in, row_in, has_file}
-use Rattle.ae_types.specs.Trees.{TreeRow, text_cmp, entry_row, unless_later, last_up_to, tree_row, tree_at, frozen_row, overlaid, paths_of}
+use Rattle.ae_types.specs.Trees.{TreeRow, entry_row, unless_later, last_up_to, tree_row, frozen_row}
 use Rattle.ae_types.proofs.Clashing.{has-in, in-has}
 use Rattle.ae_types.proofs.Keys.{by_text}
 use Rattle.ae_types.proofs.Members.{In, all-in, in-all}
-use Rattle.ae_types.proofs.Ordered.{Ascends, at, some-is, none-some, found-key}
+use Rattle.ae_types.proofs.Ordered.{found-key}
 use Rattle.ae_types.proofs.Searched.{found-in, in-found}
-use Rattle.ae_types.proofs.Splits.{never, and2, some-found, found-some, where-so, so-where, same-true}
+use Rattle.ae_types.proofs.Splits.{never, and2, where-so, so-where, same-true}
 use Rattle.ae_types.proofs.TreePaths.{tree-has, overlaid-has, frozen-some, stands, overlaid_stands}
 use Rattle.ae_rules.specs.Overlay.{paths_over, AreOrdered, is_in, is_clear, row_is_clear, file_is_clear}
 
@@ -42,7 +41,7 @@ last-after n there [] = refl
 last-after n there (y ∷ ys) = go (nat_le y.delta n) (last-after n (is_some y.version) ys) (last-after n there ys)
   where
     go : (b : Bool) → of_last (is_some y.version) (last_up_to n ys) ≡ stands_after n (is_some y.version) ys → of_last there (last_up_to n ys) ≡ stands_after n there ys
-      → of_last there (if b then unless_later y (last_up_to n ys) else last_up_to n ys) ≡ stands_after n (if b then is_some y.version else there) ys
+        → of_last there (if b then unless_later y (last_up_to n ys) else last_up_to n ys) ≡ stands_after n (if b then is_some y.version else there) ys
     go true e f = of-later there y (last_up_to n ys) ∙ e
     go false e f = f
 
@@ -77,11 +76,13 @@ from-front front (b ∷ bs) t = go (is_slash b) (from-front (front ++ b ∷ []) 
         assoc : (front : List ℕ) → front ++ (b ∷ f) ≡ (front ++ b ∷ []) ++ f
         assoc [] = refl
         assoc (a ∷ front) = ap (λ xs. a ∷ xs) (assoc front)
+
     empty : (front : List ℕ) → front ++ [] ≡ front
     empty [] = refl
     empty (a ∷ front) = ap (λ xs. a ∷ xs) (empty front)
+
     go : (c : Bool) → list_all t (map (λ folder. (front ++ b ∷ []) ++ folder) (folders_of bs)) ≡ list_all t (folders_from (front ++ b ∷ []) bs)
-      → list_all t (map (λ folder. front ++ folder) ((if c then [] ∷ [] else []) ++ map (λ folder. b ∷ folder) (folders_of bs))) ≡ list_all t ((if c then front ∷ [] else []) ++ folders_from (front ++ b ∷ []) bs)
+        → list_all t (map (λ folder. front ++ folder) ((if c then [] ∷ [] else []) ++ map (λ folder. b ∷ folder) (folders_of bs))) ≡ list_all t ((if c then front ∷ [] else []) ++ folders_from (front ++ b ∷ []) bs)
     go true rest = λ i. t (empty front i) && (ap (list_all t) (shifted (folders_of bs)) ∙ rest) i
     go false rest = ap (list_all t) (shifted (folders_of bs)) ∙ rest
 
@@ -134,6 +135,7 @@ module _ (n : ℕ) (rows : List FileRow) where
     where
       at_row : stands n rows row.path ≡ is_some (tree_row n row)
       at_row = ap (λ v. is_some (option_and_then (tree_row n) v)) (in-found by_text row_path rows a.0 row m)
+
       stood : (change : Option Change) → is_some (tree_row n row) ≡ true → is_in change row.path ≡ false → stands_over n rows change row.path ≡ true
       stood None there out = at_row ∙ there
       stood (Some x) there out = or-right (is_some (option_and_then frozen_row (file_in x.files row.path))) (not (has_file x row.path) && stands n rows row.path) (ap (λ b. not b && stands n rows row.path) out ∙ at_row ∙ there)
@@ -141,8 +143,8 @@ module _ (n : ℕ) (rows : List FileRow) where
   file-clear : (x : Change) → AreOrdered rows (Some x) → none_clash (paths_over n rows (Some x)) ≡ true → (file : ChangeFile) → In x.files file → file_is_clear n rows x file ≡ true
   file-clear x a e file m = so-where (is_some file.frozen) (is_clear (paths_over n rows (Some x)) file.path) (λ there.
       all-in (is_clear (paths_over n rows (Some x))) (paths_over n rows (Some x)) e file.path (has-in (paths_over n rows (Some x)) file.path (over-has n rows (Some x) a file.path
-        ∙ or-left (is_some (option_and_then frozen_row (file_in x.files file.path))) (not (has_file x file.path) && stands n rows file.path)
-            (ap (λ v. is_some (option_and_then frozen_row v)) (in-found by_text file_path x.files a.1 file m) ∙ frozen-some file ∙ there))))
+      ∙ or-left (is_some (option_and_then frozen_row (file_in x.files file.path))) (not (has_file x file.path) && stands n rows file.path)
+      (ap (λ v. is_some (option_and_then frozen_row v)) (in-found by_text file_path x.files a.1 file m) ∙ frozen-some file ∙ there))))
 
   -- a path that stands is that of such a row or file
   abbrev clear_in : Option Change → List ℕ → Bool
@@ -155,7 +157,7 @@ module _ (n : ℕ) (rows : List FileRow) where
       go (Some row) is there =
           let same : row.path ≡ path = found-key by_text row_path path rows row is in
           subst (λ q. clear_in change q ≡ true) same (in3 (is_some (tree_row n row)) (is_in change row.path) (clear_in change row.path)
-            (all-in (row_is_clear n rows change) rows e row (found-in by_text row_path rows path row is)) there (ap (is_in change) same ∙ out))
+          (all-in (row_is_clear n rows change) rows e row (found-in by_text row_path rows path row is)) there (ap (is_in change) same ∙ out))
       go None is there = never there
 
   file-path : (x : Change) → list_all (file_is_clear n rows x) x.files ≡ true → (path : List ℕ) → is_some (option_and_then frozen_row (file_in x.files path)) ≡ true → clear_in (Some x) path ≡ true
@@ -175,11 +177,11 @@ module _ (n : ℕ) (rows : List FileRow) where
   clear-candidate x a = same-true (none_clash (paths_over n rows (Some x))) (list_all (row_is_clear n rows (Some x)) rows && list_all (file_is_clear n rows x) x.files)
       (λ e i. in-all (row_is_clear n rows (Some x)) rows (λ row m. row-clear (Some x) a e row m) i && in-all (file_is_clear n rows x) x.files (λ file m. file-clear x a e file m) i)
       (λ e. let p = and2 (list_all (row_is_clear n rows (Some x)) rows) (list_all (file_is_clear n rows x) x.files) e in
-        in-all (clear_in (Some x)) (paths_over n rows (Some x)) (λ path m.
-          go p.0 p.1 path (or-either (is_some (option_and_then frozen_row (file_in x.files path))) (not (has_file x path) && stands n rows path) (sym (over-has n rows (Some x) a path) ∙ in-has (paths_over n rows (Some x)) path m))))
+      in-all (clear_in (Some x)) (paths_over n rows (Some x)) (λ path m.
+      go p.0 p.1 path (or-either (is_some (option_and_then frozen_row (file_in x.files path))) (not (has_file x path) && stands n rows path) (sym (over-has n rows (Some x) a path) ∙ in-has (paths_over n rows (Some x)) path m))))
     where
       go : list_all (row_is_clear n rows (Some x)) rows ≡ true → list_all (file_is_clear n rows x) x.files ≡ true → (path : List ℕ)
-        → (is_some (option_and_then frozen_row (file_in x.files path)) ≡ true) ⊎ ((not (has_file x path) && stands n rows path) ≡ true) → clear_in (Some x) path ≡ true
+          → (is_some (option_and_then frozen_row (file_in x.files path)) ≡ true) ⊎ ((not (has_file x path) && stands n rows path) ≡ true) → clear_in (Some x) path ≡ true
       go rs fs path (inl there) = file-path x fs path there
       go rs fs path (inr there) = let p = and2 (not (has_file x path)) (stands n rows path) there in row-path (Some x) rs path p.1 (is-true (has_file x path) p.0)
 

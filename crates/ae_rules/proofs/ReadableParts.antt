@@ -1,5 +1,5 @@
 -- Where each part by itself keeps its rules, keys find what they are to find.
-use Rattle.std.proofs.Common.{◌≡◌, ℕ, List, None, Bool, true, ◌&&◌}
+use Rattle.std.proofs.Common.{◌≡◌, None, true, ◌&&◌}
 use Rattle.std.specs.Prelude.{length}
 use Rattle.std.specs.Ordering.{nat_cmp}
 use Rattle.ae_types.specs.Observation.{Observation}
@@ -22,5 +22,5 @@ readable o e f g =
       numbers = project.numbers_ascend;
       deltas = deltas-ascend o.project.deltas project.numbered;
       rows = rows-facts (length o.project.deltas) o.files f;
-      changes = changes-facts o.numbers o.changes p.1 (none-bad o.numbers o.changes g)
+      changes = changes-facts o.numbers o.changes p.1 (none-bad o.numbers o.changes g);
     }

@@ -1,5 +1,5 @@
 -- Whether no two of a list are related is seen at neighbours once the list is sorted.
-use Rattle.std.proofs.Common.{◌≡◌, ◌⊎◌, inl, inr, ℕ, zero, suc, ◌+◌, ◌<◌, ◌≤◌, refl, sym, ◌∙◌, ap, subst, List, [], ◌∷◌, Bool, true, false, ◌&&◌, not, get_or, nat_eq, eqb-true, arith}
+use Rattle.std.proofs.Common.{◌≡◌, inl, inr, ℕ, zero, suc, ◌<◌, ◌≤◌, refl, sym, ◌∙◌, ap, subst, List, [], ◌∷◌, Bool, true, false, ◌&&◌, not, get_or, nat_eq, eqb-true, arith}
 use Rattle.std.specs.Prelude.{length}
 use Rattle.std.specs.List.{list_any, list_all, swap}
 use Rattle.std.specs.List.Sorted.{IsPermutation, IsNonDecreasingBy}
@@ -44,20 +44,28 @@ module _ {V : Type 0} (related : V → V → Bool) (both_ways : (v w : V) → re
     where
       s : (get_or (swap xs a b) a d ≡ get_or xs b d) × (get_or (swap xs a b) b d ≡ get_or xs a d) × ((m : ℕ) → (m ≡ a → ⊥) → (m ≡ b → ⊥) → get_or (swap xs a b) m d ≡ get_or xs m d)
       s = swapped_from_swap xs (swap xs a b) a b d ha hb refl
+
       ki : i < length xs
       ki = subst (λ n. i < n) (length-swap xs a b) hi
+
       kj : j < length xs
       kj = subst (λ n. j < n) (length-swap xs a b) hj
+
       ys : ℕ → V
       ys k = get_or (swap xs a b) k d
+
       at_a : (k : ℕ) → nat_eq k a ≡ true → get_or (swap xs a b) k d ≡ get_or xs b d
       at_a k e = ap (λ n. get_or (swap xs a b) n d) (eqb-true k a e) ∙ s.0
+
       at_b : (k : ℕ) → nat_eq k b ≡ true → get_or (swap xs a b) k d ≡ get_or xs a d
       at_b k e = ap (λ n. get_or (swap xs a b) n d) (eqb-true k b e) ∙ s.1
+
       other : (k : ℕ) → nat_eq k a ≡ false → nat_eq k b ≡ false → get_or (swap xs a b) k d ≡ get_or xs k d
       other k e f = s.2 k (eqb-false k a e) (eqb-false k b f)
+
       pair : (m n : ℕ) → m < length xs → n < length xs → (m ≡ n → ⊥) → get_or (swap xs a b) i d ≡ get_or xs m d → get_or (swap xs a b) j d ≡ get_or xs n d → related (get_or (swap xs a b) i d) (get_or (swap xs a b) j d) ≡ false
       pair m n hm hn differ im jn = (λ k. related (im k) (jn k)) ∙ apart m n d hm hn differ
+
       go : (p : Bool) → nat_eq i a ≡ p → (q : Bool) → nat_eq i b ≡ q → (t : Bool) → nat_eq j a ≡ t → (u : Bool) → nat_eq j b ≡ u → related (get_or (swap xs a b) i d) (get_or (swap xs a b) j d) ≡ false
       go true p q eq true t u eu = absurd (ne (eqb-true i a p ∙ sym (eqb-true j a t)))
       go true p q eq false t true u = pair b a hb ha (λ is. ne (eqb-true i a p ∙ sym is ∙ sym (eqb-true j b u))) (at_a i p) (at_b j u)
@@ -82,7 +90,6 @@ module _ {V : Type 0} (related : V → V → Bool) (both_ways : (v w : V) → re
       (chains : (x y z : V) → fits y ≡ true → before x y ≡ true → before y z ≡ true → before x z ≡ true)
       (apart : (x y : V) → before x y ≡ true → related x y ≡ false)
       (stands : (x y : V) → fits x ≡ true → fits y ≡ true → key x ≤ key y → related x y ≡ false → before x y ≡ true) where
-
     all-before : (x : V) (xs : List V) → each_next before (x ∷ xs) ≡ true → list_all fits xs ≡ true → (z : V) → In xs z → before x z ≡ true
     all-before x [] e f z h = absurd h
     all-before x (y ∷ ys) e f z (inl is) = subst (λ w. before x w ≡ true) is (and2 (before x y) (each_next before (y ∷ ys)) e).0
@@ -101,6 +108,7 @@ module _ {V : Type 0} (related : V → V → Bool) (both_ways : (v w : V) → re
       where
         parts : (fits x ≡ true) × (list_all fits xs ≡ true)
         parts = and2 (fits x) (list_all fits xs) f
+
         none : list_any (related x) xs ≡ true → ⊥
         none is = let r = any-in (related x) xs is in never (sym (apart x r.0 (all-before x xs e parts.1 r.0 r.1)) ∙ r.2)
 
@@ -112,8 +120,10 @@ module _ {V : Type 0} (related : V → V → Bool) (both_ways : (v w : V) → re
       where
         parts : (fits x ≡ true) × (list_all fits (y ∷ ys) ≡ true)
         parts = and2 (fits x) (list_all fits (y ∷ ys)) f
+
         rest : (not (list_any (related x) (y ∷ ys)) ≡ true) × (no_two related (y ∷ ys) ≡ true)
         rest = and2 (not (list_any (related x) (y ∷ ys))) (no_two related (y ∷ ys)) e
+
         away : related x y ≡ false
         away = is-false (related x y) (λ is. not-is (list_any (related x) (y ∷ ys)) rest.0 (in-any (related x) (y ∷ ys) y (inl refl) is))
 
@@ -123,6 +133,7 @@ module _ {V : Type 0} (related : V → V → Bool) (both_ways : (v w : V) → re
         abbrevd : (b : Bool) → not b ≡ true → b ≡ false
         abbrevd true e = never e
         abbrevd false e = refl
+
         go : (y : V) → In ys y → (b : Bool) → fits y ≡ b → fits y ≡ true
         go y m true e = e
         go y m false e =

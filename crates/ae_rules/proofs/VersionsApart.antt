@@ -1,5 +1,5 @@
 -- Versions whose numbers differ, and versions that share no unit, in a sorted list.
-use Rattle.std.proofs.Common.{◌≡◌, ℕ, ◌+◌, ◌/◌, ◌<◌, ◌≤◌, refl, sym, ◌∙◌, ap, List, [], ◌∷◌, ◌++◌, Option, Some, None, Bool, true, false, cond, ◌&&◌, ◌||◌, not, nat_eq, eqb-true, get_or, take, arith}
+use Rattle.std.proofs.Common.{◌≡◌, ℕ, ◌+◌, ◌/◌, ◌<◌, ◌≤◌, refl, sym, ◌∙◌, ap, List, [], ◌∷◌, ◌++◌, Option, Some, None, Bool, true, false, cond, ◌&&◌, ◌||◌, not, eqb-true, get_or, take, arith}
 use Rattle.std.specs.Prelude.{length, nat_lt, nat_le, filter}
 use Rattle.std.specs.Option.{option_to_list}
 use Rattle.std.specs.List.{list_any, list_all, filter_map}
@@ -7,10 +7,10 @@ use Rattle.std.specs.List.Sorted.{IsPermutation, IsNonDecreasingBy}
 use Rattle.std.proofs.lemmas.List.{take_more}
 use Rattle.std.proofs.lemmas.List.Elements.{filter_map-append}
 use Rattle.ae_types.specs.declared.version.VersionRef.{VersionRef}
-use Rattle.ae_types.specs.Versions.{units, has_units, end_of, meet, same_number, no_two}
+use Rattle.ae_types.specs.Versions.{has_units, end_of, meet, same_number, no_two}
 use Rattle.ae_types.proofs.RulesTogether.{same_number-swaps, meet-swaps}
 use Rattle.ae_types.proofs.Members.{in-all}
-use Rattle.ae_types.proofs.Splits.{never, and2, and4, is-false, below, is-below, most, is-most}
+use Rattle.ae_types.proofs.Splits.{never, and4, is-false, below, is-below, most, is-most}
 use Rattle.ae_rules.proofs.Adjacent.{each_next}
 use Rattle.ae_rules.proofs.Sorting.{sorted-tells}
 
@@ -41,8 +41,10 @@ numbers-sorted xs ys p up = sorted-tells same_number same_number-swaps numbered_
   where
     lower : (a b c : ℕ) → a < b → b < c → a < c
     lower a b c h k = omega (arith, h, k)
+
     differ : (a b : ℕ) → a < b → a ≡ b → ⊥
     differ a b h e = absurd (omega (arith, h, e))
+
     strict : (a b : ℕ) → a ≤ b → (a ≡ b → ⊥) → a < b
     strict a b h ne = omega (arith, h, ne)
 
@@ -62,10 +64,13 @@ units-sorted xs ys p up f = sorted-tells meet meet-swaps ends_before has_units v
   where
     onward : (a b c d : ℕ) → a ≤ b → b < c → c ≤ d → a ≤ d
     onward a b c d h k m = omega (arith, h, k, m)
+
     cross : (a b : ℕ) → a ≤ b → b < a → ⊥
     cross a b h k = absurd (omega (arith, h, k))
+
     behind : (a b c : ℕ) → a ≤ b → b < c → a < c
     behind a b c h k = omega (arith, h, k)
+
     away : (x y : VersionRef) → has_units x ≡ true → has_units y ≡ true → x.at ≤ y.at → meet x y ≡ false → end_of x ≤ y.at
     away x y h k le e = go (nat_lt y.at (end_of x)) refl
       where

@@ -17,7 +17,12 @@ fn candidate_fits(deltas: usize, rows: &[FileRow], change: &Change) -> bool
     !is_integrating(change.phase) || none_clash(deltas, rows, Some(change))
 }
 
-pub(crate) fn candidates_fit(deltas: usize, rows: &[FileRow], numbers: &[ChangeNo], changes: &[Change]) -> bool
+pub(crate) fn candidates_fit(
+    deltas: usize,
+    rows: &[FileRow],
+    numbers: &[ChangeNo],
+    changes: &[Change],
+) -> bool
     requires rows { AreRows deltas rows.now }
     requires changes { AreChanges numbers.now changes.now }
     ensures { result ≡ list_all (candidate_fits deltas rows.now) changes.now }

@@ -73,7 +73,10 @@ fn integrator_fits(change: &Change) -> bool
 fn people_are_good(change: &Change) -> bool
     ensures { result ≡ people_are_good change.now }
 {
-    developer_fits(change) && reviewer_fits(change) && reviewing_fits(change) && integrator_fits(change)
+    developer_fits(change)
+        && reviewer_fits(change)
+        && reviewing_fits(change)
+        && integrator_fits(change)
 }
 
 fn version_fits(phase: Phase, file: &ChangeFile) -> bool
@@ -92,7 +95,11 @@ fn versions_fit(change: &Change) -> bool
     ensures { result ≡ list_all (version_fits change.now.phase) change.now.files }
 {
     let phase = change.phase;
-    change.files.as_slice().iter().all(|file| version_fits(phase, file))
+    change
+        .files
+        .as_slice()
+        .iter()
+        .all(|file| version_fits(phase, file))
 }
 
 /// Whether a change, by itself, keeps the rules.

@@ -51,7 +51,12 @@ fn delta_is_entered(deltas: usize, rows: &[FileRow], changes: &[Change], delta: 
     }
 }
 
-fn deltas_are_entered(count: usize, rows: &[FileRow], changes: &[Change], deltas: &[DeltaRow]) -> bool
+fn deltas_are_entered(
+    count: usize,
+    rows: &[FileRow],
+    changes: &[Change],
+    deltas: &[DeltaRow],
+) -> bool
     requires rows { AreRows count rows.now }
     requires changes { Ascends nat_cmp number_of_change changes.now }
     ensures { result ≡ list_all (delta_is_entered rows.now changes.now) deltas.now }
@@ -64,7 +69,13 @@ fn deltas_are_entered(count: usize, rows: &[FileRow], changes: &[Change], deltas
     true
 }
 
-fn entry_has_file(deltas: &[DeltaRow], numbers: &[ChangeNo], changes: &[Change], path: &Path, entry: &FileVersion) -> bool
+fn entry_has_file(
+    deltas: &[DeltaRow],
+    numbers: &[ChangeNo],
+    changes: &[Change],
+    path: &Path,
+    entry: &FileVersion,
+) -> bool
     requires deltas { Ascends nat_cmp number_of_delta deltas.now }
     requires changes { AreChanges numbers.now changes.now }
     ensures { result ≡ entry_has_file deltas.now changes.now path.now entry.now }
@@ -78,7 +89,12 @@ fn entry_has_file(deltas: &[DeltaRow], numbers: &[ChangeNo], changes: &[Change],
     }
 }
 
-fn row_has_files(deltas: &[DeltaRow], numbers: &[ChangeNo], changes: &[Change], row: &FileRow) -> bool
+fn row_has_files(
+    deltas: &[DeltaRow],
+    numbers: &[ChangeNo],
+    changes: &[Change],
+    row: &FileRow,
+) -> bool
     requires deltas { Ascends nat_cmp number_of_delta deltas.now }
     requires changes { AreChanges numbers.now changes.now }
     ensures { result ≡ row_has_files deltas.now changes.now row.now }
@@ -91,7 +107,12 @@ fn row_has_files(deltas: &[DeltaRow], numbers: &[ChangeNo], changes: &[Change], 
     true
 }
 
-fn rows_have_files(deltas: &[DeltaRow], numbers: &[ChangeNo], changes: &[Change], rows: &[FileRow]) -> bool
+fn rows_have_files(
+    deltas: &[DeltaRow],
+    numbers: &[ChangeNo],
+    changes: &[Change],
+    rows: &[FileRow],
+) -> bool
     requires deltas { Ascends nat_cmp number_of_delta deltas.now }
     requires changes { AreChanges numbers.now changes.now }
     ensures { result ≡ list_all (row_has_files deltas.now changes.now) rows.now }
@@ -104,7 +125,12 @@ fn rows_have_files(deltas: &[DeltaRow], numbers: &[ChangeNo], changes: &[Change]
     true
 }
 
-pub(crate) fn entries_fit(deltas: &[DeltaRow], rows: &[FileRow], numbers: &[ChangeNo], changes: &[Change]) -> bool
+pub(crate) fn entries_fit(
+    deltas: &[DeltaRow],
+    rows: &[FileRow],
+    numbers: &[ChangeNo],
+    changes: &[Change],
+) -> bool
     requires deltas { Ascends nat_cmp number_of_delta deltas.now }
     requires rows { AreRows (length deltas.now) rows.now }
     requires changes { AreChanges numbers.now changes.now }

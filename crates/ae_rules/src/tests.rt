@@ -56,18 +56,26 @@ fn deltas(alloc: Global) -> Result<DeltaList, Fail> {
     Ok(deltas)
 }
 
-// a project with one delta, whose only version is number 1
-fn project(alloc: Global) -> Result<Project, Fail> {
+// a project with no users and no deltas
+fn new_project(alloc: Global) -> Result<Project, Fail> {
     Ok(Project {
         name: ProjectName::read(alloc, b"demo")?.ok_or("a name")?,
         attributes: attributes(alloc),
-        administrators: only_alice(alloc)?,
+        administrators: UserSet::new(alloc),
         developers: UserSet::new(alloc),
         reviewers: UserSet::new(alloc),
         integrators: UserSet::new(alloc),
         next_version: 2,
-        deltas: deltas(alloc)?,
+        deltas: DeltaList::new(alloc),
     })
+}
+
+// a project with one delta, whose only version is number 1
+fn project(alloc: Global) -> Result<Project, Fail> {
+    let mut project = new_project(alloc)?;
+    project.administrators = only_alice(alloc)?;
+    project.deltas = deltas(alloc)?;
+    Ok(project)
 }
 
 fn version(number: u64, at: u64, length: u32) -> VersionRef {
@@ -124,20 +132,36 @@ fn change_files(alloc: Global) -> Result<ChangeFileList, Fail> {
     Ok(files)
 }
 
-// change 10, completed by alice
-fn completed(alloc: Global) -> Result<Change, Fail> {
-    Ok(Change {
+// change 10 without people and files
+fn new_change(alloc: Global) -> Change {
+    Change {
         number: ChangeNo::of(10),
         attributes: change_attributes(alloc),
         phase: Phase::Completed,
-        developer: Some(alice(alloc)?),
-        reviewing: Some(alice(alloc)?),
-        reviewer: Some(alice(alloc)?),
-        integrator: Some(alice(alloc)?),
-        files: change_files(alloc)?,
+        developer: None,
+        reviewing: None,
+        reviewer: None,
+        integrator: None,
+        files: ChangeFileList::new(alloc),
         evidence: EvidenceList::new(alloc),
         history: HistoryList::new(alloc),
-    })
+    }
+}
+
+// developed and reviewed by alice
+fn reviewed(alloc: Global) -> Result<Change, Fail> {
+    let mut change = new_change(alloc);
+    change.developer = Some(alice(alloc)?);
+    change.reviewer = Some(alice(alloc)?);
+    Ok(change)
+}
+
+// change 10, completed by alice
+fn completed(alloc: Global) -> Result<Change, Fail> {
+    let mut change = reviewed(alloc)?;
+    change.integrator = Some(alice(alloc)?);
+    change.files = change_files(alloc)?;
+    Ok(change)
 }
 
 fn numbers(alloc: Global) -> Result<NumberList, Fail> {
@@ -152,15 +176,24 @@ fn changes(alloc: Global) -> Result<ChangeList, Fail> {
     Ok(changes)
 }
 
-// a project of one completed change with one file
-fn parts(alloc: Global) -> Result<Parts, Fail> {
+// the records of a project alone
+fn only_project(alloc: Global) -> Result<Parts, Fail> {
     Ok(Parts {
         project: project(alloc)?,
-        numbers: numbers(alloc)?,
-        files: files(alloc)?,
+        numbers: NumberList::new(alloc),
+        files: FileRows::new(alloc),
         locks: LockList::new(alloc),
-        changes: changes(alloc)?,
+        changes: ChangeList::new(alloc),
     })
+}
+
+// a project of one completed change with one file
+fn parts(alloc: Global) -> Result<Parts, Fail> {
+    let mut parts = only_project(alloc)?;
+    parts.numbers = numbers(alloc)?;
+    parts.files = files(alloc)?;
+    parts.changes = changes(alloc)?;
+    Ok(parts)
 }
 
 // the same with one row more in the file table, and version 2
@@ -211,57 +244,87 @@ fn good_records_are_a_state(rt: HostRuntime) -> Result<(), Fail> {
 }
 
 #[test]
-fn the_project_by_itself(rt: HostRuntime) -> Result<(), Fail> {
+fn versions_are_numbered_from_1(rt: HostRuntime) -> Result<(), Fail> {
     let alloc = rt.alloc();
-    let mut zero = parts(alloc)?;
-    zero.project.next_version = 0;
-    assert!(rt; blames_project(alloc, zero));
-    let mut nobody = parts(alloc)?;
-    nobody.project.administrators = UserSet::new(alloc);
-    assert!(rt; blames_project(alloc, nobody));
+    let mut parts = parts(alloc)?;
+    parts.project.next_version = 0;
+    assert!(rt; blames_project(alloc, parts));
     Ok(())
 }
 
 #[test]
-fn deltas_are_those_of_the_completed_changes(rt: HostRuntime) -> Result<(), Fail> {
+fn a_project_has_an_administrator(rt: HostRuntime) -> Result<(), Fail> {
     let alloc = rt.alloc();
-    let mut unnamed = parts(alloc)?;
-    unnamed.project.deltas = DeltaList::new(alloc);
-    unnamed.files = FileRows::new(alloc);
-    assert!(rt; blames_project(alloc, unnamed));
-    let mut not_read = parts(alloc)?;
-    not_read.changes = ChangeList::new(alloc);
-    assert!(rt; is_state(alloc, not_read));
+    let mut parts = parts(alloc)?;
+    parts.project.administrators = UserSet::new(alloc);
+    assert!(rt; blames_project(alloc, parts));
     Ok(())
 }
 
 #[test]
-fn a_change_by_itself(rt: HostRuntime) -> Result<(), Fail> {
+fn a_completed_change_has_a_delta(rt: HostRuntime) -> Result<(), Fail> {
     let alloc = rt.alloc();
-    let mut strange = parts(alloc)?;
-    strange.numbers = NumberList::new(alloc);
-    assert!(rt; blames_ten(alloc, strange));
-    let mut change = completed(alloc)?;
-    change.integrator = None;
+    let mut parts = parts(alloc)?;
+    parts.project.deltas = DeltaList::new(alloc);
+    parts.files = FileRows::new(alloc);
+    assert!(rt; blames_project(alloc, parts));
+    Ok(())
+}
+
+#[test]
+fn not_all_changes_need_be_looked_at(rt: HostRuntime) -> Result<(), Fail> {
+    let alloc = rt.alloc();
+    let mut parts = parts(alloc)?;
+    parts.changes = ChangeList::new(alloc);
+    assert!(rt; is_state(alloc, parts));
+    Ok(())
+}
+
+#[test]
+fn a_change_has_a_number_of_the_project(rt: HostRuntime) -> Result<(), Fail> {
+    let alloc = rt.alloc();
+    let mut parts = parts(alloc)?;
+    parts.numbers = NumberList::new(alloc);
+    assert!(rt; blames_ten(alloc, parts));
+    Ok(())
+}
+
+#[test]
+fn a_completed_change_has_an_integrator(rt: HostRuntime) -> Result<(), Fail> {
+    let alloc = rt.alloc();
+    let change = reviewed(alloc)?;
     assert!(rt; !change_is_good(&change));
-    let mut list = ChangeList::new(alloc);
-    list.push(change)?;
-    let mut nobody = parts(alloc)?;
-    nobody.changes = list;
-    assert!(rt; blames_ten(alloc, nobody));
+    let mut parts = only_project(alloc)?;
+    parts.numbers = numbers(alloc)?;
+    parts.files = files(alloc)?;
+    parts.changes.push(change)?;
+    assert!(rt; blames_ten(alloc, parts));
     Ok(())
 }
 
 #[test]
-fn versions_share_neither_numbers_nor_units(rt: HostRuntime) -> Result<(), Fail> {
+fn the_next_number_is_greater_than_each(rt: HostRuntime) -> Result<(), Fail> {
     let alloc = rt.alloc();
-    let mut late = parts(alloc)?;
-    late.project.next_version = 1;
-    assert!(rt; blames_project(alloc, late));
+    let mut parts = parts(alloc)?;
+    parts.project.next_version = 1;
+    assert!(rt; blames_project(alloc, parts));
+    Ok(())
+}
+
+#[test]
+fn no_number_stands_at_two_places(rt: HostRuntime) -> Result<(), Fail> {
+    let alloc = rt.alloc();
+    let mut parts = parts(alloc)?;
+    parts.files.push(row(alloc, "b", version(1, 1, 64))?)?;
+    assert!(rt; blames_project(alloc, parts));
+    Ok(())
+}
+
+#[test]
+fn versions_share_no_units(rt: HostRuntime) -> Result<(), Fail> {
+    let alloc = rt.alloc();
     assert!(rt; blames_project(alloc, parts_with(alloc, "b", 0, 64)?));
-    let mut twice = parts(alloc)?;
-    twice.files.push(row(alloc, "b", version(1, 1, 64))?)?;
-    assert!(rt; blames_project(alloc, twice));
+    assert!(rt; blames_files(alloc, parts_with(alloc, "b", 1, 64)?));
     Ok(())
 }
 
@@ -276,7 +339,7 @@ fn versions_end_in_the_region(rt: HostRuntime) -> Result<(), Fail> {
 }
 
 #[test]
-fn the_file_table_by_itself(rt: HostRuntime) -> Result<(), Fail> {
+fn paths_ascend_and_do_not_clash(rt: HostRuntime) -> Result<(), Fail> {
     let alloc = rt.alloc();
     assert!(rt; blames_files(alloc, parts_with(alloc, "a/x", 1, 1)?));
     assert!(rt; blames_files(alloc, parts_with(alloc, "A", 1, 1)?));
@@ -287,12 +350,12 @@ fn the_file_table_by_itself(rt: HostRuntime) -> Result<(), Fail> {
 #[test]
 fn only_changes_under_review_hold_locks(rt: HostRuntime) -> Result<(), Fail> {
     let alloc = rt.alloc();
-    let mut locked = parts(alloc)?;
-    locked.locks.push(Lock {
+    let mut parts = parts(alloc)?;
+    parts.locks.push(Lock {
         path: path(alloc, "a")?,
         change: ChangeNo::of(10),
     })?;
-    assert!(rt; blames_files(alloc, locked));
+    assert!(rt; blames_files(alloc, parts));
     Ok(())
 }
 
@@ -306,11 +369,9 @@ fn state(alloc: Global) -> Result<State, Fail> {
 #[test]
 fn a_state_finds_its_records(rt: HostRuntime) -> Result<(), Fail> {
     let alloc = rt.alloc();
-    let state = state(alloc)?.copy(alloc)?;
+    let state = state(alloc)?;
     let a = path(alloc, "a")?;
-    let b = path(alloc, "b")?;
     assert!(rt; state.row(&a).is_some());
-    assert!(rt; state.row(&b).is_none());
     assert!(rt; state.lock(&a).is_none());
     assert!(rt; state.change(ChangeNo::of(10)).is_some());
     assert!(rt; state.change(ChangeNo::of(11)).is_none());
@@ -322,7 +383,7 @@ fn a_state_finds_its_records(rt: HostRuntime) -> Result<(), Fail> {
 #[test]
 fn a_state_shows_its_records(rt: HostRuntime) -> Result<(), Fail> {
     let alloc = rt.alloc();
-    let state = state(alloc)?;
+    let state = state(alloc)?.copy(alloc)?;
     assert_eq!(rt; state.project().next_version, 2);
     assert_eq!(rt; state.numbers().len(), 1);
     assert_eq!(rt; state.files().len(), 1);

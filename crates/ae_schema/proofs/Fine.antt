@@ -1,5 +1,6 @@
 -- The records are well formed: their words are words, no name stands twice, and nothing nests too deep.
-use Rattle.std.proofs.Common.{◌≡◌, ◌≢◌, ℕ, ◌-◌, ◌<◌, Bool, true, false, not, ◌&&◌, IsTrue, List, [], ◌∷◌, Option, Some, None, map, refl, sym, ◌∙◌, arith}
+use Rattle.std.proofs.Common.{◌≡◌, ◌≢◌, ℕ, ◌-◌, ◌<◌, Bool, true, false, not, ◌&&◌, IsTrue, List, [], ◌∷◌, ◌++◌, length, Option, Some, None, map, refl, sym, ◌∙◌, arith}
+use Rattle.std.specs.Prelude.{codes}
 use Rattle.std.specs.Str.{bytes_eq}
 use Rattle.std.specs.Cmp.Lexicographic.{bytes_decides}
 use Rattle.std.proofs.lemmas.Bool.{and_parts, false≢true}
@@ -34,7 +35,7 @@ use Rattle.ae_types.specs.declared.change.Evidence.{Evidence}
 use Rattle.ae_types.specs.declared.change.HistoryRow.{HistoryRow}
 use Rattle.ae_types.specs.declared.change.Change.{Change}
 use Rattle.ae_schema.specs.Records.{Named, structure}
-use Rattle.ae_schema.specs.Spelled.{flag, end_action_word, optional, list_of, version, optional_version, delta_row, file_version, file_row, lock, change_file, evidence_row, history_row}
+use Rattle.ae_schema.specs.Spelled.{hex_string, run_fields, outcome_fields, flag, end_action_word, optional, list_of, version, optional_version, delta_row, file_version, file_row, lock, change_file, evidence_row, history_row}
 use Rattle.ae_schema.specs.Files.{project_fields, files_fields, change_fields}
 
 -- The value is well formed where so many levels are left.
@@ -184,35 +185,66 @@ end_action_is_word end_is.AwaitingReview = refl
 
 -- ---- rows
 
+abbrev version_list : VersionRef → List Named
+version_list v = (codes "number", number v.number) ∷ (codes "at", number v.at) ∷ (codes "length", number v.length) ∷ (codes "digest", hex_string v.digest) ∷ []
+
+abbrev delta_row_list : DeltaRow → List Named
+delta_row_list row = (codes "delta", number row.delta) ∷ (codes "change", number row.change) ∷ (codes "when", number row.when) ∷ (codes "who", str row.who) ∷ []
+
+abbrev file_version_list : FileVersion → List Named
+file_version_list entry = (codes "delta", number entry.delta) ∷ (codes "usage", word (usage_word entry.usage)) ∷ (codes "version", optional_version entry.version) ∷ []
+
+abbrev file_row_list : FileRow → List Named
+file_row_list row = (codes "path", str row.path) ∷ (codes "edit", number (length row.past)) ∷ (codes "past", list_of file_version row.past) ∷ []
+
+abbrev lock_list : Lock → List Named
+lock_list l = (codes "path", str l.path) ∷ (codes "change", number l.change) ∷ []
+
+abbrev change_file_list : ChangeFile → List Named
+change_file_list file = (codes "path", str file.path) ∷ (codes "action", word (action_word file.action)) ∷ (codes "usage", word (usage_word file.usage)) ∷ (codes "origin", number file.origin) ∷ (codes "version", optional_version file.frozen) ∷ []
+
+abbrev history_row_list : HistoryRow → List Named
+history_row_list row = (codes "what", word (what_word row.what)) ∷ (codes "who", str row.who) ∷ (codes "when", number row.when) ∷ []
+
 version_fine : (depth : ℕ) (o : Option VersionRef) → 2 < depth → IsFine depth (optional_version o)
 version_fine depth None some = structure_fine depth [] (omega arith) refl tt
-version_fine depth (Some v) some = structure_fine depth _ (omega arith) refl (number_fine _ _, (number_fine _ _, (number_fine _ _, (str_fine _ _, tt))))
+version_fine depth (Some v) some = structure_fine depth (version_list v) (omega arith) refl (number_fine _ _, (number_fine _ _, (number_fine _ _, (str_fine _ _, tt))))
 
 delta_fine : (row : DeltaRow) → IsFine 15 (delta_row row)
-delta_fine row = structure_fine 15 _ (omega arith) refl (number_fine 14 _, (number_fine 14 _, (number_fine 14 _, (str_fine 14 _, tt))))
+delta_fine row = structure_fine 15 (delta_row_list row) (omega arith) refl (number_fine 14 _, (number_fine 14 _, (number_fine 14 _, (str_fine 14 _, tt))))
 
 entry_fine : (entry : FileVersion) → IsFine 13 (file_version entry)
-entry_fine entry = structure_fine 13 _ (omega arith) refl (number_fine 12 _, (word_fine 12 _ (usage_is_word entry.usage), (version_fine 12 entry.version (omega arith), tt)))
+entry_fine entry = structure_fine 13 (file_version_list entry) (omega arith) refl (number_fine 12 _, (word_fine 12 _ (usage_is_word entry.usage), (version_fine 12 entry.version (omega arith), tt)))
 
 file_fine : (row : FileRow) → IsFine 15 (file_row row)
-file_fine row = structure_fine 15 _ (omega arith) refl (str_fine 14 _, (number_fine 14 _, (list_fine 14 file_version (omega arith) entry_fine row.past, tt)))
+file_fine row = structure_fine 15 (file_row_list row) (omega arith) refl (str_fine 14 _, (number_fine 14 _, (list_fine 14 file_version (omega arith) entry_fine row.past, tt)))
 
 lock_fine : (l : Lock) → IsFine 15 (lock l)
-lock_fine l = structure_fine 15 _ (omega arith) refl (str_fine 14 _, (number_fine 14 _, tt))
+lock_fine l = structure_fine 15 (lock_list l) (omega arith) refl (str_fine 14 _, (number_fine 14 _, tt))
 
 change_file_fine : (file : ChangeFile) → IsFine 15 (change_file file)
 change_file_fine file =
-    structure_fine 15 _ (omega arith) refl
+    structure_fine 15 (change_file_list file) (omega arith) refl
     (str_fine 14 _, (word_fine 14 _ (action_is_word file.action), (word_fine 14 _ (usage_is_word file.usage), (number_fine 14 _, (version_fine 14 file.frozen (omega arith), tt)))))
 
 evidence_fine : (run : Evidence) → IsFine 15 (evidence_row run)
 evidence_fine run =
-    structure_fine 15 _ (omega arith) refl
-    (word_fine 14 _ (ground_is_word run.during), (word_fine 14 _ (kind_is_word run.kind), (optional_fine 14 run.path, (number_fine 14 _,
-    (flag_fine 14 run.clean, (str_fine 14 _, (number_fine 14 _, (str_fine 14 _, tt))))))))
+    structure_fine 15 (run_fields run ++ outcome_fields run) (omega arith) refl (
+      word_fine 14 _ (ground_is_word run.during),
+      (
+        word_fine 14 _ (kind_is_word run.kind),
+        (
+          optional_fine 14 run.path,
+          (
+            number_fine 14 _,
+            (flag_fine 14 run.clean, (str_fine 14 _, (number_fine 14 _, (str_fine 14 _, tt)))),
+          ),
+        ),
+      ),
+    )
 
 history_fine : (row : HistoryRow) → IsFine 15 (history_row row)
-history_fine row = structure_fine 15 _ (omega arith) refl (word_fine 14 _ (what_is_word row.what), (str_fine 14 _, (number_fine 14 _, tt)))
+history_fine row = structure_fine 15 (history_row_list row) (omega arith) refl (word_fine 14 _ (what_is_word row.what), (str_fine 14 _, (number_fine 14 _, tt)))
 
 users_fine : (users : List (List ℕ)) → IsFine 16 (list_of str users)
 users_fine users = list_fine 16 str (omega arith) (str_fine 15) users
@@ -221,13 +253,49 @@ users_fine users = list_fine 16 str (omega arith) (str_fine 15) users
 
 pub project_well_formed : (p : Project × List ℕ) → IsWellFormed (structure (project_fields p))
 project_well_formed p =
-    well_formed (project_fields p) refl
-    (number_fine 16 1, (word_fine 16 _ refl, (str_fine 16 _, (str_fine 16 _,
-    (flag_fine 16 p.0.attributes.developer_may_review, (flag_fine 16 p.0.attributes.developer_may_integrate,
-    (flag_fine 16 p.0.attributes.reviewer_may_integrate, (flag_fine 16 p.0.attributes.developers_may_create_changes,
-    (word_fine 16 _ (end_action_is_word p.0.attributes.develop_end_action), (flag_fine 16 p.0.attributes.default_test_exemption,
-    (users_fine p.0.administrators, (users_fine p.0.developers, (users_fine p.0.reviewers, (users_fine p.0.integrators,
-    (number_fine 16 _, (list_fine 16 number (omega arith) (number_fine 15) p.1, (list_fine 16 delta_row (omega arith) delta_fine p.0.deltas, tt)))))))))))))))))
+    well_formed (project_fields p) refl (
+      number_fine 16 1,
+      (
+        word_fine 16 _ refl,
+        (
+          str_fine 16 _,
+          (
+            str_fine 16 _,
+            (
+              flag_fine 16 p.0.attributes.developer_may_review,
+              (
+                flag_fine 16 p.0.attributes.developer_may_integrate,
+                (
+                  flag_fine 16 p.0.attributes.reviewer_may_integrate,
+                  (
+                    flag_fine 16 p.0.attributes.developers_may_create_changes,
+                    (
+                      word_fine 16 _ (end_action_is_word p.0.attributes.develop_end_action),
+                      (
+                        flag_fine 16 p.0.attributes.default_test_exemption,
+                        (
+                          users_fine p.0.administrators,
+                          (
+                            users_fine p.0.developers,
+                            (
+                              users_fine p.0.reviewers,
+                              (
+                                users_fine p.0.integrators,
+                                (number_fine 16 _, (list_fine 16 number (omega arith) (number_fine 15) p.1, (list_fine 16 delta_row (omega arith) delta_fine p.0.deltas, tt))),
+                              ),
+                            ),
+                          ),
+                        ),
+                      ),
+                    ),
+                  ),
+                ),
+              ),
+            ),
+          ),
+        ),
+      ),
+    )
 
 pub files_well_formed : (t : List FileRow × List Lock) → IsWellFormed (structure (files_fields t))
 files_well_formed t =
@@ -236,10 +304,46 @@ files_well_formed t =
 
 pub change_well_formed : (c : Change) → IsWellFormed (structure (change_fields c))
 change_well_formed c =
-    well_formed (change_fields c) refl
-    (number_fine 16 _, (str_fine 16 _, (str_fine 16 _, (word_fine 16 _ (cause_is_word c.attributes.cause),
-    (flag_fine 16 c.attributes.test_exempt, (flag_fine 16 c.attributes.test_baseline_exempt, (flag_fine 16 c.attributes.regression_test_exempt,
-    (word_fine 16 _ (phase_is_word c.phase),
-    (optional_fine 16 c.developer, (optional_fine 16 c.reviewing, (optional_fine 16 c.reviewer, (optional_fine 16 c.integrator,
-    (list_fine 16 change_file (omega arith) change_file_fine c.files, (list_fine 16 evidence_row (omega arith) evidence_fine c.evidence,
-    (list_fine 16 history_row (omega arith) history_fine c.history, tt)))))))))))))))
+    well_formed (change_fields c) refl (
+      number_fine 16 _,
+      (
+        str_fine 16 _,
+        (
+          str_fine 16 _,
+          (
+            word_fine 16 _ (cause_is_word c.attributes.cause),
+            (
+              flag_fine 16 c.attributes.test_exempt,
+              (
+                flag_fine 16 c.attributes.test_baseline_exempt,
+                (
+                  flag_fine 16 c.attributes.regression_test_exempt,
+                  (
+                    word_fine 16 _ (phase_is_word c.phase),
+                    (
+                      optional_fine 16 c.developer,
+                      (
+                        optional_fine 16 c.reviewing,
+                        (
+                          optional_fine 16 c.reviewer,
+                          (
+                            optional_fine 16 c.integrator,
+                            (
+                              list_fine 16 change_file (omega arith) change_file_fine c.files,
+                              (
+                                list_fine 16 evidence_row (omega arith) evidence_fine c.evidence,
+                                (list_fine 16 history_row (omega arith) history_fine c.history, tt),
+                              ),
+                            ),
+                          ),
+                        ),
+                      ),
+                    ),
+                  ),
+                ),
+              ),
+            ),
+          ),
+        ),
+      ),
+    )

@@ -2,3 +2,5 @@ pub mod Places
 pub mod RowLists
 pub mod Texts
 pub mod Fine
+pub mod ReadAs
+pub mod Options

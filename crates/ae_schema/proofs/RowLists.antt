@@ -2,8 +2,9 @@
 use Rattle.std.proofs.Common.{◌≡◌, ℕ, zero, suc, ◌+◌, ◌<◌, List, [], ◌∷◌, ◌++◌, length, map, take, get_or, All, refl, sym, ap, ◌∙◌, arith}
 use Rattle.std.proofs.lemmas.List.{take_more, map-append}
 use Rattle.std.proofs.lemmas.List.Elements.{All-nil, All-cons, All-head, All-tail, All-append}
-use Rattle.ae_text.specs.Tree.{Node}
+use Rattle.ae_text.specs.Tree.{Node, list}
 use Rattle.ae_text.specs.View.{items_of, members_of}
+use Rattle.ae_schema.specs.Records.{Named, structure}
 
 -- A list that fits, and is spelled as these nodes, has at each place a value that fits and is spelled as the node there.
 pub record IsElement {A N : Type 0} (Fits : A → Type 0) (spelled : A → N) (xs : List A) (i : ℕ) (n : N) : Type 0 where
@@ -17,10 +18,10 @@ pub element : {A N Y : Type 0} (Fits : A → Type 0) (spelled : A → N) (g : Y 
 element Fits spelled g [] [] fits e i d less = absurd (omega arith)
 element Fits spelled g [] (y ∷ ys) fits e i d less = absurd (cc)
 element Fits spelled g (x ∷ xs) [] fits e i d less = absurd (cc)
-element Fits spelled g (x ∷ xs) (y ∷ ys) fits e zero d less = record { value = x; fits = All-head x xs fits; is = cc; grows = refl }
+element Fits spelled g (x ∷ xs) (y ∷ ys) fits e zero d less = record { value = x; fits = All-head Fits x xs fits; is = cc; grows = refl }
 element {A} {N} {Y} Fits spelled g (x ∷ xs) (y ∷ ys) fits e (suc i) d less =
     let tails : map spelled xs ≡ map g ys = cc in
-    let inner = element Fits spelled g xs ys (All-tail x xs fits) tails i d (omega arith) in
+    let inner = element Fits spelled g xs ys (All-tail Fits x xs fits) tails i d (omega arith) in
     record { value = inner.value; fits = inner.fits; is = inner.is; grows = ap (λ (zs : List A). x ∷ zs) inner.grows }
 
 -- one row more
@@ -55,3 +56,11 @@ same_members (n ∷ ns) (m ∷ ms) e =
     let tails : members_of ns ≡ members_of ms = cc in
     let tail = same_members ns ms tails in
     cc
+
+-- the values of one list
+pub same_list : (n : Node) (ns ms : List Node) → list (items_of ns) ≡ n → n ≡ list (items_of ms) → ns ≡ ms
+same_list n ns ms e f = let all : list (items_of ns) ≡ list (items_of ms) = e ∙ f in let inside : items_of ns ≡ items_of ms = cc (all) in same_items ns ms inside
+
+-- the fields of one structure
+pub same_structure : (n : Node) (ns ms : List Named) → structure ns ≡ n → n ≡ structure ms → ns ≡ ms
+same_structure n ns ms e f = let all : structure ns ≡ structure ms = e ∙ f in let inside : members_of ns ≡ members_of ms = cc (all) in same_members ns ms inside

@@ -48,25 +48,43 @@ FitsLock l = IsPath l.path × IsChangeNo l.change
 abbrev pub FitsChangeFile : ChangeFile → Type 0
 FitsChangeFile file = IsPath file.path × (file.origin < 2 ^ 32) × IfSome file.frozen FitsVersion
 
+-- which run it was, and how it ended
+abbrev pub FitsRun : Evidence → Type 0
+FitsRun run = IfSome run.path IsPath × (run.status < 2 ^ 16)
+
+-- what was tried, by whom and when
+abbrev pub FitsOutcome : Evidence → Type 0
+FitsOutcome run = IsDigest run.subject × (run.when < 2 ^ 64) × IsUser run.who
+
 abbrev pub FitsEvidence : Evidence → Type 0
-FitsEvidence run = IfSome run.path IsPath × (run.status < 2 ^ 16) × IsDigest run.subject × (run.when < 2 ^ 64) × IsUser run.who
+FitsEvidence run = FitsRun run × FitsOutcome run
 
 abbrev pub FitsHistory : HistoryRow → Type 0
 FitsHistory row = IsUser row.who × (row.when < 2 ^ 64)
 
+-- the users of the roles
+abbrev pub FitsRoles : Project → Type 0
+FitsRoles p = AreUsers p.administrators × AreUsers p.developers × AreUsers p.reviewers × AreUsers p.integrators
+
+-- what is counted, and the deltas
+abbrev pub FitsCounted : Project → List ℕ → Type 0
+FitsCounted p numbers = (p.next_version < 2 ^ 64) × All IsChangeNo numbers × All FitsDelta p.deltas
+
 -- a project and the numbers of its changes
 abbrev pub FitsProject : Project × List ℕ → Type 0
-FitsProject p =
-    IsProjectName p.0.name
-    × AreUsers p.0.administrators × AreUsers p.0.developers × AreUsers p.0.reviewers × AreUsers p.0.integrators
-    × (p.0.next_version < 2 ^ 64) × All IsChangeNo p.1 × All FitsDelta p.0.deltas
+FitsProject p = IsProjectName p.0.name × FitsRoles p.0 × FitsCounted p.0 p.1
 
 -- the files of a project and its locks
 abbrev pub FitsFiles : List FileRow × List Lock → Type 0
 FitsFiles t = All FitsFile t.0 × All FitsLock t.1
 
+-- who works at a change
+abbrev pub FitsPeople : Change → Type 0
+FitsPeople c = IfSome c.developer IsUser × IfSome c.reviewing IsUser × IfSome c.reviewer IsUser × IfSome c.integrator IsUser
+
+-- its files, its runs and its history
+abbrev pub FitsRows : Change → Type 0
+FitsRows c = All FitsChangeFile c.files × All FitsEvidence c.evidence × All FitsHistory c.history
+
 abbrev pub FitsChange : Change → Type 0
-FitsChange c =
-    IsChangeNo c.number
-    × IfSome c.developer IsUser × IfSome c.reviewing IsUser × IfSome c.reviewer IsUser × IfSome c.integrator IsUser
-    × All FitsChangeFile c.files × All FitsEvidence c.evidence × All FitsHistory c.history
+FitsChange c = IsChangeNo c.number × FitsPeople c × FitsRows c

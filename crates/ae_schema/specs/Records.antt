@@ -4,6 +4,8 @@ use Rattle.ae_text.specs.Tree.{Node, word, number, str, list, fields}
 use Rattle.ae_text.specs.View.{members_of}
 use Rattle.ae_text.specs.Grammar.{Reads, line_ends, line_after}
 use Rattle.ae_text.specs.Wrong.{IsError}
+use Rattle.ae_text.specs.declared.read.TextError.{TextError}
+use Rattle.ae_text.specs.declared.read.TextError.TheVariants as text_errors
 use Rattle.ae_schema.specs.declared.fields.Stop.{Stop}
 use Rattle.ae_schema.specs.declared.fields.Stop.TheVariants.{Bad, Memory}
 use Rattle.ae_schema.specs.declared.error.SchemaError.{SchemaError}
@@ -96,6 +98,17 @@ IsRefusal line (Err (errors.Field other)) = other ≡ line
 IsRefusal line (Err errors.Memory) = Unit {0}
 
 -- ---- where the reader stops
+
+-- what is told of a wrong token
+abbrev pub refusal_of : TextError → SchemaError
+refusal_of (text_errors.Syntax line) = errors.Field line
+refusal_of (text_errors.TooDeep line) = errors.Field line
+refusal_of text_errors.Memory = errors.Memory
+
+-- what is told of a wrong place, of the lines of the fields
+abbrev pub stop_error : List ℕ → List ℕ → Stop → SchemaError
+stop_error bytes lines (Bad at) = errors.Field (unwrap_or (slice_get lines at) (last_line bytes))
+stop_error bytes lines Memory = errors.Memory
 
 -- the stop tells the first wrong place
 abbrev pub BadAt : {A : Type 0} → (A → Type 0) → (A → List Named) → List Named → Stop → Type 0

@@ -54,29 +54,78 @@ project_from f =
     let text = f.rest.rest in
     let settings = text.rest.rest in
     let roles = settings.rest.rest.rest.rest.rest.rest in
-    let counted = roles.rest.rest.rest.rest in
-    (record {
-      name = text.first;
-      attributes = attributes_from text.rest.first settings;
-      administrators = roles.first;
-      developers = roles.rest.first;
-      reviewers = roles.rest.rest.first;
-      integrators = roles.rest.rest.rest.first;
-      next_version = counted.first;
-      deltas = counted.rest.rest.first;
-    }, counted.rest.first)
+    let counted = roles.rest.rest.rest.rest in (
+      record {
+        name = text.first;
+        attributes = attributes_from text.rest.first settings;
+        administrators = roles.first;
+        developers = roles.rest.first;
+        reviewers = roles.rest.rest.first;
+        integrators = roles.rest.rest.rest.first;
+        next_version = counted.first;
+        deltas = counted.rest.rest.first;
+      },
+      counted.rest.first,
+    )
 
 -- the fields of a project and its numbers
 abbrev pub project_shape : Project × List ℕ → ProjectShape
-project_shape p = record { first = record {}; rest = record { first = record {}; rest =
-    record { first = p.0.name; rest = record { first = p.0.attributes.description; rest =
-    record { first = p.0.attributes.developer_may_review; rest = record { first = p.0.attributes.developer_may_integrate; rest =
-    record { first = p.0.attributes.reviewer_may_integrate; rest = record { first = p.0.attributes.developers_may_create_changes; rest =
-    record { first = p.0.attributes.develop_end_action; rest = record { first = p.0.attributes.default_test_exemption; rest =
-    record { first = p.0.administrators; rest = record { first = p.0.developers; rest =
-    record { first = p.0.reviewers; rest = record { first = p.0.integrators; rest =
-    record { first = p.0.next_version; rest = record { first = p.1; rest = record { first = p.0.deltas; rest = record {} }
-    } } } } } } } } } } } } } } } }
+project_shape p = record {
+  first = record {};
+  rest = record {
+    first = record {};
+    rest =
+        record {
+          first = p.0.name;
+          rest = record {
+            first = p.0.attributes.description;
+            rest =
+                record {
+                  first = p.0.attributes.developer_may_review;
+                  rest = record {
+                    first = p.0.attributes.developer_may_integrate;
+                    rest =
+                        record {
+                          first = p.0.attributes.reviewer_may_integrate;
+                          rest = record {
+                            first = p.0.attributes.developers_may_create_changes;
+                            rest =
+                                record {
+                                  first = p.0.attributes.develop_end_action;
+                                  rest = record {
+                                    first = p.0.attributes.default_test_exemption;
+                                    rest =
+                                        record {
+                                          first = p.0.administrators;
+                                          rest = record {
+                                            first = p.0.developers;
+                                            rest =
+                                                record {
+                                                  first = p.0.reviewers;
+                                                  rest = record {
+                                                    first = p.0.integrators;
+                                                    rest =
+                                                        record {
+                                                          first = p.0.next_version;
+                                                          rest = record {
+                                                            first = p.1;
+                                                            rest = record { first = p.0.deltas; rest = record {} };
+                                                          };
+                                                        };
+                                                  };
+                                                };
+                                          };
+                                        };
+                                  };
+                                };
+                          };
+                        };
+                  };
+                };
+          };
+        };
+  };
+}
 
 -- ---- rows
 
@@ -90,8 +139,15 @@ abbrev pub evidence_from : Then Ground (Then Kind (Then (Option (List ℕ)) (The
 evidence_from f =
     let rest = f.rest.rest.rest.rest in
     record {
-      during = f.first; kind = f.rest.first; path = f.rest.rest.first; status = f.rest.rest.rest.first;
-      clean = rest.first; subject = rest.rest.first; when = rest.rest.rest.first; who = rest.rest.rest.rest.first }
+      during = f.first;
+      kind = f.rest.first;
+      path = f.rest.rest.first;
+      status = f.rest.rest.rest.first;
+      clean = rest.first;
+      subject = rest.rest.first;
+      when = rest.rest.rest.first;
+      who = rest.rest.rest.rest.first;
+    }
 
 -- ---- files
 
@@ -150,12 +206,53 @@ change_from f =
 
 -- the fields of a change
 abbrev pub change_shape : Change → ChangeShape
-change_shape c = record { first = c.number; rest =
-    record { first = c.attributes.brief; rest = record { first = c.attributes.description; rest =
-    record { first = c.attributes.cause; rest = record { first = c.attributes.test_exempt; rest =
-    record { first = c.attributes.test_baseline_exempt; rest = record { first = c.attributes.regression_test_exempt; rest =
-    record { first = c.phase; rest =
-    record { first = c.developer; rest = record { first = c.reviewing; rest =
-    record { first = c.reviewer; rest = record { first = c.integrator; rest =
-    record { first = c.files; rest = record { first = c.evidence; rest = record { first = c.history; rest = record {} }
-    } } } } } } } } } } } } } }
+change_shape c = record {
+  first = c.number;
+  rest =
+      record {
+        first = c.attributes.brief;
+        rest = record {
+          first = c.attributes.description;
+          rest =
+              record {
+                first = c.attributes.cause;
+                rest = record {
+                  first = c.attributes.test_exempt;
+                  rest =
+                      record {
+                        first = c.attributes.test_baseline_exempt;
+                        rest = record {
+                          first = c.attributes.regression_test_exempt;
+                          rest =
+                              record {
+                                first = c.phase;
+                                rest =
+                                    record {
+                                      first = c.developer;
+                                      rest = record {
+                                        first = c.reviewing;
+                                        rest =
+                                            record {
+                                              first = c.reviewer;
+                                              rest = record {
+                                                first = c.integrator;
+                                                rest =
+                                                    record {
+                                                      first = c.files;
+                                                      rest = record {
+                                                        first = c.evidence;
+                                                        rest = record { first = c.history; rest = record {} };
+                                                      };
+                                                    };
+                                              };
+                                            };
+                                      };
+                                    };
+                              };
+                        };
+                      };
+                };
+              };
+        };
+      };
+}

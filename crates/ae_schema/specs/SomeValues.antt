@@ -16,7 +16,10 @@ use Rattle.ae_types.specs.declared.file_table.Lock.{Lock}
 use Rattle.ae_types.specs.declared.change.ChangeFile.{ChangeFile}
 use Rattle.ae_types.specs.declared.change.Evidence.{Evidence}
 use Rattle.ae_types.specs.declared.change.HistoryRow.{HistoryRow}
-use Rattle.ae_schema.specs.Fits.{IsDigest, FitsVersion, FitsDelta, FitsFileVersion, FitsFile, FitsLock, FitsChangeFile, FitsEvidence, FitsHistory}
+use Rattle.std.specs.List.{IsDistinct}
+use Rattle.ae_base.specs.Names.{IsUser}
+use Rattle.ae_base.specs.Users.{AllDiffer}
+use Rattle.ae_schema.specs.Fits.{AreUsers, IsDigest, FitsVersion, FitsDelta, FitsFileVersion, FitsFile, FitsLock, FitsChangeFile, FitsEvidence, FitsHistory}
 
 -- so many zeros
 abbrev zeros : ℕ → List ℕ
@@ -66,8 +69,15 @@ some_change_file = (record { path = codes "a"; action = Create; usage = Source; 
 pub some_evidence : (run : Evidence) × FitsEvidence run
 some_evidence = (
   record { during = Develop; kind = Build; path = None; status = 0; clean = true; subject = zero_digest; when = 0; who = codes "a" },
-  (tt, omega arith, zero_digest_fits, omega arith, refl),
+  ((tt, omega arith), (zero_digest_fits, omega arith, refl)),
 )
 
 pub some_history : (row : HistoryRow) × FitsHistory row
 some_history = (record { what = NewChange; who = codes "a"; when = 0 }, (refl, omega arith))
+
+none_twice : AllDiffer []
+unfolding IsDistinct
+none_twice = tt
+
+pub some_users : (users : List (List ℕ)) × AreUsers users
+some_users = ([], (All-nil IsUser, none_twice))

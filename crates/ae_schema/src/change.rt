@@ -5,7 +5,7 @@ ghost use Rattle.ae_text.specs.View.{members_of, named_node};
 ghost use Rattle.ae_types.specs.declared.change.Change.{Change};
 ghost use Rattle.ae_schema.specs.Records.{IsTextOf, IsBadLine, IsAnswer, IsRefusal};
 ghost use Rattle.ae_schema.specs.Files.{subject_fields, exemption_fields, people_fields, row_fields, change_fields};
-ghost use Rattle.ae_schema.specs.Fits.{FitsChange};
+ghost use Rattle.ae_schema.specs.Fits.{IsChangeNo, FitsPeople, FitsRows, FitsChange};
 ghost use Rattle.ae_schema.specs.Shapes.{settings_from, change_from};
 
 use crate::SchemaError;
@@ -151,7 +151,8 @@ pub fn read_change(alloc: Global, bytes: &[u8]) -> Result<Change, SchemaError>
 
 // What the change is about.
 fn subject(alloc: Global, change: &Change) -> Result<Vec<Field>, AllocError>
-    ensures { IfOk result (λ fields. map named_node fields.items ≡ subject_fields change.now) }
+    ensures fields { IfOk result (λ fields. map named_node fields.items ≡ subject_fields change.now) }
+    ensures fits { OnOk result (IsChangeNo change.now.number) }
 {
     let fields = vec![in alloc;
         field(alloc, b"number", &change.number)?,
@@ -184,7 +185,8 @@ fn exemptions(alloc: Global, settings: &ChangeAttributes) -> Result<Vec<Field>, 
 
 // Where it stands, and who works at it.
 fn people(alloc: Global, change: &Change) -> Result<Vec<Field>, AllocError>
-    ensures { IfOk result (λ fields. map named_node fields.items ≡ people_fields change.now) }
+    ensures fields { IfOk result (λ fields. map named_node fields.items ≡ people_fields change.now) }
+    ensures fits { OnOk result (FitsPeople change.now) }
 {
     let fields = vec![in alloc;
         field(alloc, b"phase", &change.phase)?,
@@ -198,7 +200,8 @@ fn people(alloc: Global, change: &Change) -> Result<Vec<Field>, AllocError>
 
 // Its files, its runs and its history.
 fn rows(alloc: Global, change: &Change) -> Result<Vec<Field>, AllocError>
-    ensures { IfOk result (λ fields. map named_node fields.items ≡ row_fields change.now) }
+    ensures fields { IfOk result (λ fields. map named_node fields.items ≡ row_fields change.now) }
+    ensures fits { OnOk result (FitsRows change.now) }
 {
     let fields = vec![in alloc;
         field(alloc, b"files", &change.files)?,
@@ -210,7 +213,8 @@ fn rows(alloc: Global, change: &Change) -> Result<Vec<Field>, AllocError>
 
 // The fields of the change's file.
 fn fields_of(alloc: Global, change: &Change) -> Result<Vec<Field>, AllocError>
-    ensures { IfOk result (λ fields. map named_node fields.items ≡ change_fields change.now) }
+    ensures fields { IfOk result (λ fields. map named_node fields.items ≡ change_fields change.now) }
+    ensures fits { OnOk result (FitsChange change.now) }
 {
     let mut fields = subject(alloc, change)?;
     fields.append(&mut exemptions(alloc, &change.attributes)?)?;

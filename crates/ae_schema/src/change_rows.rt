@@ -1,5 +1,6 @@
 // How the rows of a change are spelled: its files, its runs and its history.
-ghost use Rattle.std.specs.Prelude.{◌≡◌, IfOk, map};
+ghost use Rattle.std.specs.Prelude.{◌≡◌, IfOk, OnOk, map};
+ghost use Rattle.ae_schema.specs.Fits.{FitsRun, FitsOutcome};
 ghost use Rattle.ae_text.specs.View.{named_node};
 ghost use Rattle.ae_schema.specs.Spelled.{run_fields, outcome_fields};
 ghost use Rattle.ae_schema.specs.Shapes.{evidence_from};
@@ -111,7 +112,8 @@ fn evidence_of(fields: EvidenceFields) -> Evidence
 
 // Which run it was, and how it ended.
 fn run(alloc: Global, run: &Evidence) -> Result<Vec<Field>, AllocError>
-    ensures { IfOk result (λ fields. map named_node fields.items ≡ run_fields run.now) }
+    ensures fields { IfOk result (λ fields. map named_node fields.items ≡ run_fields run.now) }
+    ensures fits { OnOk result (FitsRun run.now) }
 {
     let fields = vec![in alloc;
         field(alloc, b"ground", &run.during)?,
@@ -124,7 +126,8 @@ fn run(alloc: Global, run: &Evidence) -> Result<Vec<Field>, AllocError>
 
 // What was tried, by whom and when.
 fn outcome(alloc: Global, run: &Evidence) -> Result<Vec<Field>, AllocError>
-    ensures { IfOk result (λ fields. map named_node fields.items ≡ outcome_fields run.now) }
+    ensures fields { IfOk result (λ fields. map named_node fields.items ≡ outcome_fields run.now) }
+    ensures fits { OnOk result (FitsOutcome run.now) }
 {
     let fields = vec![in alloc;
         field(alloc, b"clean", &run.clean)?,

@@ -7,7 +7,7 @@ ghost use Rattle.ae_types.specs.declared.file_table.Lock.{Lock};
 ghost use Rattle.ae_schema.specs.Records.{IsTextOf, IsBadLine, IsAnswer, IsRefusal};
 ghost use Rattle.ae_schema.specs.Files.{files_fields};
 ghost use Rattle.ae_schema.specs.Fits.{FitsFiles};
-ghost use Rattle.ae_schema.specs.Shapes.{row_from};
+ghost use Rattle.ae_schema.specs.Shapes.{row_from, files_from};
 
 use crate::SchemaError;
 use crate::fields::{End, Then};
@@ -16,7 +16,7 @@ use crate::record::read_record;
 use crate::structure::{read_structure, structure_of};
 use crate::value::{Value, field};
 use ae_base::{ChangeNo, Delta, Path, Usage};
-use ae_text::{Tree, print_tree};
+use ae_text::{Field, Tree, print_tree};
 use ae_types::{FileRow, FileRows, FileVersion, FileVersionList, Lock, LockList, VersionRef};
 use std::alloc::{AllocError, Global};
 
@@ -152,6 +152,17 @@ impl Value for Lock {
 
 type FileTableFields = Then<FileRows, Then<LockList, End>>;
 
+fn files_of(fields: FileTableFields) -> (FileRows, LockList)
+    ensures { result ≡ files_from fields }
+{
+    let Then { first: files, rest } = fields;
+    let Then {
+        first: locks,
+        rest: End,
+    } = rest;
+    (files, locks)
+}
+
 /// The files of a project and its locks, of which the bytes are a text.
 pub fn read_files(alloc: Global, bytes: &[u8]) -> Result<(FileRows, LockList), SchemaError>
     // The bytes are a text of the fields of what is read.
@@ -167,16 +178,21 @@ pub fn read_files(alloc: Global, bytes: &[u8]) -> Result<(FileRows, LockList), S
 {
     let names: &[&[u8]] = &[b"files", b"locks"];
     match read_record::<FileTableFields>(alloc, names, bytes) {
-        Ok(fields) => {
-            let Then { first: files, rest } = fields;
-            let Then {
-                first: locks,
-                rest: End,
-            } = rest;
-            Ok((files, locks))
-        }
+        Ok(fields) => Ok(files_of(fields)),
         Err(error) => Err(error),
     }
+}
+
+// The fields of the file table.
+fn fields_of(alloc: Global, files: &[FileRow], locks: &[Lock]) -> Result<Vec<Field>, AllocError>
+    ensures fields { IfOk result (λ fields. map named_node fields.items ≡ files_fields (files.now, locks.now)) }
+    ensures fits { OnOk result (FitsFiles (files.now, locks.now)) }
+{
+    let fields = vec![in alloc;
+        list_field(alloc, b"files", files)?,
+        list_field(alloc, b"locks", locks)?,
+    ]?;
+    Ok(fields)
 }
 
 /// The text of `files`, of the files of a project and its locks.
@@ -188,9 +204,6 @@ pub fn print_files(alloc: Global, files: &[FileRow], locks: &[Lock]) -> Result<V
     // What is printed keeps what its types can hold, so that it is read back.
     ensures fits { OnOk result (FitsFiles (files.now, locks.now)) }
 {
-    let fields = vec![in alloc;
-        list_field(alloc, b"files", files)?,
-        list_field(alloc, b"locks", locks)?,
-    ]?;
+    let fields = fields_of(alloc, files, locks)?;
     print_tree(alloc, &structure_of(fields))
 }

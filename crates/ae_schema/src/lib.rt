@@ -6,8 +6,10 @@ mod change_rows;
 mod error;
 mod fields;
 mod file_table;
+mod laws;
 mod lists;
 mod names;
+mod parts;
 mod project;
 mod record;
 mod structure;
@@ -18,6 +20,10 @@ mod words;
 pub use change::{print_change, read_change};
 pub use error::SchemaError;
 pub use file_table::{print_files, read_files};
+pub use laws::{
+    change_again, files_again, note_change_lines, note_files_lines, note_project_lines,
+    project_again,
+};
 pub use project::{print_project, read_project};
 
 #[cfg(test)]

@@ -4,6 +4,7 @@ ghost use Rattle.ae_text.specs.View.{node, named_node};
 ghost use Rattle.ae_schema.specs.Spelled.{list_of};
 ghost use Rattle.ae_base.specs.Users.{AllDiffer};
 
+use crate::parts::list_in;
 use crate::value::Value;
 use ae_base::{User, UserSet};
 use ae_text::{Field, Tree, TreeList};
@@ -63,12 +64,12 @@ impl<T: Value> Value for Rows<T> {
     ghost Fits = { All T.Fits };
 
     fn of_tree(alloc: Global, tree: &Tree) -> Result<Option<Rows<T>>, AllocError> {
-        match tree {
-            Tree::List(list) => match read_rows::<T>(alloc, list.items())? {
-                Some(rows) => Ok(Some(Rows::of(rows))),
-                None => Ok(None),
-            },
-            _ => Ok(None),
+        let Some(trees) = list_in(tree) else {
+            return Ok(None);
+        };
+        match read_rows::<T>(alloc, trees)? {
+            Some(rows) => Ok(Some(Rows::of(rows))),
+            None => Ok(None),
         }
     }
 
@@ -77,6 +78,13 @@ impl<T: Value> Value for Rows<T> {
     }
 
     ghost some_value = { ([], Prim.search rules) };
+}
+
+// The users of a set differ.
+fn note_differ(set: &UserSet)
+    ensures { AllDiffer set.now }
+{
+    let _users = set.users();
 }
 
 // The set of these users, where none stands twice.
@@ -91,27 +99,27 @@ fn distinct(alloc: Global, users: Vec<User>) -> Result<Option<UserSet>, AllocErr
         }
         set.insert(user)?;
     }
+    note_differ(&set);
     Ok(Some(set))
 }
 
 impl Value for UserSet {
-    ghost use Rattle.std.specs.Prelude.{[]};
     ghost use Rattle.ae_text.specs.Tree.{str};
     ghost use Rattle.ae_schema.specs.Spelled.{list_of};
     ghost use Rattle.ae_schema.specs.Fits.{AreUsers};
-    ghost use Rattle.std.proofs.Common.{rules};
+    ghost use Rattle.ae_schema.specs.SomeValues.{some_users};
 
     ghost spelled = { list_of str };
 
     ghost Fits = { AreUsers };
 
     fn of_tree(alloc: Global, tree: &Tree) -> Result<Option<UserSet>, AllocError> {
-        match tree {
-            Tree::List(list) => match read_rows::<User>(alloc, list.items())? {
-                Some(users) => distinct(alloc, users),
-                None => Ok(None),
-            },
-            _ => Ok(None),
+        let Some(trees) = list_in(tree) else {
+            return Ok(None);
+        };
+        match read_rows::<User>(alloc, trees)? {
+            Some(users) => distinct(alloc, users),
+            None => Ok(None),
         }
     }
 
@@ -119,5 +127,5 @@ impl Value for UserSet {
         Ok(Tree::List(TreeList::of(row_trees(alloc, self.users())?)))
     }
 
-    ghost some_value = { ([], Prim.search rules) };
+    ghost some_value = { some_users };
 }

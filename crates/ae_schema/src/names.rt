@@ -3,6 +3,7 @@ ghost use Rattle.std.specs.Prelude.{◌≡◌, ◌↔◌, [], IsTrue};
 ghost use Rattle.ae_text.specs.Tree.{str};
 ghost use Rattle.ae_text.specs.View.{node};
 
+use crate::parts::string_in;
 use crate::value::Value;
 use ae_base::{ChangeNo, Delta, Path, ProjectName, User};
 use ae_text::Tree;
@@ -18,9 +19,9 @@ impl Value for Path {
     ghost Fits = { IsPath };
 
     fn of_tree(alloc: Global, tree: &Tree) -> Result<Option<Path>, AllocError> {
-        match tree {
-            Tree::Str(text) => Path::read(alloc, text.bytes()),
-            _ => Ok(None),
+        match string_in(tree) {
+            Some(text) => Path::read(alloc, text),
+            None => Ok(None),
         }
     }
 
@@ -41,9 +42,9 @@ impl Value for User {
     ghost Fits = { IsUser };
 
     fn of_tree(alloc: Global, tree: &Tree) -> Result<Option<User>, AllocError> {
-        match tree {
-            Tree::Str(text) => User::read(alloc, text.bytes()),
-            _ => Ok(None),
+        match string_in(tree) {
+            Some(text) => User::read(alloc, text),
+            None => Ok(None),
         }
     }
 
@@ -64,9 +65,9 @@ impl Value for ProjectName {
     ghost Fits = { IsProjectName };
 
     fn of_tree(alloc: Global, tree: &Tree) -> Result<Option<ProjectName>, AllocError> {
-        match tree {
-            Tree::Str(text) => ProjectName::read(alloc, text.bytes()),
-            _ => Ok(None),
+        match string_in(tree) {
+            Some(text) => ProjectName::read(alloc, text),
+            None => Ok(None),
         }
     }
 

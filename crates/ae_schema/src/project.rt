@@ -5,7 +5,8 @@ ghost use Rattle.ae_text.specs.View.{members_of, named_node};
 ghost use Rattle.ae_types.specs.declared.project.Project.{Project};
 ghost use Rattle.ae_schema.specs.Records.{IsTextOf, IsBadLine, IsAnswer, IsRefusal};
 ghost use Rattle.ae_schema.specs.Files.{identity_fields, permission_fields, default_fields, role_fields, counted_fields, project_fields};
-ghost use Rattle.ae_schema.specs.Fits.{FitsProject};
+ghost use Rattle.ae_schema.specs.Fits.{FitsRoles, FitsCounted, FitsProject};
+ghost use Rattle.ae_base.specs.Names.{IsProjectName};
 ghost use Rattle.ae_schema.specs.Shapes.{attributes_from, project_from};
 
 use crate::SchemaError;
@@ -262,7 +263,8 @@ pub fn read_project(alloc: Global, bytes: &[u8]) -> Result<(Project, NumberList)
 
 // Which format it is, and which project.
 fn identity(alloc: Global, project: &Project) -> Result<Vec<Field>, AllocError>
-    ensures { IfOk result (λ fields. map named_node fields.items ≡ identity_fields project.now) }
+    ensures fields { IfOk result (λ fields. map named_node fields.items ≡ identity_fields project.now) }
+    ensures fits { OnOk result (IsProjectName project.now.name) }
 {
     let fields = vec![in alloc;
         field(alloc, b"format", &Format)?,
@@ -319,7 +321,8 @@ fn defaults(alloc: Global, settings: &Attributes) -> Result<Vec<Field>, AllocErr
 
 // The users of each role.
 fn roles(alloc: Global, project: &Project) -> Result<Vec<Field>, AllocError>
-    ensures { IfOk result (λ fields. map named_node fields.items ≡ role_fields project.now) }
+    ensures fields { IfOk result (λ fields. map named_node fields.items ≡ role_fields project.now) }
+    ensures fits { OnOk result (FitsRoles project.now) }
 {
     let fields = vec![in alloc;
         field(alloc, b"administrators", &project.administrators)?,
@@ -332,7 +335,8 @@ fn roles(alloc: Global, project: &Project) -> Result<Vec<Field>, AllocError>
 
 // The number of the next version, and the changes and deltas.
 fn counted(alloc: Global, project: &Project, numbers: &[ChangeNo]) -> Result<Vec<Field>, AllocError>
-    ensures { IfOk result (λ fields. map named_node fields.items ≡ counted_fields project.now numbers.now) }
+    ensures fields { IfOk result (λ fields. map named_node fields.items ≡ counted_fields project.now numbers.now) }
+    ensures fits { OnOk result (FitsCounted project.now numbers.now) }
 {
     let fields = vec![in alloc;
         field(alloc, b"next_version", &project.next_version)?,
@@ -348,7 +352,8 @@ fn fields_of(
     project: &Project,
     numbers: &[ChangeNo],
 ) -> Result<Vec<Field>, AllocError>
-    ensures { IfOk result (λ fields. map named_node fields.items ≡ project_fields (project.now, numbers.now)) }
+    ensures fields { IfOk result (λ fields. map named_node fields.items ≡ project_fields (project.now, numbers.now)) }
+    ensures fits { OnOk result (FitsProject (project.now, numbers.now)) }
 {
     let mut fields = identity(alloc, project)?;
     fields.append(&mut permissions(alloc, &project.attributes)?)?;

@@ -1,12 +1,14 @@
 // A state file: one record.
 ghost use Rattle.std.specs.Prelude.{◌≡◌, ◌^◌, ℕ, List, Err, length, map, unwrap_or, slice_get, IfOk};
-ghost use Rattle.ae_text.specs.Grammar.{line_after, line_ends};
-ghost use Rattle.ae_schema.specs.Records.{named, structure, IsStructure, IsTextOf, IsBadLine, last_line};
+ghost use Rattle.ae_text.specs.Grammar.{Reads, line_after, line_ends};
+ghost use Rattle.ae_schema.specs.Records.{named, structure, IsStructure, IsTextOf, IsBadLine, last_line, refusal_of, stop_error};
+ghost use Rattle.ae_text.specs.Wrong.{IsError};
 ghost use Rattle.ae_text.specs.View.{node, fields_seen};
 
 use crate::SchemaError;
 use crate::fields::{Fields, Stop};
-use ae_text::{Field, Parsed, TextError, Tree, read_tree};
+use crate::parts::fields_in;
+use ae_text::{Field, LineList, Parsed, TextError, read_tree};
 use std::alloc::Global;
 
 fn line_behind(ends: usize) -> u32
@@ -41,9 +43,60 @@ fn fields_of(parsed: &Parsed) -> &[Field]
     requires { IsStructure (node parsed.now.tree) }
     ensures { node parsed.now.tree ≡ structure (fields_seen result.now) }
 {
-    match &parsed.tree {
-        Tree::Fields(list) => list.items(),
-        _ => unreachable!(),
+    match fields_in(&parsed.tree) {
+        Some(fields) => fields,
+        None => unreachable!(),
+    }
+}
+
+fn refusal(error: TextError) -> SchemaError
+    ensures { result ≡ refusal_of error }
+{
+    match error {
+        TextError::Syntax(line) => SchemaError::Field(line),
+        TextError::TooDeep(line) => SchemaError::Field(line),
+        TextError::Memory => SchemaError::Memory,
+    }
+}
+
+// The text, or the line of its first wrong token.
+fn read_text(alloc: Global, bytes: &[u8]) -> Result<Parsed, SchemaError>
+    ensures found { IfOk result (λ p. Reads bytes.now (node p.tree) p.lines) }
+    ensures bad { (line : ℕ) → result ≡ Err (SchemaError.Field line) → IsError bytes.now line }
+{
+    match read_tree(alloc, bytes) {
+        Ok(parsed) => Ok(parsed),
+        Err(error) => Err(refusal(error)),
+    }
+}
+
+// The line of the place where the reader stopped.
+fn stop_line(bytes: &[u8], lines: &LineList, stop: Stop) -> SchemaError
+    ensures { result ≡ stop_error bytes.now lines.now stop }
+{
+    match stop {
+        Stop::Bad(at) => SchemaError::Field(line_at(bytes, lines.lines(), at)),
+        Stop::Memory => SchemaError::Memory,
+    }
+}
+
+// The values of the record whose text was read.
+fn record_of<R: Fields>(
+    alloc: Global,
+    names: &[&[u8]],
+    bytes: &[u8],
+    parsed: &Parsed,
+) -> Result<R, SchemaError>
+    requires names { length names.now ≡ R.count }
+    requires reads { Reads bytes.now (node parsed.now.tree) parsed.now.lines }
+    ensures found { IfOk result (λ x. IsTextOf bytes.now (named (map (λ s. s.now) names.now) (R.values x))) }
+    ensures fits { IfOk result R.Fits }
+    ensures only { (x : R) → R.Fits x → IsTextOf bytes.now (named (map (λ s. s.now) names.now) (R.values x)) → IfOk result (λ y. y ≡ x) }
+    ensures bad { (line : ℕ) → result ≡ Err (SchemaError.Field line) → IsBadLine R.Fits (λ x. named (map (λ s. s.now) names.now) (R.values x)) bytes.now line }
+{
+    match R::read(alloc, names, fields_of(parsed)) {
+        Ok(record) => Ok(record),
+        Err(stop) => Err(stop_line(bytes, &parsed.lines, stop)),
     }
 }
 
@@ -59,15 +112,8 @@ pub(crate) fn read_record<R: Fields>(
     ensures only { (x : R) → R.Fits x → IsTextOf bytes.now (named (map (λ s. s.now) names.now) (R.values x)) → IfOk result (λ y. y ≡ x) }
     ensures bad { (line : ℕ) → result ≡ Err (SchemaError.Field line) → IsBadLine R.Fits (λ x. named (map (λ s. s.now) names.now) (R.values x)) bytes.now line }
 {
-    let parsed = match read_tree(alloc, bytes) {
-        Ok(parsed) => parsed,
-        Err(TextError::Syntax(line)) => return Err(SchemaError::Field(line)),
-        Err(TextError::TooDeep(line)) => return Err(SchemaError::Field(line)),
-        Err(TextError::Memory) => return Err(SchemaError::Memory),
-    };
-    match R::read(alloc, names, fields_of(&parsed)) {
-        Ok(record) => Ok(record),
-        Err(Stop::Bad(at)) => Err(SchemaError::Field(line_at(bytes, parsed.lines.lines(), at))),
-        Err(Stop::Memory) => Err(SchemaError::Memory),
+    match read_text(alloc, bytes) {
+        Ok(parsed) => record_of::<R>(alloc, names, bytes, &parsed),
+        Err(error) => Err(error),
     }
 }

@@ -4,6 +4,7 @@ ghost use Rattle.ae_text.specs.View.{node, named_node};
 ghost use Rattle.ae_schema.specs.Records.{named, structure};
 
 use crate::fields::{Fields, Stop};
+use crate::parts::fields_in;
 use ae_text::{Field, FieldList, Tree};
 use std::alloc::{AllocError, Global};
 
@@ -17,13 +18,13 @@ pub(crate) fn read_structure<R: Fields>(
     ensures some { IfOk result (λ read. IfSome read (λ x. R.Fits x × (structure (named (map (λ s. s.now) names.now) (R.values x)) ≡ node tree.now))) }
     ensures only { (x : R) → R.Fits x → structure (named (map (λ s. s.now) names.now) (R.values x)) ≡ node tree.now → IfOk result (λ read. read ≡ Some x) }
 {
-    match tree {
-        Tree::Fields(list) => match R::read(alloc, names, list.items()) {
-            Ok(row) => Ok(Some(row)),
-            Err(Stop::Bad(_)) => Ok(None),
-            Err(Stop::Memory) => Err(AllocError),
-        },
-        _ => Ok(None),
+    let Some(fields) = fields_in(tree) else {
+        return Ok(None);
+    };
+    match R::read(alloc, names, fields) {
+        Ok(row) => Ok(Some(row)),
+        Err(Stop::Bad(_)) => Ok(None),
+        Err(Stop::Memory) => Err(AllocError),
     }
 }
 

@@ -1,5 +1,5 @@
 // How versions and digests are spelled.
-ghost use Rattle.std.specs.Prelude.{◌≡◌, ◌↔◌, [], ℕ, List, Some, IsTrue, IfOk, IfSome};
+ghost use Rattle.std.specs.Prelude.{◌≡◌, ◌↔◌, [], ℕ, List, Some, IsTrue, IfOk, IfSome, length};
 ghost use Rattle.hex.specs.Hex.{encode_lower};
 ghost use Rattle.ae_schema.specs.Fits.{IsDigest};
 ghost use Rattle.ae_schema.specs.Shapes.{version_from};
@@ -7,26 +7,39 @@ ghost use Rattle.ae_text.specs.View.{node};
 ghost use Rattle.ae_schema.specs.Records.{structure};
 
 use crate::fields::{End, Then};
+use crate::parts::{fields_in, string_in};
 use crate::structure::{read_structure, structure_of};
 use crate::value::{Value, field};
-use ae_text::Tree;
+use ae_text::{Field, Tree};
 use ae_types::VersionRef;
 use std::alloc::{AllocError, Global};
 
-// The digest of which the text is the hex digits.
-fn digest_of(alloc: Global, text: &[u8]) -> Result<Option<[u8; 32]>, AllocError>
-    ensures some { IfOk result (λ read. IfSome read (λ digest. IsDigest digest × (encode_lower digest ≡ text.now))) }
-    ensures only { (digest : List ℕ) → IsDigest digest → encode_lower digest ≡ text.now → IfOk result (λ read. read ≡ Some digest) }
+// The digest, where the text is its hex digits.
+fn same_digits(
+    alloc: Global,
+    digest: &[u8; 32],
+    text: &[u8],
+) -> Result<Option<[u8; 32]>, AllocError>
+    ensures some { IfOk result (λ read. IfSome read (λ x. IsDigest x × (encode_lower x ≡ text.now))) }
+    ensures only { encode_lower digest.now ≡ text.now → IfOk result (λ read. read ≡ Some digest.now) }
 {
-    let mut digest = [0; 32];
-    if hex::decode_to_slice(text, &mut digest).is_err() {
-        return Ok(None);
-    }
-    let again = hex::encode(alloc, digest)?;
-    if again.as_bytes() == text {
-        Ok(Some(digest))
+    let digits = hex::encode(alloc, *digest)?;
+    if digits.as_bytes() == text {
+        Ok(Some(*digest))
     } else {
         Ok(None)
+    }
+}
+
+// The digest of which the text is the hex digits, in lower case.
+fn digest_of(alloc: Global, text: &[u8]) -> Result<Option<[u8; 32]>, AllocError>
+    ensures some { IfOk result (λ read. IfSome read (λ x. IsDigest x × (encode_lower x ≡ text.now))) }
+    ensures only { (x : List ℕ) → IsDigest x → encode_lower x ≡ text.now → IfOk result (λ read. read ≡ Some x) }
+{
+    let mut digest = [0; 32];
+    match hex::decode_to_slice(text, &mut digest) {
+        Ok(()) => same_digits(alloc, &digest, text),
+        Err(_) => Ok(None),
     }
 }
 
@@ -41,9 +54,9 @@ impl Value for [u8; 32] {
     ghost Fits = { IsDigest };
 
     fn of_tree(alloc: Global, tree: &Tree) -> Result<Option<[u8; 32]>, AllocError> {
-        match tree {
-            Tree::Str(text) => digest_of(alloc, text.bytes()),
-            _ => Ok(None),
+        match string_in(tree) {
+            Some(text) => digest_of(alloc, text),
+            None => Ok(None),
         }
     }
 
@@ -111,12 +124,18 @@ fn version_of(fields: VersionFields) -> VersionRef
     }
 }
 
+fn has_none(fields: &[Field]) -> bool
+    ensures { IsTrue result ↔ (length fields.now ≡ 0) }
+{
+    fields.is_empty()
+}
+
 fn is_empty_structure(tree: &Tree) -> bool
     ensures { IsTrue result ↔ (node tree.now ≡ structure []) }
 {
-    match tree {
-        Tree::Fields(list) => list.items().is_empty(),
-        _ => false,
+    match fields_in(tree) {
+        Some(fields) => has_none(fields),
+        None => false,
     }
 }
 

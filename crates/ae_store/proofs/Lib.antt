@@ -1,3 +1,10 @@
+pub mod Reading
+pub mod FileNames
+pub mod Disks
+pub mod OneRecord
+pub mod Laws
+pub mod Told
+pub mod LoadSteps
 pub mod BatchEntries
 pub mod BatchSteps
 pub mod BatchNames

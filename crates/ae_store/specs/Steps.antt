@@ -3,6 +3,8 @@ use Rattle.std.specs.Prelude.{◌≡◌, ◌≢◌, ℕ, List, [], ◌∷◌, �
 use Rattle.ae_outside.specs.declared.failed.ReadError.{ReadError}
 use Rattle.ae_outside.specs.declared.failed.ReadError.TheVariants as reading
 use Rattle.ae_outside.specs.Image.{Image}
+use Rattle.ae_schema.specs.declared.error.SchemaError.{SchemaError}
+use Rattle.ae_schema.specs.declared.error.SchemaError.TheVariants as schema
 use Rattle.ae_types.specs.declared.blame.Blame.{Blame}
 use Rattle.ae_types.specs.declared.blame.Blame.TheVariants as blame
 use Rattle.ae_types.specs.declared.change.Change.{Change}
@@ -21,6 +23,11 @@ use Rattle.ae_store.specs.Answers.{IsBlamed}
 abbrev pub stop_reading : ReadError → Stop
 stop_reading reading.Failed = DiskFault
 stop_reading reading.Memory = Memory
+
+-- a bad record blames its file
+abbrev pub stop_schema : Blame → SchemaError → Stop
+stop_schema b (schema.Field line) = Blamed b
+stop_schema b schema.Memory = Memory
 
 -- a value that is read so, or this blame, where none is
 abbrev pub IsReading : {A : Type 0} → (A → Type 0) → Blame → Result A Stop → Type 0
@@ -64,6 +71,6 @@ IsLoaded files (Err Memory) = Unit {0}
 -- the answer of the loader, of that of its steps
 abbrev pub IsToldOf : Result (Option Observation) Stop → Result (Option Observation) StoreError → Type 0
 IsToldOf (Ok o) told = told ≡ Ok o
-IsToldOf (Err (Blamed b)) told = IsBlamed b told
+IsToldOf (Err (Blamed b)) told = IsBlamed b told × (told ≢ Err store.DiskFault)
 IsToldOf (Err DiskFault) told = told ≡ Err store.DiskFault
 IsToldOf (Err Memory) told = told ≡ Err store.Memory

@@ -1,7 +1,6 @@
 // The names of the state files.
-ghost use Rattle.std.specs.Prelude.{◌≡◌, ◌≤◌, false, string_bytes, IfOk, OnOk};
+ghost use Rattle.std.specs.Prelude.{◌≡◌, ◌≤◌, string_bytes, IfOk};
 ghost use Rattle.ae_outside.specs.DiskNames.{IsDiskName};
-ghost use Rattle.ae_vault.specs.Vault.{is_own};
 ghost use Rattle.ae_store.specs.Names.{change_file, blamed_file};
 
 use ae_base::{ChangeNo, Text};
@@ -15,6 +14,7 @@ pub(crate) const FILES: &str = "files";
 /// The name of the file of this change.
 pub(crate) fn change_name(alloc: Global, number: ChangeNo) -> Result<String, AllocError>
     ensures value { IfOk result (λ name. string_bytes name ≡ change_file number) }
+    ensures disk { IfOk result (λ name. IsDiskName (string_bytes name)) }
     ensures low { 10 ≤ number }
     ensures high { number ≤ 1999 }
 {

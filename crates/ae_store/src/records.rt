@@ -1,5 +1,5 @@
 // A state file's bytes are read, and tested by themselves.
-ghost use Rattle.std.specs.Prelude.{◌≡◌, ℕ, List};
+ghost use Rattle.std.specs.Prelude.{◌≡◌, ℕ, List, IsErrOf};
 ghost use Rattle.ae_outside.specs.Image.{Image};
 ghost use Rattle.ae_types.specs.declared.blame.Blame.TheVariants as blame;
 ghost use Rattle.ae_types.specs.declared.project.Project.{Project};
@@ -7,7 +7,7 @@ ghost use Rattle.ae_types.specs.declared.file_table.FileRow.{FileRow};
 ghost use Rattle.ae_types.specs.declared.file_table.Lock.{Lock};
 ghost use Rattle.ae_store.specs.Names.{project_file, files_file, change_file};
 ghost use Rattle.ae_store.specs.Damage.{ReadsProject, ReadsTable, ReadsChange};
-ghost use Rattle.ae_store.specs.Steps.{IsReading};
+ghost use Rattle.ae_store.specs.Steps.{stop_schema, IsReading};
 
 use crate::stop::Stop;
 use ae_base::ChangeNo;
@@ -16,7 +16,9 @@ use ae_schema::{SchemaError, read_change, read_files, read_project};
 use ae_types::{Blame, Change, FileRows, LockList, NumberList, Project};
 use std::alloc::Global;
 
-fn stop_of(error: SchemaError, blame: Blame) -> Stop {
+fn stop_of(blame: Blame, error: SchemaError) -> Stop
+    ensures { result ≡ stop_schema blame error }
+{
     match error {
         SchemaError::Field(_) => Stop::Blamed(blame),
         SchemaError::Memory => Stop::Memory,
@@ -25,7 +27,8 @@ fn stop_of(error: SchemaError, blame: Blame) -> Stop {
 
 /// The project that the bytes of `project` say, where it keeps the rules by itself.
 pub(crate) fn good_project(alloc: Global, bytes: &[u8]) -> Result<(Project, NumberList), Stop>
-    ensures { (files : Image) → files project_file ≡ bytes.now → IsReading (λ (p : Project × List ℕ). ReadsProject files p.0 p.1) blame.Project result }
+    ensures value { (files : Image) → files project_file ≡ bytes.now → IsReading (λ (p : Project × List ℕ). ReadsProject files p.0 p.1) blame.Project result }
+    ensures no_fault { IsErrOf result Stop.DiskFault → ⊥ }
 {
     match read_project(alloc, bytes) {
         Ok((project, numbers)) => {
@@ -35,7 +38,7 @@ pub(crate) fn good_project(alloc: Global, bytes: &[u8]) -> Result<(Project, Numb
                 Err(Stop::Blamed(Blame::Project))
             }
         }
-        Err(error) => Err(stop_of(error, Blame::Project)),
+        Err(error) => Err(stop_of(Blame::Project, error)),
     }
 }
 
@@ -45,7 +48,8 @@ pub(crate) fn good_table(
     bytes: &[u8],
     project: &Project,
 ) -> Result<(FileRows, LockList), Stop>
-    ensures { (files : Image) → files files_file ≡ bytes.now → IsReading (λ (t : List FileRow × List Lock). ReadsTable files project.now t.0 t.1) blame.Files result }
+    ensures value { (files : Image) → files files_file ≡ bytes.now → IsReading (λ (t : List FileRow × List Lock). ReadsTable files project.now t.0 t.1) blame.Files result }
+    ensures no_fault { IsErrOf result Stop.DiskFault → ⊥ }
 {
     match read_files(alloc, bytes) {
         Ok((rows, locks)) => {
@@ -55,13 +59,14 @@ pub(crate) fn good_table(
                 Err(Stop::Blamed(Blame::Files))
             }
         }
-        Err(error) => Err(stop_of(error, Blame::Files)),
+        Err(error) => Err(stop_of(Blame::Files, error)),
     }
 }
 
 /// The change of this number that the bytes of its file say, where it keeps the rules by itself.
 pub(crate) fn good_change(alloc: Global, bytes: &[u8], number: ChangeNo) -> Result<Change, Stop>
-    ensures { (files : Image) → files (change_file number) ≡ bytes.now → IsReading (ReadsChange files number) (blame.Change number) result }
+    ensures value { (files : Image) → files (change_file number) ≡ bytes.now → IsReading (ReadsChange files number) (blame.Change number) result }
+    ensures no_fault { IsErrOf result Stop.DiskFault → ⊥ }
 {
     match read_change(alloc, bytes) {
         Ok(change) => {
@@ -71,6 +76,6 @@ pub(crate) fn good_change(alloc: Global, bytes: &[u8], number: ChangeNo) -> Resu
                 Err(Stop::Blamed(Blame::Change(number)))
             }
         }
-        Err(error) => Err(stop_of(error, Blame::Change(number))),
+        Err(error) => Err(stop_of(Blame::Change(number), error)),
     }
 }

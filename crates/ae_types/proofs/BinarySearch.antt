@@ -1,5 +1,5 @@
 -- What a binary search of ascending rows answers is the row that the key finds.
-use Rattle.std.proofs.Common.{◌≡◌, ◌⊎◌, inl, inr, ℕ, zero, suc, ◌+◌, ◌<◌, ◌≤◌, refl, sym, ◌∙◌, ap, subst, List, [], ◌∷◌, Option, Some, None, Bool, true, false, get_or, arith, Result, Ok, Err}
+use Rattle.std.proofs.Common.{◌≡◌, inl, inr, ℕ, zero, suc, ◌+◌, ◌<◌, ◌≤◌, refl, sym, ◌∙◌, ap, subst, List, [], ◌∷◌, Option, Some, None, Bool, true, false, get_or, arith, Result, Ok, Err}
 use Rattle.std.specs.Prelude.{length, is_ok, is_some}
 use Rattle.std.specs.Ordering.{is_lt, ordering_index, ordering_reverse}
 use Rattle.std.specs.declared.cmp.Ordering.{Ordering}
@@ -8,9 +8,8 @@ use Rattle.std.specs.List.{AllWithin, HoldsAt}
 use Rattle.std.specs.List.Sorted.{IsPartitionPoint, IsSearchInRange, IsBinarySearchResult, IsNonDecreasingBy, IsSortedBy}
 use Rattle.std.proofs.lemmas.List.Sorted.{searchable_from_sorted}
 use Rattle.ae_types.proofs.Members.{In}
-use Rattle.ae_types.proofs.Ordered.{Order, at, Above, Ascends, less-other, greater-less, some-is, none-some, found-key}
+use Rattle.ae_types.proofs.Ordered.{Order, at, Ascends, less-other, greater-less, found-key}
 use Rattle.ae_types.proofs.Searched.{found-in, in-found}
-use Rattle.ae_types.proofs.Splits.{never}
 
 -- ---- members by their places
 
@@ -55,6 +54,7 @@ module _ {K : Type 0} (o : Order K) {A : Type 0} (key : A → K) where
     where
       point : IsPartitionPoint (λ y. compared k y ≡ Less) (λ y. compared k y ≡ Greater) xs i
       point = parted (searchable_from_sorted o.total key xs k (sorted xs a))
+
       go : (v : Option A) → at o key k xs ≡ v → at o key k xs ≡ None
       go None e = e
       go (Some x) e =

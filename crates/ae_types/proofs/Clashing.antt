@@ -1,5 +1,5 @@
 -- The test of clashes says that no path is a folder on the way to another.
-use Rattle.std.proofs.Common.{◌≡◌, ◌⊎◌, inl, inr, ℕ, refl, sym, ◌∙◌, ap, subst, List, [], ◌∷◌, ◌++◌, map, Option, Some, None, Bool, true, false, cond, not, if◌then◌else◌, nat_eq, eqb-true}
+use Rattle.std.proofs.Common.{◌≡◌, ◌⊎◌, inl, inr, ℕ, refl, sym, ◌∙◌, ap, subst, List, [], ◌∷◌, ◌++◌, map, Some, Bool, true, false, cond, not, if◌then◌else◌, eqb-true}
 use Rattle.std.specs.Prelude.{is_some}
 use Rattle.std.specs.List.{find, list_all}
 use Rattle.std.specs.Str.{bytes_eq}
@@ -34,6 +34,7 @@ in-folders (b ∷ bs) folder h = go (is_slash b) refl (in-either (if is_slash b 
     first true e (inl is) = (bs, subst (λ f. b ∷ bs ≡ f ++ 47 ∷ bs) is (ap (λ c. c ∷ bs) (slash-is b e)))
     first true e (inr h) = absurd h
     first false e h = absurd h
+
     go : (c : Bool) → is_slash b ≡ c → In (if is_slash b then [] ∷ [] else []) folder ⊎ In (map (λ f. b ∷ f) (folders_of bs)) folder → ((f : List ℕ) → In (folders_of bs) f → IsFolderOf f bs) → IsFolderOf folder (b ∷ bs)
     go c e (inl m) rest = first c e (subst (λ d. In (if d then [] ∷ [] else []) folder) e m)
     go c e (inr m) rest =
@@ -57,7 +58,7 @@ folders-in (b ∷ bs) [] h = in-left (if is_slash b then [] ∷ [] else []) (map
     (subst (λ c. In {A = List ℕ} (if c then [] ∷ [] else []) []) (sym (ap is_slash (heads b 47 bs h.0 h.1))) (inl (itself-is [])))
 folders-in (b ∷ bs) (a ∷ rs) h = in-right (if is_slash b then [] ∷ [] else []) (map (λ f. b ∷ f) (folders_of bs)) (a ∷ rs)
     (subst (λ c. In (map (λ f. b ∷ f) (folders_of bs)) (c ∷ rs)) (heads b a bs (rs ++ 47 ∷ h.0) h.1)
-      (in-map (λ f. b ∷ f) (folders_of bs) rs (folders-in bs rs (h.0, tails b a bs (rs ++ 47 ∷ h.0) h.1))))
+    (in-map (λ f. b ∷ f) (folders_of bs) rs (folders-in bs rs (h.0, tails b a bs (rs ++ 47 ∷ h.0) h.1))))
 
 -- ---- the paths
 

@@ -1,5 +1,5 @@
 -- The orders of paths, of numbers and of runs.
-use Rattle.std.proofs.Common.{◌≡◌, ℕ, zero, suc, ◌+◌, ◌<◌, ◌≤◌, refl, sym, ◌∙◌, ap, subst, List, [], ◌∷◌, Option, Some, None, Bool, true, false, cond, nat_eq, eqb-true, arith, ◌&&◌}
+use Rattle.std.proofs.Common.{◌≡◌, ℕ, ◌<◌, refl, sym, ◌∙◌, ap, List, [], ◌∷◌, Option, Some, None, Bool, true, false, cond, nat_eq, eqb-true, arith, ◌&&◌}
 use Rattle.std.specs.Ordering.{nat_cmp}
 use Rattle.std.specs.Prelude.{nat_lt}
 use Rattle.std.proofs.lemmas.Bool.{ltb-true}
@@ -144,6 +144,7 @@ less-is j k h = go (nat_lt j k) refl
     never : {P : Type 0} → (b : Bool) → cond b Equal Greater ≡ Less → P
     never true e = cc
     never false e = cc
+
     go : (b : Bool) → nat_lt j k ≡ b → j < k
     go true e = ltb-true j k e
     go false e = never (nat_eq j k) (sym (ap (λ c. cond c Less (cond (nat_eq j k) Equal Greater)) e) ∙ h)

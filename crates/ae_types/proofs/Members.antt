@@ -1,10 +1,9 @@
 -- Members of lists, and lists no two of whose members are related.
-use Rattle.std.proofs.Common.{◌≡◌, ◌⊎◌, inl, inr, ℕ, refl, sym, ◌∙◌, ap, subst, List, [], ◌∷◌, ◌++◌, map, Option, Some, None, Bool, true, false, ◌&&◌, ◌||◌, not, cond}
+use Rattle.std.proofs.Common.{◌≡◌, ◌⊎◌, inl, inr, refl, sym, ◌∙◌, ap, subst, List, [], ◌∷◌, ◌++◌, map, Option, Some, None, Bool, true, false, ◌&&◌, ◌||◌, not}
 use Rattle.std.specs.Prelude.{flat_map}
 use Rattle.std.specs.List.{list_any, list_all, filter_map, cons_option}
 use Rattle.ae_types.specs.Versions.{no_two}
-use Rattle.ae_types.proofs.Splits.{never, none-there, and2, is-false, is-not, not-is}
-use Rattle.ae_types.proofs.Ordered.{some-is}
+use Rattle.ae_types.proofs.Splits.{never, and2, is-false, is-not, not-is}
 
 abbrev pub In : {A : Type 0} → List A → A → Type 0
 In [] x = ⊥
@@ -125,8 +124,10 @@ module _ {A V : Type 0} (related : V → V → Bool) (both_ways : (v w : V) → 
     where
       parts : (not (list_any (related (f x)) (map f xs)) ≡ true) × (no_two related (map f xs) ≡ true)
       parts = and2 (not (list_any (related (f x)) (map f xs))) (no_two related (map f xs)) e
+
       none : (c : A) → In xs c → related (f x) (f c) ≡ true → ⊥
       none c m is = not-is (list_any (related (f x)) (map f xs)) parts.0 (in-any (related (f x)) (map f xs) (f c) (in-map f xs c m) is)
+
       go : In (x ∷ xs) a → In (x ∷ xs) b → related (f a) (f b) ≡ true → (In xs a → In xs b → related (f a) (f b) ≡ true → a ≡ b) → a ≡ b
       go (inl e) (inl g) is rest = sym e ∙ g
       go (inl e) (inr m) is rest = absurd (none b m (ap (λ c. related (f c) (f b)) e ∙ is))

@@ -1,5 +1,5 @@
 -- Rows in the ascending order of their keys: two of them are the same where each key finds the same.
-use Rattle.std.proofs.Common.{◌≡◌, ℕ, refl, sym, ◌∙◌, ap, subst, List, [], ◌∷◌, map, Option, Some, None, Bool, true, false, cond, nat_eq, not}
+use Rattle.std.proofs.Common.{◌≡◌, refl, sym, ◌∙◌, ap, subst, List, [], ◌∷◌, map, Option, Some, None, Bool, true, false, cond, not}
 use Rattle.std.specs.Prelude.{filter, unwrap_or, is_some}
 use Rattle.std.specs.Option.{option_map, option_and_then}
 use Rattle.std.specs.List.{filter_map, cons_option, find}
@@ -92,6 +92,7 @@ module _ {K : Type 0} (o : Order K) where
             cases true is = let kx : k ≡ key x = o.same_is k (key x) is in
                 at-above k xs (subst (λ j. Above j xs) (sym kx) a.0) ∙ sym (at-above k ys (subst (λ j. Above j ys) (sym (kx ∙ e)) b.0))
             cases false is = ap (λ t. cond t (Some x) (at k xs)) (sym is) ∙ all k ∙ ap (λ t. cond t (Some y) (at k ys)) (ap (o.same k) (sym e) ∙ is)
+
         go : (c : Ordering) → o.cmp (key x) (key y) ≡ c → (((k : K) → at k xs ≡ at k ys) → xs ≡ ys) → x ∷ xs ≡ y ∷ ys
         go Less l rest = none-some x (sym (at-above (key x) (y ∷ ys) (l, above-above (key x) (key y) ys l b.0)) ∙ sym (all (key x)) ∙ at-first x xs)
         go Greater g rest = let l : o.cmp (key y) (key x) ≡ Less = greater-less (key x) (key y) g in none-some y (sym (at-above (key y) (x ∷ xs) (l, above-above (key y) (key x) xs l a.0)) ∙ all (key y) ∙ at-first y ys)
@@ -110,9 +111,11 @@ module _ {K : Type 0} (o : Order K) where
         shadowed : (b : Bool) → cond b (Some a) (at k rows) ≡ cond b (Some a) (cond b (Some r) (at k rows))
         shadowed true = refl
         shadowed false = refl
+
         swapped : (b c : Bool) → (b ≡ true → c ≡ false) → cond b (Some r) (cond c (Some a) (at k rows)) ≡ cond c (Some a) (cond b (Some r) (at k rows))
         swapped true c not_both = ap (λ d. cond d (Some a) (Some r)) (sym (not_both refl)) ∙ refl
         swapped false c not_both = refl
+
         go : (x : Ordering) → o.cmp (key a) (key r) ≡ x → at k (put a rows) ≡ cond (o.same k (key a)) (Some a) (at k rows)
             → at k (by_order x (a ∷ r ∷ rows) (a ∷ rows) (r ∷ put a rows)) ≡ cond (o.same k (key a)) (Some a) (at k (r ∷ rows))
         go Less e rest = refl
@@ -204,6 +207,7 @@ module _ {K : Type 0} (o : Order K) {A : Type 0} (key : A → K) (f : K → Opti
       idle : f j ≡ None → k ≡ j → (b : Bool) → cond b (f k) None ≡ f k
       idle e is true = refl
       idle e is false = sym e ∙ ap f (sym is)
+
       go : (x : Option A) → f j ≡ x → (b : Bool) → o.same k j ≡ b → at o key k (filter_map f js) ≡ cond (member o k js) (f k) None
           → at o key k (cons_option x (filter_map f js)) ≡ cond (is_some (cond b (Some j) (find (λ i. o.same k i) js))) (f k) None
       go (Some r) e true is rest = ap (λ i. cond (o.same k i) (Some r) (at o key k (filter_map f js))) (own j r e) ∙ ap (λ b. cond b (Some r) (at o key k (filter_map f js))) is ∙ sym e ∙ ap f (sym (o.same_is k j is))
@@ -274,8 +278,10 @@ module _ {K : Type 0} (o : Order K) {A : Type 0} (key : A → K) (f g : K → Op
     where
       t : A → Bool
       t r = not (o.same p (key r))
+
       at_k : (k : K) (b : Bool) → o.same p k ≡ b → (r : A) → f k ≡ Some r → not (o.same p (key r)) ≡ not b
       at_k k b e r is = ap (λ j. not (o.same p j)) (own k r is) ∙ ap not e
+
       go : (k : K) (b : Bool) → o.same p k ≡ b → (x : Option A) → f k ≡ x → (m : Bool) → cond m (g k) None ≡ if_so o key (λ r. not (o.same p (key r))) (cond m (f k) None)
       go k b e x is false = refl
       go k true e (Some r) is true = ap g (sym (o.same_is p k e)) ∙ gone ∙ ap (λ c. cond c (Some r) None) (sym (at_k k true e r is)) ∙ ap (if_so o key (λ r. not (o.same p (key r)))) (sym is)

@@ -1,9 +1,8 @@
 -- The versions that stand in the records are those that are found at their places.
-use Rattle.std.proofs.Common.{◌≡◌, ◌⊎◌, inl, inr, ℕ, refl, sym, ◌∙◌, ap, subst, List, [], ◌∷◌, ◌++◌, map, Option, Some, None, Bool, true, false, cond, arith}
+use Rattle.std.proofs.Common.{◌≡◌, ◌⊎◌, inl, inr, ℕ, refl, sym, ◌∙◌, ap, List, [], ◌∷◌, ◌++◌, map, Option, Some, None}
 use Rattle.std.specs.Prelude.{flat_map}
 use Rattle.std.specs.List.{filter_map, cons_option}
 use Rattle.std.specs.Option.{option_map, option_and_then}
-use Rattle.std.specs.Ordering.{nat_cmp}
 use Rattle.ae_types.specs.declared.change.Change.{Change}
 use Rattle.ae_types.specs.declared.change.ChangeFile.{ChangeFile}
 use Rattle.ae_types.specs.declared.file_table.FileRow.{FileRow}
@@ -13,8 +12,8 @@ use Rattle.ae_types.specs.Versions.{Place, in_table, in_change, version_at, live
 use Rattle.ae_types.specs.Found.{number_of_change, file_path, row_path, entry_delta}
 use Rattle.ae_types.proofs.Keys.{by_text, by_number}
 use Rattle.ae_types.proofs.Members.{In, in-left, in-right, in-either, in-flat, flat-in, in-some, some-in, Distinct, distinct-append}
-use Rattle.ae_types.proofs.Ordered.{Order, at, Above, Ascends, above-at, less-other, some-is, none-some, found-key}
-use Rattle.ae_types.proofs.Searched.{found-in, in-found, one-row}
+use Rattle.ae_types.proofs.Ordered.{Order, at, Ascends, above-at, less-other, some-is, none-some, found-key}
+use Rattle.ae_types.proofs.Searched.{found-in, in-found}
 
 -- a version at its place
 abbrev pub Stand : Type 0
@@ -67,7 +66,7 @@ module _ {R I J L : Type 0} (outer : Order J) (inner : Order L) (row_key : R →
   block-map j (i ∷ is) = go (version i) (block-map j is)
     where
       go : (v : Option VersionRef) → map stand_version (filter_map (stand_of j) is) ≡ filter_map version is
-        → map stand_version (cons_option (option_map (stand_at j i) v) (filter_map (stand_of j) is)) ≡ cons_option v (filter_map version is)
+          → map stand_version (cons_option (option_map (stand_at j i) v) (filter_map (stand_of j) is)) ≡ cons_option v (filter_map version is)
       go (Some w) rest = ap (λ vs. w ∷ vs) rest
       go None rest = rest
 
@@ -92,8 +91,9 @@ module _ {R I J L : Type 0} (outer : Order J) (inner : Order L) (row_key : R →
       item : (r : R) → at outer row_key j rows ≡ Some r → (x : Option I) → at inner item_key l (items r) ≡ x → option_and_then version x ≡ Some v → In (blocks rows) (place j l, v)
       item r there (Some i) is e = in-flat block rows r (place j l, v) (found-in outer row_key rows j r there)
           (in-some (stand_of (row_key r)) (items r) i (place j l, v) (found-in inner item_key (items r) l i is)
-            (ap (option_map (stand_at (row_key r) i)) e ∙ ap (λ (k : J). Some (stand_at k i v)) (found-key outer row_key j rows r there) ∙ ap (λ (k : L). Some (place j k, v)) (found-key inner item_key l (items r) i is)))
+          (ap (option_map (stand_at (row_key r) i)) e ∙ ap (λ (k : J). Some (stand_at k i v)) (found-key outer row_key j rows r there) ∙ ap (λ (k : L). Some (place j k, v)) (found-key inner item_key l (items r) i is)))
       item r there None is e = none-some v e
+
       row : (x : Option R) → at outer row_key j rows ≡ x → option_and_then (λ (r : R). option_and_then version (at inner item_key l (items r))) x ≡ Some v → In (blocks rows) (place j l, v)
       row (Some r) there e = item r there (at inner item_key l (items r)) refl e
       row None there e = none-some v e
@@ -105,23 +105,25 @@ module _ {R I J L : Type 0} (outer : Order J) (inner : Order L) (row_key : R →
   block-distinct j (i ∷ is) a = go (version i) (block-distinct j is a.1)
     where
       go : (v : Option VersionRef) → Distinct stand_place (filter_map (stand_of j) is) → Distinct stand_place (cons_option (option_map (stand_at j i) v) (filter_map (stand_of j) is))
-      go (Some w) rest = (λ s h same.
-          let m = some-in (stand_of j) is s h in
-          let there = in-found inner item_key is a.1 m.0 m.1 in
-          less-other inner (item_key i) (item_key m.0) (above-at inner item_key (item_key i) (item_key m.0) is m.0 a.0 there) (same_item j j (item_key i) (item_key m.0) (same ∙ (stand-is j m.0 s m.2).1)),
-          rest)
+      go (Some w) rest = (
+        λ s h same.
+            let m = some-in (stand_of j) is s h in
+            let there = in-found inner item_key is a.1 m.0 m.1 in
+            less-other inner (item_key i) (item_key m.0) (above-at inner item_key (item_key i) (item_key m.0) is m.0 a.0 there) (same_item j j (item_key i) (item_key m.0) (same ∙ (stand-is j m.0 s m.2).1)),
+        rest,
+      )
       go None rest = rest
 
   pub blocks-distinct : (rows : List R) → Ascends outer row_key rows → ((r : R) → In rows r → Ascends inner item_key (items r)) → Distinct stand_place (blocks rows)
   blocks-distinct [] a h = tt
   blocks-distinct (r ∷ rows) a h = distinct-append stand_place (block r) (blocks rows) (block-distinct (row_key r) (items r) (h r (inl refl))) (blocks-distinct rows a.1 (λ q m. h q (inr m)))
       (λ s t m n same.
-        let i = some-in (stand_of (row_key r)) (items r) s m in
-        let q = flat-in block rows t n in
-        let k = some-in (stand_of (row_key q.0)) (items q.0) t q.2 in
-        let there = in-found outer row_key rows a.1 q.0 q.1 in
-        less-other outer (row_key r) (row_key q.0) (above-at outer row_key (row_key r) (row_key q.0) rows q.0 a.0 there)
-          (same_row (row_key r) (row_key q.0) (item_key i.0) (item_key k.0) (sym (stand-is (row_key r) i.0 s i.2).1 ∙ same ∙ (stand-is (row_key q.0) k.0 t k.2).1)))
+      let i = some-in (stand_of (row_key r)) (items r) s m in
+      let q = flat-in block rows t n in
+      let k = some-in (stand_of (row_key q.0)) (items q.0) t q.2 in
+      let there = in-found outer row_key rows a.1 q.0 q.1 in
+      less-other outer (row_key r) (row_key q.0) (above-at outer row_key (row_key r) (row_key q.0) rows q.0 a.0 there)
+      (same_row (row_key r) (row_key q.0) (item_key i.0) (item_key k.0) (sym (stand-is (row_key r) i.0 s i.2).1 ∙ same ∙ (stand-is (row_key q.0) k.0 t k.2).1)))
 
 -- ---- the file table, and the frozen files
 
@@ -201,9 +203,9 @@ module _ (rows : List FileRow) (changes : List Change) where
       (blocks-distinct by_text by_number row_path entry_delta past_of version_of in_table table-path table-delta rows a.up (λ row m. a.pasts row.path row (in-found by_text row_path rows a.up row m)))
       (blocks-distinct by_number by_text number_of_change file_path files_of frozen_of in_change change-number change-path changes a.upward (λ change m. a.files change.number change (in-found by_number number_of_change changes a.upward change m)))
       (λ s t m n same.
-        let f = blocks-found by_text by_number row_path entry_delta past_of version_of in_table table-path table-delta rows (a.up, a.pasts) s m in
-        let g = blocks-found by_number by_text number_of_change file_path files_of frozen_of in_change change-number change-path changes (a.upward, a.files) t n in
-        never-both f.0 f.1 g.0 g.1 (sym f.2 ∙ same ∙ g.2))
+      let f = blocks-found by_text by_number row_path entry_delta past_of version_of in_table table-path table-delta rows (a.up, a.pasts) s m in
+      let g = blocks-found by_number by_text number_of_change file_path files_of frozen_of in_change change-number change-path changes (a.upward, a.files) t n in
+      never-both f.0 f.1 g.0 g.1 (sym f.2 ∙ same ∙ g.2))
     where
       never-both : (p : List ℕ) (d : ℕ) (n : ℕ) (q : List ℕ) → in_table p d ≡ in_change n q → ⊥
       never-both p d n q e = cc

@@ -1,10 +1,9 @@
 -- The tests of the project, of the file table and of a change, each by itself, and their facts say the same.
-use Rattle.std.proofs.Common.{◌≡◌, ◌⊎◌, inl, inr, ℕ, ◌+◌, ◌<◌, ◌≤◌, refl, sym, ◌∙◌, ap, subst, List, [], ◌∷◌, map, Option, Some, None, Bool, true, false, ◌&&◌, ◌||◌, not, nat_eq, eqb-true, arith}
-use Rattle.std.specs.Prelude.{length, is_some, is_none, nat_le, nat_lt, All, IfSome}
+use Rattle.std.proofs.Common.{◌≡◌, ℕ, ◌+◌, ◌<◌, ◌≤◌, refl, sym, ◌∙◌, ap, subst, List, [], ◌∷◌, map, Option, Some, None, Bool, true, false, ◌&&◌, ◌||◌, not, nat_eq, eqb-true, arith}
+use Rattle.std.specs.Prelude.{length, is_some, is_none, nat_le, nat_lt, All}
 use Rattle.std.specs.List.{list_all, IsDistinct, AllByRecursion}
 use Rattle.std.specs.Ordering.{nat_cmp}
 use Rattle.std.specs.Str.{bytes_eq}
-use Rattle.ae_base.specs.declared.words.Phase.{Phase}
 use Rattle.ae_base.specs.declared.words.Role.{Role}
 use Rattle.ae_base.specs.declared.words.Role.TheVariants.{Administrator, Developer, Reviewer, Integrator}
 use Rattle.ae_base.specs.Users.{AllDiffer}
@@ -19,16 +18,15 @@ use Rattle.ae_types.specs.declared.project.Project.{Project}
 use Rattle.ae_types.specs.declared.version.VersionRef.{VersionRef}
 use Rattle.ae_types.specs.Ordered.{itself, ascends}
 use Rattle.ae_types.specs.Phases.{is_awaiting_development, is_reviewed, may_be_reviewing, has_integrator, holds_locks, is_remove}
-use Rattle.ae_types.specs.Found.{number_of_change, file_path, row_path, entry_delta, number_of_delta, delta_in, has_number, change_in, if_there}
-use Rattle.ae_types.specs.Trees.{text_cmp, tree_at, paths_of}
-use Rattle.ae_types.specs.Runs.{run_cmp, run_of, RunKey}
+use Rattle.ae_types.specs.Found.{number_of_change, file_path, row_path, entry_delta, number_of_delta, has_number, change_in}
+use Rattle.ae_types.specs.Trees.{tree_at, paths_of}
+use Rattle.ae_types.specs.Runs.{run_of}
 use Rattle.ae_types.specs.Clashes.{none_clash}
 use Rattle.ae_types.specs.Rules.{is_moment, length_is_good, users_differ, role_is_good, roles_are_good, has_administrator, numbers_ascend, counts_up, deltas_are_numbered, deltas_have_moments, next_version_is_good, project_is_good, rows_ascend, past_ascends, delta_is_there, row_is_good, files_are_good, files_ascend, evidence_ascends, ranges_are_good, developer_fits, reviewer_fits, reviewing_fits, integrator_fits, people_are_good, version_fits, files_are_in_time, change_is_good, is_change_of}
-use Rattle.ae_types.specs.Sound.{IsMoment, FitsLength, IsGoodRole, IsGoodProject, IsGoodRow, AreRows, ArePeople, AreFiles, AreRuns, IsGoodChange, AreChanges, EachChange}
+use Rattle.ae_types.specs.Sound.{IsMoment, FitsLength, IsGoodRole, IsGoodProject, IsGoodRow, AreRows, IsGoodChange, AreChanges}
 use Rattle.ae_types.proofs.Keys.{by_text, by_number, by_run, less}
 use Rattle.ae_types.proofs.Clashing.{clash-facts, facts-clash}
-use Rattle.ae_types.proofs.Members.{In, all-in, in-all}
-use Rattle.ae_types.proofs.Ordered.{Above, Ascends, above-above, at, found-key}
+use Rattle.ae_types.proofs.Ordered.{Above, Ascends, found-key}
 use Rattle.ae_types.proofs.Searched.{test-ascends, ascends-test, all-found, found-all}
 use Rattle.ae_types.proofs.Splits.{never, and2, and3, and4, and6, and7, same-is, is-same, most, is-most, below, is-below, if-found, found-if, to-if, from-if, is-not, not-is, is-false}
 
@@ -89,7 +87,7 @@ project-facts p ns e =
       numbers_ascend = test-ascends by_number itself ns a.2;
       numbered = a.3;
       moments = λ n d found. most d.when 4102444799 (all-found by_number number_of_delta (λ (d : DeltaRow). is_moment d.when) p.deltas a.4 n d found);
-      next = (most 1 p.next_version n.0, most p.next_version 4611686018427388904 n.1)
+      next = (most 1 p.next_version n.0, most p.next_version 4611686018427388904 n.1);
     }
   where
     roles : (role_is_good p.administrators ≡ true) × (role_is_good p.developers ≡ true) × (role_is_good p.reviewers ≡ true) × (role_is_good p.integrators ≡ true) → (role : Role) → IsGoodRole (Rattle.ae_types.specs.Roles.users_of role p)
@@ -103,8 +101,10 @@ facts-project p ns g = λ i. roles i && is-below 0 (length p.administrators) g.a
   where
     roles : roles_are_good p ≡ true
     roles = λ i. facts-role p.administrators (g.roles Administrator) i && facts-role p.developers (g.roles Developer) i && facts-role p.reviewers (g.roles Reviewer) i && facts-role p.integrators (g.roles Integrator) i
+
     moments : deltas_have_moments p.deltas ≡ true
     moments = found-all by_number number_of_delta (λ (d : DeltaRow). is_moment d.when) p.deltas (deltas-ascend p.deltas g.numbered) (λ n d found. is-most d.when 4102444799 (g.moments n d found))
+
     next : next_version_is_good p.next_version ≡ true
     next = λ i. is-most 1 p.next_version g.next.0 i && is-most p.next_version 4611686018427388904 g.next.1 i
 
@@ -123,9 +123,9 @@ row-facts n r e =
       some = below 0 (length r.past) a.0;
       ascends = test-ascends by_number entry_delta r.past a.1;
       there = λ d y found. let is = found-key by_number entry_delta d r.past y found in
-        let b = and2 (nat_le 1 y.delta) (nat_le y.delta n) (all-found by_number entry_delta (delta_is_there n) r.past a.2 d y found) in
-        subst (λ (m : ℕ). (1 ≤ m) × (m ≤ n)) is (most 1 y.delta b.0, most y.delta n b.1);
-      lengths = λ d y found. length-facts y.version (all-found by_number entry_delta (λ (entry : FileVersion). length_is_good entry.version) r.past a.3 d y found)
+          let b = and2 (nat_le 1 y.delta) (nat_le y.delta n) (all-found by_number entry_delta (delta_is_there n) r.past a.2 d y found) in
+          subst (λ (m : ℕ). (1 ≤ m) × (m ≤ n)) is (most 1 y.delta b.0, most y.delta n b.1);
+      lengths = λ d y found. length-facts y.version (all-found by_number entry_delta (λ (entry : FileVersion). length_is_good entry.version) r.past a.3 d y found);
     }
 
 facts-row : (deltas : ℕ) (row : FileRow) → IsGoodRow deltas row → row_is_good deltas row ≡ true
@@ -133,8 +133,9 @@ facts-row n r g = λ i. is-below 0 (length r.past) g.some i && ascends-test by_n
   where
     there : list_all (delta_is_there n) r.past ≡ true
     there = found-all by_number entry_delta (delta_is_there n) r.past g.ascends (λ d y found.
-      let b = subst (λ (m : ℕ). (1 ≤ m) × (m ≤ n)) (sym (found-key by_number entry_delta d r.past y found)) (g.there d y found) in
-      λ i. is-most 1 y.delta b.0 i && is-most y.delta n b.1 i)
+        let b = subst (λ (m : ℕ). (1 ≤ m) × (m ≤ n)) (sym (found-key by_number entry_delta d r.past y found)) (g.there d y found) in
+        λ i. is-most 1 y.delta b.0 i && is-most y.delta n b.1 i)
+
     lengths : list_all (λ (entry : FileVersion). length_is_good entry.version) r.past ≡ true
     lengths = found-all by_number entry_delta (λ (entry : FileVersion). length_is_good entry.version) r.past g.ascends (λ d y found. facts-length y.version (g.lengths d y found))
 
@@ -144,7 +145,7 @@ rows-facts n rows e =
     record {
       ascend = test-ascends by_text row_path rows a.0;
       good = λ p r found. row-facts n r (all-found by_text row_path (row_is_good n) rows a.1 p r found);
-      clash = clash-facts (paths_of (tree_at n rows)) a.2
+      clash = clash-facts (paths_of (tree_at n rows)) a.2;
     }
 
 pub facts-rows : (deltas : ℕ) (rows : List FileRow) → AreRows deltas rows → files_are_good deltas rows ≡ true
@@ -202,20 +203,20 @@ change-facts x e =
         developer = same-is (is_some x.developer) (not (is_awaiting_development x.phase)) p.0;
         reviewer = same-is (is_some x.reviewer) (is_reviewed x.phase) p.1;
         reviewing = none-unless x.reviewing (may_be_reviewing x.phase) p.2;
-        integrator = same-is (is_some x.integrator) (has_integrator x.phase) p.3
+        integrator = same-is (is_some x.integrator) (has_integrator x.phase) p.3;
       };
       files = record {
         few = most (length x.files) 1000 a.0;
         ascend = test-ascends by_text file_path x.files a.1;
         frozen = λ q f found. same-is (is_some f.frozen) (holds_locks x.phase && not (is_remove f.action)) (all-found by_text file_path (version_fits x.phase) x.files a.5 q f found);
         lengths = λ q f found. length-facts f.frozen (all-found by_text file_path file_length x.files r.2 q f found);
-        none_yet = no-rows (is_awaiting_development x.phase) x.files a.6
+        none_yet = no-rows (is_awaiting_development x.phase) x.files a.6;
       };
       runs = record {
         ascend = test-ascends by_run run_of x.evidence a.2;
-        moments = λ k run found. most run.when 4102444799 (all-found by_run run_of run_moment x.evidence r.0 k run found)
+        moments = λ k run found. most run.when 4102444799 (all-found by_run run_of run_moment x.evidence r.0 k run found);
       };
-      history = all-facts (λ (row : HistoryRow). IsMoment row.when) row_moment (λ row e. most row.when 4102444799 e) x.history r.1
+      history = all-facts (λ (row : HistoryRow). IsMoment row.when) row_moment (λ row e. most row.when 4102444799 e) x.history r.1;
     }
 
 pub facts-change : (change : Change) → IsGoodChange change → change_is_good change ≡ true
@@ -223,19 +224,21 @@ facts-change x g = λ i. is-most (length x.files) 1000 g.files.few i && ascends-
   where
     ranges : ranges_are_good x ≡ true
     ranges = λ i. found-all by_run run_of run_moment x.evidence g.runs.ascend (λ k run found. is-most run.when 4102444799 (g.runs.moments k run found)) i
-      && facts-all (λ (row : HistoryRow). IsMoment row.when) row_moment (λ row h. is-most row.when 4102444799 h) x.history g.history i
-      && found-all by_text file_path file_length x.files g.files.ascend (λ q f found. facts-length f.frozen (g.files.lengths q f found)) i
+        && facts-all (λ (row : HistoryRow). IsMoment row.when) row_moment (λ row h. is-most row.when 4102444799 h) x.history g.history i
+        && found-all by_text file_path file_length x.files g.files.ascend (λ q f found. facts-length f.frozen (g.files.lengths q f found)) i
+
     people : people_are_good x ≡ true
     people = λ i. is-same (is_some x.developer) (not (is_awaiting_development x.phase)) g.people.developer i && is-same (is_some x.reviewer) (is_reviewed x.phase) g.people.reviewer i && unless-none x.reviewing (may_be_reviewing x.phase) g.people.reviewing i && is-same (is_some x.integrator) (has_integrator x.phase) g.people.integrator i
+
     frozen : list_all (version_fits x.phase) x.files ≡ true
     frozen = found-all by_text file_path (version_fits x.phase) x.files g.files.ascend (λ q f found. is-same (is_some f.frozen) (holds_locks x.phase && not (is_remove f.action)) (g.files.frozen q f found))
 
 pub changes-facts : (numbers : List ℕ) (changes : List Change) → ascends nat_cmp number_of_change changes ≡ true → list_all (is_change_of numbers) changes ≡ true → AreChanges numbers changes
 changes-facts ns xs up e = record {
-      ascend = test-ascends by_number number_of_change xs up;
-      numbered = λ n x found. ap (has_number ns) (sym (found-key by_number number_of_change n xs x found)) ∙ (both n x found).0;
-      good = λ n x found. change-facts x (both n x found).1
-    }
+  ascend = test-ascends by_number number_of_change xs up;
+  numbered = λ n x found. ap (has_number ns) (sym (found-key by_number number_of_change n xs x found)) ∙ (both n x found).0;
+  good = λ n x found. change-facts x (both n x found).1;
+}
   where
     both : (n : ℕ) (x : Change) → change_in xs n ≡ Some x → (has_number ns x.number ≡ true) × (change_is_good x ≡ true)
     both n x found = and2 (has_number ns x.number) (change_is_good x) (all-found by_number number_of_change (is_change_of ns) xs e n x found)

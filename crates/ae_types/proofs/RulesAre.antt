@@ -1,6 +1,6 @@
 -- No file is blamed exactly where the facts hold.
 use Rattle.std.proofs.Common.{◌≡◌, ℕ, refl, sym, ◌∙◌, ap, List, [], ◌∷◌, Option, Some, None, Bool, true, false, ◌&&◌, not}
-use Rattle.std.specs.Prelude.{length, ◌↔◌}
+use Rattle.std.specs.Prelude.{length}
 use Rattle.std.specs.List.{list_all, find}
 use Rattle.std.specs.Option.{option_map, option_or}
 use Rattle.std.specs.Ordering.{nat_cmp}
@@ -40,8 +40,9 @@ none-bad ns (x ∷ xs) e = go (is_change_of ns x) e (none-bad ns xs)
   where
     some : (c : Change) → Some (blame.Change c.number) ≡ None → (false && list_all (is_change_of ns) xs) ≡ true
     some c e = cc
+
     go : (b : Bool) → option_map (λ (change : Change). blame.Change change.number) (Rattle.std.proofs.Common.cond (not b) (Some x) (find (λ change. not (is_change_of ns change)) xs)) ≡ None
-      → (bad_change ns xs ≡ None → list_all (is_change_of ns) xs ≡ true) → (b && list_all (is_change_of ns) xs) ≡ true
+        → (bad_change ns xs ≡ None → list_all (is_change_of ns) xs ≡ true) → (b && list_all (is_change_of ns) xs) ≡ true
     go true e rest = rest e
     go false e rest = some x e
 
@@ -52,11 +53,11 @@ bad-none ns (x ∷ xs) e = let a = and2 (is_change_of ns x) (list_all (is_change
 
 in-order : (deltas : ℕ) (o : Observation) → AreRows deltas o.files → AreChanges o.numbers o.changes → InOrder o.files o.changes
 in-order n o r c = record {
-      up = r.ascend;
-      pasts = λ p row found. (r.good p row found).ascends;
-      upward = c.ascend;
-      files = λ k x found. (c.good k x found).files.ascend
-    }
+  up = r.ascend;
+  pasts = λ p row found. (r.good p row found).ascends;
+  upward = c.ascend;
+  files = λ k x found. (c.good k x found).files.ascend;
+}
 
 pub blamed-sound : (o : Observation) → blamed o ≡ None → Sound o
 blamed-sound o e =
@@ -79,7 +80,7 @@ blamed-sound o e =
       versions = versions-facts o.files o.changes (in-order (length o.project.deltas) o rows changes) o.project.next_version q.2;
       entries = entries-facts o.project.deltas o.files o.changes r.0;
       locks = locks-facts o.numbers o.locks o.changes r.1;
-      candidate = candidate-facts (length o.project.deltas) o.files o.changes r.2
+      candidate = candidate-facts (length o.project.deltas) o.files o.changes r.2;
     }
 
 pub sound-blamed : (o : Observation) → Sound o → blamed o ≡ None
@@ -92,13 +93,16 @@ sound-blamed o s =
   where
     first : (project_is_good o.project o.numbers && ascends nat_cmp number_of_change o.changes) ≡ true
     first = λ i. facts-project o.project o.numbers s.project i && ascends-test by_number number_of_change o.changes s.changes.ascend i
+
     fourth : project_fits_changes o ≡ true
     fourth = λ i. facts-integrating (length o.project.deltas) o.changes s.changes.ascend s.integrating i
-      && facts-deltas o.project.deltas o.numbers o.changes (deltas-ascend o.project.deltas s.project.numbered) s.changes.ascend s.deltas i
-      && facts-versions o.files o.changes (in-order (length o.project.deltas) o s.rows s.changes) o.project.next_version s.versions i
+        && facts-deltas o.project.deltas o.numbers o.changes (deltas-ascend o.project.deltas s.project.numbered) s.changes.ascend s.deltas i
+        && facts-versions o.files o.changes (in-order (length o.project.deltas) o s.rows s.changes) o.project.next_version s.versions i
+
     files : (n : ℕ) (x : Change) → Rattle.ae_types.specs.Found.change_in o.changes n ≡ Some x → Rattle.ae_types.specs.Ordered.Ascends Rattle.ae_types.specs.Trees.text_cmp Rattle.ae_types.specs.Found.file_path x.files
     files n x found = (s.changes.good n x found).files.ascend
+
     fifth : files_fit_changes o ≡ true
     fifth = λ i. facts-entries o.project.deltas o.files o.changes (deltas-ascend o.project.deltas s.project.numbered) s.rows.ascend (λ p r found. (s.rows.good p r found).ascends) files s.entries i
-      && facts-locks o.numbers o.locks o.changes s.changes.ascend files s.locks i
-      && facts-candidate (length o.project.deltas) o.files o.changes s.changes.ascend s.candidate i
+        && facts-locks o.numbers o.locks o.changes s.changes.ascend files s.locks i
+        && facts-candidate (length o.project.deltas) o.files o.changes s.changes.ascend s.candidate i

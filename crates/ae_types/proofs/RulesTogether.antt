@@ -1,10 +1,8 @@
 -- The tests of the project and of the file table beside the changes, and their facts say the same.
 use Rattle.std.proofs.Common.{◌≡◌, ◌⊎◌, inl, inr, ℕ, ◌+◌, ◌<◌, ◌≤◌, refl, sym, ◌∙◌, ap, subst, List, [], ◌∷◌, map, Option, Some, None, Bool, true, false, ◌&&◌, ◌||◌, not, nat_eq, eqb-true, arith}
-use Rattle.std.specs.Prelude.{length, is_some, nat_le, nat_lt, filter, IfSome, IsSomeAnd}
+use Rattle.std.specs.Prelude.{length, is_some, nat_le, nat_lt, IsSomeAnd}
 use Rattle.std.specs.List.{list_all, find}
 use Rattle.std.specs.Option.{option_map}
-use Rattle.std.specs.Ordering.{nat_cmp}
-use Rattle.std.specs.Str.{bytes_eq}
 use Rattle.ae_types.specs.declared.change.Change.{Change}
 use Rattle.ae_types.specs.declared.change.ChangeFile.{ChangeFile}
 use Rattle.ae_types.specs.declared.file_table.FileRow.{FileRow}
@@ -19,13 +17,13 @@ use Rattle.ae_types.specs.Trees.{text_cmp, tree_at, overlaid, paths_of}
 use Rattle.ae_types.specs.Clashes.{none_clash, NoneClash}
 use Rattle.ae_types.specs.Versions.{Place, version_at, live, has_units, end_of, meet, same_number, no_two}
 use Rattle.ae_types.specs.Rules.{integrating, integration_fits, delta_has_change, naming, change_has_delta, deltas_fit, is_in_region, versions_fit, file_is_entered, delta_is_entered, entry_has_file, entries_fit, lock_has_file, files_have_locks, locks_fit, candidate_fits, same_bool}
-use Rattle.ae_types.specs.Sound.{EachChange, IsIntegrating, AreDeltas, AreVersions, IsDelta, AreLocks, AreRows, AreChanges}
+use Rattle.ae_types.specs.Sound.{EachChange, IsIntegrating, AreDeltas, AreVersions, IsDelta, AreLocks}
 use Rattle.ae_types.proofs.Keys.{by_text, by_number}
 use Rattle.ae_types.proofs.Clashing.{clash-facts, facts-clash}
 use Rattle.ae_types.proofs.Members.{In, all-in, in-all, in-map, map-in, no_two-apart, apart-no_two}
-use Rattle.ae_types.proofs.Ordered.{Ascends, at, some-is, none-some, found-key}
-use Rattle.ae_types.proofs.Placed.{Stand, stand_place, stand_version, stands, stands-live, InOrder, stands-found, found-stands, stands-distinct}
-use Rattle.ae_types.proofs.Searched.{test-ascends, ascends-test, found-in, in-found, one-row, all-found, found-all, few-one, one-few, some-counted, counted-some}
+use Rattle.ae_types.proofs.Ordered.{Ascends, some-is, none-some, found-key}
+use Rattle.ae_types.proofs.Placed.{stand_place, stand_version, stands, stands-live, InOrder, stands-found, found-stands, stands-distinct}
+use Rattle.ae_types.proofs.Searched.{test-ascends, ascends-test, found-in, in-found, all-found, found-all, few-one, one-few, some-counted, counted-some}
 use Rattle.ae_types.proofs.Splits.{never, and2, and3, and4, where-so, so-where, same-is, is-same, most, is-most, below, is-below, there-found, found-there, if-found, found-if, some-found, found-some, to-if, from-if, to-is, from-is}
 
 -- ---- integration
@@ -47,6 +45,7 @@ no-one xs n e x m is = go (nat_eq (length (integrating xs)) 0) refl e
             cases true e m rest = refl
             cases false e (inl here) rest = never (sym e ∙ ap integrates here ∙ is)
             cases false e (inr later) rest = rest later
+
     go : (b : Bool) → nat_eq (length (integrating xs)) 0 ≡ b → (b || nat_lt n 1990) ≡ true → n < 1990
     go true none e = absurd (omega (arith, some, eqb-true (length (integrating xs)) 0 none))
     go false none e = below n 1990 e
@@ -56,9 +55,9 @@ integrating-facts n xs e =
     let a = and2 (nat_le (length (integrating xs)) 1) (nat_eq (length (integrating xs)) 0 || nat_lt n 1990) e in
     record {
       one = λ m k x y fx fy ix iy.
-        let same = few-one by_number number_of_change integrates xs (most (length (integrating xs)) 1 a.0) x y (found-in by_number number_of_change xs m x fx) (found-in by_number number_of_change xs k y fy) ix iy in
-        sym (found-key by_number number_of_change m xs x fx) ∙ ap number_of_change same ∙ found-key by_number number_of_change k xs y fy;
-      room = λ k x found is. no-one xs n a.1 x (found-in by_number number_of_change xs k x found) is
+          let same = few-one by_number number_of_change integrates xs (most (length (integrating xs)) 1 a.0) x y (found-in by_number number_of_change xs m x fx) (found-in by_number number_of_change xs k y fy) ix iy in
+          sym (found-key by_number number_of_change m xs x fx) ∙ ap number_of_change same ∙ found-key by_number number_of_change k xs y fy;
+      room = λ k x found is. no-one xs n a.1 x (found-in by_number number_of_change xs k x found) is;
     }
 
 pub facts-integrating : (deltas : ℕ) (changes : List Change) → Ascends by_number number_of_change changes → IsIntegrating deltas changes → integration_fits deltas changes ≡ true
@@ -66,6 +65,7 @@ facts-integrating n xs up g = λ i. is-most (length (integrating xs)) 1 one i &&
   where
     one : length (integrating xs) ≤ 1
     one = one-few by_number number_of_change integrates xs up (λ x y m k ix iy. g.one x.number y.number x y (in-found by_number number_of_change xs up x m) (in-found by_number number_of_change xs up y k) ix iy)
+
     none : (xs : List Change) → find integrates xs ≡ None → length (integrating xs) ≡ 0
     none [] e = refl
     none (x ∷ xs) e = go (integrates x) e (none xs)
@@ -76,6 +76,7 @@ facts-integrating n xs up g = λ i. is-most (length (integrating xs)) 1 one i &&
             some-none : (x : Change) → Some x ≡ None → length (x ∷ integrating xs) ≡ 0
             some-none x e = cc
         go false e rest = rest e
+
     first : (xs : List Change) (x : Change) → find integrates xs ≡ Some x → In xs x × (is_integrating x.phase ≡ true)
     first [] x e = none-some x e
     first (y ∷ ys) x e = go (integrates y) refl e (first ys x)
@@ -83,9 +84,11 @@ facts-integrating n xs up g = λ i. is-most (length (integrating xs)) 1 one i &&
         go : (b : Bool) → integrates y ≡ b → Rattle.std.proofs.Common.cond b (Some y) (find integrates ys) ≡ Some x → (find integrates ys ≡ Some x → In ys x × (is_integrating x.phase ≡ true)) → In (y ∷ ys) x × (is_integrating x.phase ≡ true)
         go true is e rest = (inl (some-is y x e), sym (ap integrates (some-is y x e)) ∙ is)
         go false is e rest = let r = rest e in (inr r.0, r.1)
+
     or-true : (b : Bool) → (b || true) ≡ true
     or-true true = refl
     or-true false = refl
+
     room : (v : Option Change) → find integrates xs ≡ v → (nat_eq (length (integrating xs)) 0 || nat_lt n 1990) ≡ true
     room None e = ap (λ k. nat_eq k 0 || nat_lt n 1990) (none xs e)
     room (Some x) e = let f = first xs x e in ap (λ b. nat_eq (length (integrating xs)) 0 || b) (is-below n 1990 (g.room x.number x (in-found by_number number_of_change xs up x f.0) f.1)) ∙ or-true (nat_eq (length (integrating xs)) 0)
@@ -97,23 +100,25 @@ names change delta = nat_eq change.number delta.change
 
 pub deltas-facts : (deltas : List DeltaRow) (numbers : List ℕ) (changes : List Change) → deltas_fit deltas numbers changes ≡ true → AreDeltas deltas numbers changes
 deltas-facts ds ns xs e = record {
-      numbered = λ n d found. (delta n d found).0;
-      completed = λ n d found. to-if (λ (x : Change). is_completed x.phase ≡ true) (change_in xs d.change) (if-found (change_in xs d.change) (λ x. is_completed x.phase) (delta n d found).1);
-      once = λ m n d f fd ff same loaded.
-        let x = some-found (change_in xs d.change) loaded in
-        let key = found-key by_number number_of_change d.change xs x.0 x.1 in
-        let t = (change d.change x.0 x.1).0 in
-        let is = few-one by_number number_of_delta (names x.0) ds (most (length (naming ds x.0)) 1 t) d f (found-in by_number number_of_delta ds m d fd) (found-in by_number number_of_delta ds n f ff)
-              (ap (λ k. nat_eq k d.change) key ∙ by_number.same_self d.change) (ap (λ k. nat_eq k f.change) (key ∙ same) ∙ by_number.same_self f.change) in
-        sym (found-key by_number number_of_delta m ds d fd) ∙ ap number_of_delta is ∙ found-key by_number number_of_delta n ds f ff;
-      named = λ n x found done. ap (λ k. is_some (delta_of ds k)) (sym (found-key by_number number_of_change n xs x found))
-        ∙ some-counted by_number number_of_delta (names x) ds (below 0 (length (naming ds x)) (where-so (is_completed x.phase) (nat_lt 0 (length (naming ds x))) (change n x found).1 done))
-    }
+  numbered = λ n d found. (delta n d found).0;
+  completed = λ n d found. to-if (λ (x : Change). is_completed x.phase ≡ true) (change_in xs d.change) (if-found (change_in xs d.change) (λ x. is_completed x.phase) (delta n d found).1);
+  once = λ m n d f fd ff same loaded.
+      let x = some-found (change_in xs d.change) loaded in
+      let key = found-key by_number number_of_change d.change xs x.0 x.1 in
+      let t = (change d.change x.0 x.1).0 in
+      let is = few-one by_number number_of_delta (names x.0) ds (most (length (naming ds x.0)) 1 t) d f (found-in by_number number_of_delta ds m d fd) (found-in by_number number_of_delta ds n f ff)
+      (ap (λ k. nat_eq k d.change) key ∙ by_number.same_self d.change) (ap (λ k. nat_eq k f.change) (key ∙ same) ∙ by_number.same_self f.change) in
+      sym (found-key by_number number_of_delta m ds d fd) ∙ ap number_of_delta is ∙ found-key by_number number_of_delta n ds f ff;
+  named = λ n x found done. ap (λ k. is_some (delta_of ds k)) (sym (found-key by_number number_of_change n xs x found))
+      ∙ some-counted by_number number_of_delta (names x) ds (below 0 (length (naming ds x)) (where-so (is_completed x.phase) (nat_lt 0 (length (naming ds x))) (change n x found).1 done));
+}
   where
     a : (list_all (delta_has_change ns xs) ds ≡ true) × (list_all (change_has_delta ds) xs ≡ true)
     a = and2 (list_all (delta_has_change ns xs) ds) (list_all (change_has_delta ds) xs) e
+
     delta : (n : ℕ) (d : DeltaRow) → delta_in ds n ≡ Some d → (has_number ns d.change ≡ true) × (if_there (change_in xs d.change) (λ x. is_completed x.phase) ≡ true)
     delta n d found = and2 (has_number ns d.change) (if_there (change_in xs d.change) (λ x. is_completed x.phase)) (all-found by_number number_of_delta (delta_has_change ns xs) ds a.0 n d found)
+
     change : (n : ℕ) (x : Change) → change_in xs n ≡ Some x → (nat_le (length (naming ds x)) 1 ≡ true) × ((not (is_completed x.phase) || nat_lt 0 (length (naming ds x))) ≡ true)
     change n x found = and2 (nat_le (length (naming ds x)) 1) (not (is_completed x.phase) || nat_lt 0 (length (naming ds x))) (all-found by_number number_of_change (change_has_delta ds) xs a.1 n x found)
 
@@ -122,16 +127,18 @@ facts-deltas ds ns xs up upward g = λ i. delta i && change i
   where
     delta : list_all (delta_has_change ns xs) ds ≡ true
     delta = found-all by_number number_of_delta (delta_has_change ns xs) ds up (λ n d found i. g.numbered n d found i
-      && found-if (change_in xs d.change) (λ x. is_completed x.phase) (λ x is. from-if (λ (x : Change). is_completed x.phase ≡ true) (change_in xs d.change) (g.completed n d found) x is) i)
+        && found-if (change_in xs d.change) (λ x. is_completed x.phase) (λ x is. from-if (λ (x : Change). is_completed x.phase ≡ true) (change_in xs d.change) (g.completed n d found) x is) i)
+
     one : (n : ℕ) (x : Change) → change_in xs n ≡ Some x → length (naming ds x) ≤ 1
     one n x found = one-few by_number number_of_delta (names x) ds up (λ d f m k nd nf.
-      let c = sym (eqb-true x.number d.change nd) in
-      g.once d.delta f.delta d f (in-found by_number number_of_delta ds up d m) (in-found by_number number_of_delta ds up f k) (c ∙ eqb-true x.number f.change nf)
+        let c = sym (eqb-true x.number d.change nd) in
+        g.once d.delta f.delta d f (in-found by_number number_of_delta ds up d m) (in-found by_number number_of_delta ds up f k) (c ∙ eqb-true x.number f.change nf)
         (found-some (change_in xs d.change) x (ap (change_in xs) (c ∙ found-key by_number number_of_change n xs x found) ∙ found)))
+
     change : list_all (change_has_delta ds) xs ≡ true
     change = found-all by_number number_of_change (change_has_delta ds) xs upward (λ n x found i. is-most (length (naming ds x)) 1 (one n x found) i
-      && so-where (is_completed x.phase) (nat_lt 0 (length (naming ds x))) (λ done. is-below 0 (length (naming ds x)) (counted-some by_number number_of_delta (names x) ds
-           (ap (λ k. is_some (delta_of ds k)) (found-key by_number number_of_change n xs x found) ∙ g.named n x found done))) i)
+        && so-where (is_completed x.phase) (nat_lt 0 (length (naming ds x))) (λ done. is-below 0 (length (naming ds x)) (counted-some by_number number_of_delta (names x) ds
+        (ap (λ k. is_some (delta_of ds k)) (found-key by_number number_of_change n xs x found) ∙ g.named n x found done))) i)
 
 -- ---- versions
 
@@ -160,8 +167,8 @@ module _ (rows : List FileRow) (changes : List Change) (order : InOrder rows cha
 
   place-each : (t : VersionRef → Bool) → ((p : Place) (v : VersionRef) → version_at rows changes p ≡ Some v → t v ≡ true) → list_all t (live rows changes) ≡ true
   place-each t h = in-all t (live rows changes) (λ v m.
-    let s = map-in stand_version (stands rows changes) v (subst (λ vs. In vs v) (sym (stands-live rows changes)) m) in
-    h s.0.0 v (stands-found rows changes order s.0 s.1 ∙ ap (λ (w : VersionRef). Some w) s.2))
+      let s = map-in stand_version (stands rows changes) v (subst (λ vs. In vs v) (sym (stands-live rows changes)) m) in
+      h s.0.0 v (stands-found rows changes order s.0 s.1 ∙ ap (λ (w : VersionRef). Some w) s.2))
 
   two-places : (related : VersionRef → VersionRef → Bool) → ((v w : VersionRef) → related v w ≡ related w v) → no_two related (live rows changes) ≡ true
       → (p q : Place) (v w : VersionRef) → version_at rows changes p ≡ Some v → version_at rows changes q ≡ Some w → related v w ≡ true → p ≡ q
@@ -179,7 +186,7 @@ module _ (rows : List FileRow) (changes : List Change) (order : InOrder rows cha
         below = λ p v found. below v.number next (each-place (number_below next) a.0 p v found);
         apart = λ p q v w fv fw is. two-places same_number same_number-swaps a.1 p q v w fv fw (ap (nat_eq v.number) (sym is) ∙ by_number.same_self v.number);
         inside = λ p v found has. most (end_of v) 16777216 (where-so (has_units v) (nat_le (end_of v) 16777216) (each-place is_in_region a.2 p v found) has);
-        unshared = λ p q v w fv fw is. two-places meet meet-swaps a.3 p q v w fv fw is
+        unshared = λ p q v w fv fw is. two-places meet meet-swaps a.3 p q v w fv fw is;
       }
 
   pub facts-versions : (next : ℕ) → AreVersions next rows changes → versions_fit next (live rows changes) ≡ true
@@ -201,16 +208,16 @@ is_entry file entry = is_some entry.version ≡ not (is_remove file.action)
 
 pub entries-facts : (deltas : List DeltaRow) (rows : List FileRow) (changes : List Change) → entries_fit deltas rows changes ≡ true → AreEntries deltas rows changes
 entries-facts ds rows xs e n d found x loaded = record {
-      entered = λ p f ff.
-        let t = there-found (row_in rows f.path) (λ row. there_and (entry_in row.past d.delta) (fits_action f)) (all-found by_text file_path (file_is_entered rows d.delta) x.files (if-found (change_in xs d.change) (λ x. list_all (file_is_entered rows d.delta) x.files) (all-found by_number number_of_delta (delta_is_entered rows xs) ds a.0 n d found) x loaded) p f ff) in
-        let y = there-found (entry_in t.0.past d.delta) (fits_action f) t.2 in
-        to-is (λ (row : FileRow). IsSomeAnd (entry_in row.past n) (is_entry f)) (row_in rows p) t.0 (ap (row_in rows) (sym (found-key by_text file_path p x.files f ff)) ∙ t.1)
-          (to-is (is_entry f) (entry_in t.0.past n) y.0 (ap (entry_in t.0.past) (sym (found-key by_number number_of_delta n ds d found)) ∙ y.1) (same-is (is_some y.0.version) (not (is_remove f.action)) y.2));
-      no_other = λ p r y fr fy.
-        let t = all-found by_number entry_delta (entry_has_file ds xs r.path) r.past (all-found by_text row_path (λ (row : FileRow). list_all (entry_has_file ds xs row.path) row.past) rows a.1 p r fr) n y fy in
-        let there = if-found (delta_in ds y.delta) (λ delta. if_there (change_in xs delta.change) (λ change. has_file change r.path)) t d (ap (delta_in ds) (found-key by_number entry_delta n r.past y fy) ∙ found) in
-        ap (has_file x) (sym (found-key by_text row_path p rows r fr)) ∙ if-found (change_in xs d.change) (λ change. has_file change r.path) there x loaded
-    }
+  entered = λ p f ff.
+      let t = there-found (row_in rows f.path) (λ row. there_and (entry_in row.past d.delta) (fits_action f)) (all-found by_text file_path (file_is_entered rows d.delta) x.files (if-found (change_in xs d.change) (λ x. list_all (file_is_entered rows d.delta) x.files) (all-found by_number number_of_delta (delta_is_entered rows xs) ds a.0 n d found) x loaded) p f ff) in
+      let y = there-found (entry_in t.0.past d.delta) (fits_action f) t.2 in
+      to-is (λ (row : FileRow). IsSomeAnd (entry_in row.past n) (is_entry f)) (row_in rows p) t.0 (ap (row_in rows) (sym (found-key by_text file_path p x.files f ff)) ∙ t.1)
+      (to-is (is_entry f) (entry_in t.0.past n) y.0 (ap (entry_in t.0.past) (sym (found-key by_number number_of_delta n ds d found)) ∙ y.1) (same-is (is_some y.0.version) (not (is_remove f.action)) y.2));
+  no_other = λ p r y fr fy.
+      let t = all-found by_number entry_delta (entry_has_file ds xs r.path) r.past (all-found by_text row_path (λ (row : FileRow). list_all (entry_has_file ds xs row.path) row.past) rows a.1 p r fr) n y fy in
+      let there = if-found (delta_in ds y.delta) (λ delta. if_there (change_in xs delta.change) (λ change. has_file change r.path)) t d (ap (delta_in ds) (found-key by_number entry_delta n r.past y fy) ∙ found) in
+      ap (has_file x) (sym (found-key by_text row_path p rows r fr)) ∙ if-found (change_in xs d.change) (λ change. has_file change r.path) there x loaded;
+}
   where
     a : (list_all (delta_is_entered rows xs) ds ≡ true) × (list_all (λ (row : FileRow). list_all (entry_has_file ds xs row.path) row.past) rows ≡ true)
     a = and2 (list_all (delta_is_entered rows xs) ds) (list_all (λ (row : FileRow). list_all (entry_has_file ds xs row.path) row.past) rows) e
@@ -220,20 +227,20 @@ pub facts-entries : (deltas : List DeltaRow) (rows : List FileRow) (changes : Li
     → ((n : ℕ) (x : Change) → change_in changes n ≡ Some x → Ascends by_text file_path x.files) → AreEntries deltas rows changes → entries_fit deltas rows changes ≡ true
 facts-entries ds rows xs up rise pasts files g = λ i.
     found-all by_number number_of_delta (delta_is_entered rows xs) ds up (λ n d found. found-if (change_in xs d.change) (λ x. list_all (file_is_entered rows d.delta) x.files) (λ x loaded.
-      found-all by_text file_path (file_is_entered rows d.delta) x.files (files d.change x loaded) (λ p f ff. entered n d found x loaded p f ff))) i
+    found-all by_text file_path (file_is_entered rows d.delta) x.files (files d.change x loaded) (λ p f ff. entered n d found x loaded p f ff))) i
     && found-all by_text row_path (λ (row : FileRow). list_all (entry_has_file ds xs row.path) row.past) rows rise (λ p r fr.
-      found-all by_number entry_delta (entry_has_file ds xs r.path) r.past (pasts p r fr) (λ n y fy.
-        found-if (delta_in ds y.delta) (λ delta. if_there (change_in xs delta.change) (λ change. has_file change r.path)) (λ d fd.
-          found-if (change_in xs d.change) (λ change. has_file change r.path) (λ x loaded.
-            ap (has_file x) (found-key by_text row_path p rows r fr)
-            ∙ (g n d (ap (delta_in ds) (sym (found-key by_number entry_delta n r.past y fy)) ∙ fd) x loaded).no_other p r y fr fy)))) i
+    found-all by_number entry_delta (entry_has_file ds xs r.path) r.past (pasts p r fr) (λ n y fy.
+    found-if (delta_in ds y.delta) (λ delta. if_there (change_in xs delta.change) (λ change. has_file change r.path)) (λ d fd.
+    found-if (change_in xs d.change) (λ change. has_file change r.path) (λ x loaded.
+    ap (has_file x) (found-key by_text row_path p rows r fr)
+    ∙ (g n d (ap (delta_in ds) (sym (found-key by_number entry_delta n r.past y fy)) ∙ fd) x loaded).no_other p r y fr fy)))) i
   where
     entered : (n : ℕ) (d : DeltaRow) → delta_in ds n ≡ Some d → (x : Change) → change_in xs d.change ≡ Some x → (p : List ℕ) (f : ChangeFile) → file_in x.files p ≡ Some f → file_is_entered rows d.delta f ≡ true
     entered n d found x loaded p f ff =
         let r = from-is (λ (row : FileRow). IsSomeAnd (entry_in row.past n) (is_entry f)) (row_in rows p) ((g n d found x loaded).entered p f ff) in
         let y = from-is (is_entry f) (entry_in r.0.past n) r.2 in
         found-there (row_in rows f.path) (λ row. there_and (entry_in row.past d.delta) (fits_action f)) r.0 (ap (row_in rows) (found-key by_text file_path p x.files f ff) ∙ r.1)
-          (found-there (entry_in r.0.past d.delta) (fits_action f) y.0 (ap (entry_in r.0.past) (found-key by_number number_of_delta n ds d found) ∙ y.1) (is-same (is_some y.0.version) (not (is_remove f.action)) y.2))
+        (found-there (entry_in r.0.past d.delta) (fits_action f) y.0 (ap (entry_in r.0.past) (found-key by_number number_of_delta n ds d found) ∙ y.1) (is-same (is_some y.0.version) (not (is_remove f.action)) y.2))
 
 -- ---- locks
 
@@ -254,21 +261,22 @@ has_lock locks change file = there_and (lock_in locks file.path) (of_change chan
 
 pub locks-facts : (numbers : List ℕ) (locks : List Lock) (changes : List Change) → locks_fit numbers locks changes ≡ true → AreLocks numbers locks changes
 locks-facts ns ls xs e = record {
-      ascend = test-ascends by_text lock_path ls a.0;
-      numbered = λ p l found. (lock p l found).0;
-      held = λ p l found. to-if (Holds p) (change_in xs l.change) (λ x is.
-        let b = and2 (holds_locks x.phase) (has_file x l.path) (if-found (change_in xs l.change) (holds l.path) (lock p l found).1 x is) in
-        (b.0, ap (has_file x) (sym (found-key by_text lock_path p ls l found)) ∙ b.1));
-      taken = λ n x found holding p has.
-        let f = some-found (file_in x.files p) has in
-        let t = all-found by_text file_path (has_lock ls x) x.files (where-so (holds_locks x.phase) (list_all (has_lock ls x) x.files) (all-found by_number number_of_change (files_have_locks ls) xs a.2 n x found) holding) p f.0 f.1 in
-        let l = there-found (lock_in ls f.0.path) (of_change x) t in
-        ap (λ q. option_map lock_change (lock_in ls q)) (sym (found-key by_text file_path p x.files f.0 f.1)) ∙ ap (option_map lock_change) l.1
-          ∙ ap (λ (m : ℕ). Some m) (eqb-true l.0.change x.number l.2 ∙ found-key by_number number_of_change n xs x found)
-    }
+  ascend = test-ascends by_text lock_path ls a.0;
+  numbered = λ p l found. (lock p l found).0;
+  held = λ p l found. to-if (Holds p) (change_in xs l.change) (λ x is.
+      let b = and2 (holds_locks x.phase) (has_file x l.path) (if-found (change_in xs l.change) (holds l.path) (lock p l found).1 x is) in
+      (b.0, ap (has_file x) (sym (found-key by_text lock_path p ls l found)) ∙ b.1));
+  taken = λ n x found holding p has.
+      let f = some-found (file_in x.files p) has in
+      let t = all-found by_text file_path (has_lock ls x) x.files (where-so (holds_locks x.phase) (list_all (has_lock ls x) x.files) (all-found by_number number_of_change (files_have_locks ls) xs a.2 n x found) holding) p f.0 f.1 in
+      let l = there-found (lock_in ls f.0.path) (of_change x) t in
+      ap (λ q. option_map lock_change (lock_in ls q)) (sym (found-key by_text file_path p x.files f.0 f.1)) ∙ ap (option_map lock_change) l.1
+      ∙ ap (λ (m : ℕ). Some m) (eqb-true l.0.change x.number l.2 ∙ found-key by_number number_of_change n xs x found);
+}
   where
     a : (ascends text_cmp lock_path ls ≡ true) × (list_all (lock_has_file ns xs) ls ≡ true) × (list_all (files_have_locks ls) xs ≡ true)
     a = and3 (ascends text_cmp lock_path ls) (list_all (lock_has_file ns xs) ls) (list_all (files_have_locks ls) xs) e
+
     lock : (p : List ℕ) (l : Lock) → lock_in ls p ≡ Some l → (has_number ns l.change ≡ true) × (if_there (change_in xs l.change) (holds l.path) ≡ true)
     lock p l found = and2 (has_number ns l.change) (if_there (change_in xs l.change) (holds l.path)) (all-found by_text lock_path (lock_has_file ns xs) ls a.1 p l found)
 
@@ -276,11 +284,11 @@ pub facts-locks : (numbers : List ℕ) (locks : List Lock) (changes : List Chang
     → ((n : ℕ) (x : Change) → change_in changes n ≡ Some x → Ascends by_text file_path x.files) → AreLocks numbers locks changes → locks_fit numbers locks changes ≡ true
 facts-locks ns ls xs up files g = λ i. ascends-test by_text lock_path ls g.ascend i
     && found-all by_text lock_path (lock_has_file ns xs) ls g.ascend (λ p l found j. g.numbered p l found j
-      && found-if (change_in xs l.change) (holds l.path) (λ x is.
-        let b = from-if (Holds p) (change_in xs l.change) (g.held p l found) x is in
-        λ k. b.0 k && (ap (has_file x) (found-key by_text lock_path p ls l found) ∙ b.1) k) j) i
+    && found-if (change_in xs l.change) (holds l.path) (λ x is.
+    let b = from-if (Holds p) (change_in xs l.change) (g.held p l found) x is in
+    λ k. b.0 k && (ap (has_file x) (found-key by_text lock_path p ls l found) ∙ b.1) k) j) i
     && found-all by_number number_of_change (files_have_locks ls) xs up (λ n x found. so-where (holds_locks x.phase) (list_all (has_lock ls x) x.files) (λ holding.
-      found-all by_text file_path (has_lock ls x) x.files (files n x found) (λ p f ff. taken n x found holding p f ff))) i
+    found-all by_text file_path (has_lock ls x) x.files (files n x found) (λ p f ff. taken n x found holding p f ff))) i
   where
     taken : (n : ℕ) (x : Change) → change_in xs n ≡ Some x → holds_locks x.phase ≡ true → (p : List ℕ) (f : ChangeFile) → file_in x.files p ≡ Some f → has_lock ls x f ≡ true
     taken n x found holding p f ff = go (lock_in ls p) refl (g.taken n x found holding p (found-some (file_in x.files p) f ff))

@@ -1,13 +1,13 @@
 -- Tests of ascending rows say the same of each row and of what each key finds.
-use Rattle.std.proofs.Common.{◌≡◌, ◌⊎◌, inl, inr, ℕ, suc, ◌<◌, ◌≤◌, ◌+◌, refl, sym, ◌∙◌, ap, subst, List, [], ◌∷◌, map, Option, Some, None, Bool, true, false, cond, ◌&&◌, ◌||◌, not, arith}
-use Rattle.std.specs.Prelude.{filter, length, is_some, nat_le}
-use Rattle.std.specs.List.{find, list_any, list_all}
+use Rattle.std.proofs.Common.{◌≡◌, inl, inr, ◌<◌, ◌≤◌, refl, sym, ◌∙◌, ap, subst, List, [], ◌∷◌, Some, Bool, true, false, cond, ◌&&◌, arith}
+use Rattle.std.specs.Prelude.{filter, length, is_some}
+use Rattle.std.specs.List.{find, list_all}
 use Rattle.std.specs.Ordering.{is_lt}
 use Rattle.std.specs.declared.cmp.Ordering.{Ordering}
 use Rattle.std.specs.declared.cmp.Ordering.TheVariants.{Less, Equal, Greater}
 use Rattle.ae_types.specs.Ordered.{ascends, ascends_from}
 use Rattle.ae_types.proofs.Members.{In, in-all}
-use Rattle.ae_types.proofs.Ordered.{Order, at, Above, Ascends, above-above, above-at, at-above, at-first, apart, less-other, some-is, none-some, found-key}
+use Rattle.ae_types.proofs.Ordered.{Order, at, Above, Ascends, above-above, above-at, at-first, apart, less-other, some-is, none-some}
 use Rattle.ae_types.proofs.Splits.{never, and2}
 
 is_less : (x : Ordering) → is_lt x ≡ true → x ≡ Less
@@ -107,6 +107,7 @@ module _ {K : Type 0} (o : Order K) {A : Type 0} (key : A → K) where
     where
       later : t x ≡ true → (r : A) → In xs r → t r ≡ true → ⊥
       later e r m is = less-other o (key x) (key r) (above-at o key (key x) (key r) xs r a.0 (in-found xs a.1 r m)) (h x r (inl refl) (inr m) e is)
+
       go : (b : Bool) → t x ≡ b → length (filter t xs) ≤ 1 → length (cond b (x ∷ filter t xs) (filter t xs)) ≤ 1
       go true e rest = let none = counted-none t xs (later e) in omega (arith, none)
       go false e rest = rest

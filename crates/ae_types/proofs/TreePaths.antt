@@ -1,7 +1,7 @@
 -- Which paths stand in a tree and in a candidate.
-use Rattle.std.proofs.Common.{◌≡◌, ◌⊎◌, inl, inr, ℕ, refl, sym, ◌∙◌, ap, subst, List, [], ◌∷◌, map, Option, Some, None, Bool, true, false, cond, ◌&&◌, ◌||◌, not}
+use Rattle.std.proofs.Common.{◌≡◌, ℕ, refl, sym, ◌∙◌, ap, List, [], ◌∷◌, Option, Some, None, Bool, true, false, cond, ◌&&◌, ◌||◌, not}
 use Rattle.std.specs.Prelude.{filter, is_some}
-use Rattle.std.specs.List.{find, filter_map, list_all}
+use Rattle.std.specs.List.{find, filter_map}
 use Rattle.std.specs.Option.{option_map, option_and_then}
 use Rattle.std.specs.Str.{bytes_eq}
 use Rattle.ae_types.specs.declared.change.Change.{Change}
@@ -15,7 +15,6 @@ use Rattle.ae_types.specs.Ordered.{put_by}
 use Rattle.ae_types.specs.Trees.{TreeRow, tree_path, text_cmp, entry_row, last_up_to, tree_row, tree_at, frozen_row, put_rows, overlaid, paths_of}
 use Rattle.ae_types.proofs.Keys.{by_text}
 use Rattle.ae_types.proofs.Ordered.{Ascends, at, at-put, at-rows, some-is, none-some}
-use Rattle.ae_types.proofs.Splits.{never}
 
 pub has-at : (rows : List TreeRow) (path : List ℕ) → has_path (paths_of rows) path ≡ is_some (at by_text tree_path path rows)
 has-at [] path = refl
@@ -93,8 +92,8 @@ filter-found change path [] = none (not (has_file change path))
 filter-found change path (row ∷ rows) = go (bytes_eq path row.path) refl (not (has_file change row.path)) refl (filter-found change path rows)
   where
     go : (b : Bool) → bytes_eq path row.path ≡ b → (c : Bool) → not (has_file change row.path) ≡ c
-      → found path (filter (λ (row : TreeRow). not (has_file change row.path)) rows) ≡ (not (has_file change path) && found path rows)
-      → found path (cond c (row ∷ filter (λ (row : TreeRow). not (has_file change row.path)) rows) (filter (λ (row : TreeRow). not (has_file change row.path)) rows)) ≡ (not (has_file change path) && is_some (cond b (Some row) (at by_text tree_path path rows)))
+        → found path (filter (λ (row : TreeRow). not (has_file change row.path)) rows) ≡ (not (has_file change path) && found path rows)
+        → found path (cond c (row ∷ filter (λ (row : TreeRow). not (has_file change row.path)) rows) (filter (λ (row : TreeRow). not (has_file change row.path)) rows)) ≡ (not (has_file change path) && is_some (cond b (Some row) (at by_text tree_path path rows)))
     go true is true e rest = ap (λ b. is_some (cond b (Some row) (at by_text tree_path path (filter (λ (row : TreeRow). not (has_file change row.path)) rows)))) is
         ∙ sym (ap (λ b. b && true) (ap (λ p. not (has_file change p)) (by_text.same_is path row.path is) ∙ e))
     go true is false e rest = rest ∙ ap (λ b. b && found path rows) away ∙ sym (ap (λ b. b && true) away)

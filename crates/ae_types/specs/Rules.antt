@@ -1,6 +1,6 @@
 -- The rules that the records keep, as tests, and which state file is blamed first. Names, words, and the numbers of changes
 -- and deltas are in their ranges by their types.
-use Rattle.std.specs.Prelude.{ℕ, ◌+◌, Bool, true, false, ◌&&◌, ◌||◌, not, List, [], ◌∷◌, map, Option, Some, None, if◌then◌else◌, is_some, is_none, length, nat_eq, nat_lt, nat_le, filter}
+use Rattle.std.specs.Prelude.{ℕ, ◌+◌, Bool, true, false, ◌&&◌, ◌||◌, not, List, [], ◌∷◌, map, Option, Some, None, is_some, is_none, length, nat_eq, nat_lt, nat_le, filter}
 use Rattle.std.specs.List.{list_all, find}
 use Rattle.std.specs.Option.{option_map, option_or}
 use Rattle.std.specs.Ordering.{nat_cmp}
@@ -21,7 +21,7 @@ use Rattle.ae_types.specs.declared.version.VersionRef.{VersionRef}
 use Rattle.ae_types.specs.Observation.{Observation}
 use Rattle.ae_types.specs.Ordered.{ascends, itself}
 use Rattle.ae_types.specs.Phases.{is_awaiting_development, is_integrating, is_completed, is_reviewed, may_be_reviewing, has_integrator, holds_locks, is_remove}
-use Rattle.ae_types.specs.Found.{number_of_change, file_path, row_path, entry_delta, lock_path, change_in, file_in, row_in, entry_in, lock_in, delta_in, has_number, has_file, there_and, if_there}
+use Rattle.ae_types.specs.Found.{number_of_change, file_path, row_path, entry_delta, lock_path, change_in, row_in, entry_in, lock_in, delta_in, has_number, has_file, there_and, if_there}
 use Rattle.ae_types.specs.Trees.{text_cmp, tree_at, overlaid, paths_of}
 use Rattle.ae_types.specs.Runs.{run_cmp, run_of}
 use Rattle.ae_types.specs.Clashes.{none_clash}

@@ -1,5 +1,5 @@
 -- What the rules of the records say, a fact a rule, each of what a key finds.
-use Rattle.std.specs.Prelude.{◌≡◌, ◌≢◌, ℕ, ◌<◌, ◌≤◌, Bool, true, false, ◌&&◌, not, List, [], Option, Some, None, is_some, length, IfSome, IsSomeAnd, All}
+use Rattle.std.specs.Prelude.{◌≡◌, ℕ, ◌<◌, ◌≤◌, true, false, ◌&&◌, not, List, [], Option, Some, None, is_some, length, IfSome, IsSomeAnd, All}
 use Rattle.std.specs.Option.{option_map}
 use Rattle.std.specs.Ordering.{nat_cmp}
 use Rattle.ae_base.specs.Users.{AllDiffer}
@@ -22,7 +22,7 @@ use Rattle.ae_types.specs.Found.{number_of_change, file_path, row_path, entry_de
 use Rattle.ae_types.specs.Trees.{text_cmp, tree_at, overlaid, paths_of}
 use Rattle.ae_types.specs.Runs.{RunKey, run_cmp, run_of, evidence_in}
 use Rattle.ae_types.specs.Roles.{users_of}
-use Rattle.ae_types.specs.Rules.{counts_up, deltas_are_numbered}
+use Rattle.ae_types.specs.Rules.{deltas_are_numbered}
 use Rattle.ae_types.specs.Clashes.{NoneClash}
 use Rattle.ae_types.specs.Versions.{Place, version_at, has_units, end_of, meet}
 

@@ -1,5 +1,5 @@
 -- The versions of files: where each stands in the records, and which units of the packed region it takes.
-use Rattle.std.specs.Prelude.{◌≡◌, ℕ, ◌+◌, ◌/◌, Bool, true, ◌&&◌, not, List, [], ◌∷◌, ◌++◌, Option, nat_eq, nat_lt, flat_map}
+use Rattle.std.specs.Prelude.{ℕ, ◌+◌, ◌/◌, Bool, true, ◌&&◌, not, List, [], ◌∷◌, ◌++◌, Option, nat_eq, nat_lt, flat_map}
 use Rattle.std.specs.List.{list_any, filter_map}
 use Rattle.std.specs.Option.{option_and_then}
 use Rattle.ae_types.specs.declared.change.Change.{Change}

@@ -78,7 +78,7 @@ pub struct Change {
 pub type ChangeList = Rows<Change>;
 
 // an equal user, or nobody
-fn copy_user(user: Option<&User>, alloc: Global) -> Result<Option<User>, AllocError>
+fn copy_user(alloc: Global, user: Option<&User>) -> Result<Option<User>, AllocError>
     ensures { IfOk result (λ copy. copy ≡ option_copied user.entry) }
 {
     match user {
@@ -88,7 +88,7 @@ fn copy_user(user: Option<&User>, alloc: Global) -> Result<Option<User>, AllocEr
 }
 
 // an equal path, or none
-fn copy_path(path: Option<&Path>, alloc: Global) -> Result<Option<Path>, AllocError>
+fn copy_path(alloc: Global, path: Option<&Path>) -> Result<Option<Path>, AllocError>
     ensures { IfOk result (λ copy. copy ≡ option_copied path.entry) }
 {
     match path {
@@ -114,7 +114,7 @@ impl TryCopy for Evidence {
         Ok(Evidence {
             during: self.during,
             kind: self.kind,
-            path: copy_path(self.path.as_ref(), alloc)?,
+            path: copy_path(alloc, self.path.as_ref())?,
             status: self.status,
             clean: self.clean,
             subject: self.subject,
@@ -153,10 +153,10 @@ impl TryCopy for Change {
             number: self.number,
             attributes: self.attributes.copy(alloc)?,
             phase: self.phase,
-            developer: copy_user(self.developer.as_ref(), alloc)?,
-            reviewing: copy_user(self.reviewing.as_ref(), alloc)?,
-            reviewer: copy_user(self.reviewer.as_ref(), alloc)?,
-            integrator: copy_user(self.integrator.as_ref(), alloc)?,
+            developer: copy_user(alloc, self.developer.as_ref())?,
+            reviewing: copy_user(alloc, self.reviewing.as_ref())?,
+            reviewer: copy_user(alloc, self.reviewer.as_ref())?,
+            integrator: copy_user(alloc, self.integrator.as_ref())?,
             files: self.files.copy(alloc)?,
             evidence: self.evidence.copy(alloc)?,
             history: self.history.copy(alloc)?,

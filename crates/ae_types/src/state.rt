@@ -4,8 +4,8 @@ ghost use Rattle.ae_types.specs.Observation.{Observation};
 ghost use Rattle.ae_types.specs.Sound.{Sound};
 ghost use Rattle.ae_types.specs.Found.{row_in, lock_in, change_at, has_number};
 
-use crate::{Change, ChangeList, FileRow, FileRows, Lock, LockList, NumberList, Project, TryCopy};
 use crate::lookup::{change_in, has_number, lock_in, row_in};
+use crate::{Change, ChangeList, FileRow, FileRows, Lock, LockList, NumberList, Project, TryCopy};
 use ae_base::{ChangeNo, Path};
 use std::alloc::{AllocError, Global};
 use std::marker::Model;

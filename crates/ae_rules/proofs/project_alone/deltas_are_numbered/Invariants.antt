@@ -6,5 +6,5 @@ use Rattle.ae_rules.proofs.project_alone.deltas_are_numbered.Given as goal
 abbrev pub invariant-loop-row : goal.invariant-loop-row
 invariant-loop-row l = record {
   next : l.next ≡ l.row-index + 1;
-  rest : deltas_are_numbered l.deltas ≡ counts_up l.next (map number_of_delta (drop l.row-index l.deltas))
+  rest : deltas_are_numbered l.deltas ≡ counts_up l.next (map number_of_delta (drop l.row-index l.deltas));
 }

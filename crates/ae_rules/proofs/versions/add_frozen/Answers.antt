@@ -1,4 +1,4 @@
-use Rattle.std.proofs.Common.{arith, ◌++◌, sym, ◌∙◌, ap}
+use Rattle.std.proofs.Common.{arith}
 use Rattle.std.proofs.lemmas.Grind.{common_steps}
 use Rattle.ae_types.specs.declared.change.ChangeFile.{ChangeFile}
 use Rattle.ae_rules.proofs.VersionsApart.{some-more}

@@ -1,6 +1,5 @@
 use Rattle.std.proofs.Common.{◌≡◌, ◌++◌, take}
 use Rattle.std.specs.Prelude.{flat_map}
-use Rattle.std.specs.List.{filter_map}
 use Rattle.ae_rules.specs.Live.{past_versions}
 use Rattle.ae_rules.proofs.versions.add_rows.Given as goal
 

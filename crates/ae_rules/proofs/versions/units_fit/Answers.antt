@@ -1,4 +1,4 @@
-use Rattle.std.proofs.Common.{◌≡◌, ◌∙◌, ap}
+use Rattle.std.proofs.Common.{◌∙◌, ap}
 use Rattle.std.specs.List.{list_all}
 use Rattle.ae_types.specs.Versions.{has_units, meet, no_two}
 use Rattle.ae_rules.proofs.VersionsApart.{all-with, meet-with}

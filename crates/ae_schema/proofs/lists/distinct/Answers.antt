@@ -8,6 +8,3 @@ returns-then-contains-clause-only c differ =
     let apart = rw (← c.loop-user.invariant.all, c.in-Some.ensures.steps.0) at differ in
     let has = c.contains.ensures.0 c.if-contains.true in
     absurd (not_before c.loop-user.yielded _ c.in-Some.user apart (rw c.loop-user.invariant.set at has))
-
-pub returns-clause-some : goal.returns-clause-some
-returns-clause-some c = let h = c.in-None.ensures in let i = c.loop-user.invariant in ?

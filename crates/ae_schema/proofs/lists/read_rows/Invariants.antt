@@ -6,5 +6,5 @@ abbrev pub invariant-loop-tree : goal.invariant-loop-tree
 invariant-loop-tree g l = record {
   fits : All g.T.Value.Fits l.rows.items;
   trees : map g.T.Value.spelled l.rows.items ≡ map node (take l.tree-index l.trees);
-  only : (xs : List g.row.T.Denot) → All g.T.Value.Fits xs → map g.T.Value.spelled xs ≡ map node l.trees → l.rows.items ≡ take l.tree-index xs
+  only : (xs : List g.row.T.Denot) → All g.T.Value.Fits xs → map g.T.Value.spelled xs ≡ map node l.trees → l.rows.items ≡ take l.tree-index xs;
 }

@@ -6,12 +6,13 @@ use Rattle.ae_schema.proofs.Places.{missing_wrong, first_stop, first_at, behind_
 use Rattle.ae_schema.proofs.fields.ThenFields.read.Goals as goal
 
 pub returns-in_default-fields-clause-bad : goal.returns-in_default-fields-clause-bad
-returns-in_default-fields-clause-bad g c =
-    (omega arith,
-    missing_wrong (λ z. g.A.Value.Fits z.first × g.B.Fields.Fits z.rest)
-    (record { first = g.met.A.Value.some_value.0; rest = g.met.B.Fields.some_values.0 }) (g.met.A.Value.some_value.1, g.met.B.Fields.some_values.1)
-    (map (λ (s : Bor (List ℕ)). s.now) c.args.names.now) (rw length-map c.in-len1-up.len_at_least)
-    (λ z. g.A.Value.spelled z.first) (λ z. g.B.Fields.values z.rest) named_node c.args.fields.now c.in_default-fields.len_below)
+returns-in_default-fields-clause-bad g c = (
+  omega arith,
+  missing_wrong (λ z. g.A.Value.Fits z.first × g.B.Fields.Fits z.rest)
+      (record { first = g.met.A.Value.some_value.0; rest = g.met.B.Fields.some_values.0 }) (g.met.A.Value.some_value.1, g.met.B.Fields.some_values.1)
+      (map (λ (s : Bor (List ℕ)). s.now) c.args.names.now) (rw length-map c.in-len1-up.len_at_least)
+      (λ z. g.A.Value.spelled z.first) (λ z. g.B.Fields.values z.rest) named_node c.args.fields.now c.in_default-fields.len_below,
+)
 
 pub returns-in-Err-clause-bad : goal.returns-in-Err-clause-bad
 returns-in-Err-clause-bad g c =

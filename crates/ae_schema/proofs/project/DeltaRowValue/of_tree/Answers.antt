@@ -1,0 +1,12 @@
+use Rattle.std.proofs.Common.{◌≡◌, List, ℕ, Some, ap, ◌∙◌, sym, subst, length, refl}
+use Rattle.ae_schema.proofs.Options.{no_none, some_is, read_from}
+use Rattle.ae_schema.proofs.project.DeltaRowValue.of_tree.Goals as goal
+
+pub returns-in-None-clause-only : goal.returns-in-None-clause-only
+returns-in-None-clause-only c x fits e =
+    no_none _ (rw c.in-None.is at (c.in_ok-fields.ensures.only (record { first = x.delta; rest = record { first = x.change; rest = record { first = x.when; rest = record { first = x.who; rest = record {} } } } }) (fits.0, (fits.1, (fits.2, (fits.3, tt)))) e))
+
+pub returns-in-Some-clause-only : goal.returns-in-Some-clause-only
+returns-in-Some-clause-only c x fits e =
+    let same = some_is _ _ (rw c.in-Some.is at (c.in_ok-fields.ensures.only (record { first = x.delta; rest = record { first = x.change; rest = record { first = x.when; rest = record { first = x.who; rest = record {} } } } }) (fits.0, (fits.1, (fits.2, (fits.3, tt)))) e)) in
+    ap (λ f. Some (record { delta = f.first; change = f.rest.first; when = f.rest.rest.first; who = f.rest.rest.rest.first })) same

@@ -1,0 +1,72 @@
+// What holds of texts and their records, and that what is printed is read back.
+ghost use Rattle.std.specs.Prelude.{◌≡◌, ℕ, List};
+ghost use Rattle.ae_types.specs.declared.project.Project.{Project};
+ghost use Rattle.ae_types.specs.declared.file_table.FileRow.{FileRow};
+ghost use Rattle.ae_types.specs.declared.file_table.Lock.{Lock};
+ghost use Rattle.ae_types.specs.declared.change.Change.{Change};
+ghost use Rattle.ae_schema.specs.Records.{IsTextOf, IsBadLine, IsAnswer};
+ghost use Rattle.ae_schema.specs.Files.{project_fields, files_fields, change_fields};
+ghost use Rattle.ae_schema.specs.Fits.{FitsProject, FitsFiles, FitsChange};
+
+use crate::{
+    SchemaError, print_change, print_files, print_project, read_change, read_files, read_project,
+};
+use ae_base::ChangeNo;
+use ae_types::{Change, FileRow, FileRows, Lock, LockList, NumberList, Project};
+use std::alloc::Global;
+
+/// A text of a project's record has no bad line, and no text has two.
+pub fn note_project_lines()
+    ensures never_both { (bytes : List ℕ) (p : Project × List ℕ) (line : ℕ) → FitsProject p → IsTextOf bytes (project_fields p) → IsBadLine FitsProject project_fields bytes line → ⊥ }
+    ensures one_line { (bytes : List ℕ) (line other : ℕ) → IsBadLine FitsProject project_fields bytes line → IsBadLine FitsProject project_fields bytes other → line ≡ other }
+{}
+
+/// A text of a file table has no bad line, and no text has two.
+pub fn note_files_lines()
+    ensures never_both { (bytes : List ℕ) (t : List FileRow × List Lock) (line : ℕ) → FitsFiles t → IsTextOf bytes (files_fields t) → IsBadLine FitsFiles files_fields bytes line → ⊥ }
+    ensures one_line { (bytes : List ℕ) (line other : ℕ) → IsBadLine FitsFiles files_fields bytes line → IsBadLine FitsFiles files_fields bytes other → line ≡ other }
+{}
+
+/// A text of a change's record has no bad line, and no text has two.
+pub fn note_change_lines()
+    ensures never_both { (bytes : List ℕ) (c : Change) (line : ℕ) → FitsChange c → IsTextOf bytes (change_fields c) → IsBadLine FitsChange change_fields bytes line → ⊥ }
+    ensures one_line { (bytes : List ℕ) (line other : ℕ) → IsBadLine FitsChange change_fields bytes line → IsBadLine FitsChange change_fields bytes other → line ≡ other }
+{}
+
+/// The project and numbers, printed and read: the same, or memory was wanting.
+pub fn project_again(
+    alloc: Global,
+    project: &Project,
+    numbers: &[ChangeNo],
+) -> Result<(Project, NumberList), SchemaError>
+    ensures { IsAnswer (project.now, numbers.now) result }
+{
+    match print_project(alloc, project, numbers) {
+        Ok(text) => read_project(alloc, text.as_slice()),
+        Err(_) => Err(SchemaError::Memory),
+    }
+}
+
+/// The files and locks, printed and read: the same, or memory was wanting.
+pub fn files_again(
+    alloc: Global,
+    files: &[FileRow],
+    locks: &[Lock],
+) -> Result<(FileRows, LockList), SchemaError>
+    ensures { IsAnswer (files.now, locks.now) result }
+{
+    match print_files(alloc, files, locks) {
+        Ok(text) => read_files(alloc, text.as_slice()),
+        Err(_) => Err(SchemaError::Memory),
+    }
+}
+
+/// The change, printed and read: the same, or memory was wanting.
+pub fn change_again(alloc: Global, change: &Change) -> Result<Change, SchemaError>
+    ensures { IsAnswer change.now result }
+{
+    match print_change(alloc, change) {
+        Ok(text) => read_change(alloc, text.as_slice()),
+        Err(_) => Err(SchemaError::Memory),
+    }
+}
