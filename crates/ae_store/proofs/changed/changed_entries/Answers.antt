@@ -1,8 +1,7 @@
-use Rattle.std.proofs.Common.{◌≡◌, ◌<◌, ℕ, List, Some, length, get_or, map, subst}
+use Rattle.std.proofs.Common.{◌<◌, ℕ, List, Some, length, get_or, subst}
 use Rattle.std.specs.Prelude.{option_copied}
-use Rattle.ae_types.specs.Found.{number_of_change}
 use Rattle.ae_store.specs.Names.{project_file, files_file, change_file}
-use Rattle.ae_store.specs.Batching.{IsDone, ChangeIsWritten, numbers_of}
+use Rattle.ae_store.specs.Batching.{IsDone, ChangeIsWritten}
 use Rattle.ae_store.proofs.BatchWhole.{all_done, all_stand}
 use Rattle.ae_store.proofs.changed.changed_entries.Goals as goal
 

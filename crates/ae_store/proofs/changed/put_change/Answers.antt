@@ -1,5 +1,5 @@
-use Rattle.std.proofs.Common.{◌≡◌, ℕ, List, ◌∙◌, ap}
-use Rattle.std.specs.Prelude.{option_copied, true}
+use Rattle.std.proofs.Common.{◌≡◌, ℕ, ◌∙◌, ap}
+use Rattle.std.specs.Prelude.{option_copied}
 use Rattle.std.proofs.Common.{Vec, Global}
 use Rattle.ae_store.specs.Batching.{is_state_name}
 use Rattle.ae_store.proofs.BatchNames.{change_name_is}

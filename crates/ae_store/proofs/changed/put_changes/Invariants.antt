@@ -1,4 +1,4 @@
-use Rattle.std.proofs.Common.{◌≡◌, ℕ, ◌<◌, Some, get_or}
+use Rattle.std.proofs.Common.{ℕ, ◌<◌, Some, get_or}
 use Rattle.std.specs.Prelude.{option_copied}
 use Rattle.ae_store.specs.Names.{change_file}
 use Rattle.ae_store.specs.Batching.{AreRight, IsDone, KeepsDone, ChangeIsWritten}

@@ -1,4 +1,4 @@
-use Rattle.std.proofs.Common.{◌≡◌, ℕ, List, ◌∙◌, ap}
+use Rattle.std.proofs.Common.{◌≡◌, ◌∙◌}
 use Rattle.std.specs.Prelude.{option_copied}
 use Rattle.ae_store.specs.Names.{project_file}
 use Rattle.ae_store.specs.Changed.{text_of}

@@ -4,7 +4,7 @@ use Rattle.ae_schema.specs.Files.{project_fields}
 use Rattle.ae_schema.specs.Fits.{FitsProject}
 use Rattle.ae_schema.specs.Records.{IsTextOf}
 use Rattle.ae_types.specs.Observation.{Observation}
-use Rattle.ae_store.specs.Changed.{canonical, text_in, text_of}
+use Rattle.ae_store.specs.Changed.{canonical, text_of}
 use Rattle.ae_store.specs.Batching.{ProjectIsWritten, IsNumbered}
 use Rattle.ae_store.specs.Names.{project_file}
 use Rattle.ae_store.proofs.BatchTexts.{project_is, project_written, project_numbered, if_ok}
