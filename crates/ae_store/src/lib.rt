@@ -1,6 +1,10 @@
 //! The state of a project is loaded from the vault's files, and a batch of those that a step changes is made.
 #![tactic(auto)]
 
+#[cfg(test)]
+mod batch_cases;
+#[cfg(test)]
+mod batch_tests;
 mod changed;
 mod changes;
 mod entries;
