@@ -126,6 +126,7 @@ given (x ∷ es) zero name h is other = go (content_of es name)
   where
     here : one x name ≡ Some (unwrap_or x.bytes [])
     here = ap (λ (b : Bool). if b then Some (unwrap_or x.bytes []) else None) ((bytes_eq-Decides x.name name).1 (is x))
+
     go : (o : Option (List ℕ)) → or_else o (one x name) ≡ or_else (or_else o (one x name)) other
     go (Some bytes) = refl
     go None = here ∙ sym (ap (λ (o : Option (List ℕ)). or_else o other) here)
@@ -176,7 +177,7 @@ ordered_inserted es i e ordered h name few parted =
     record {
       names = ap (λ (b : Bool). b && names_ascend (insert es i e)) all ∙ ascend;
       no_pack = all_insert (λ (f : Entry). not (bytes_eq f.name pack)) es i e is.1 ordered.no_pack;
-      few = subst (λ (n : ℕ). n < 2 ^ 32) (sym (length-insert es i e h)) few
+      few = subst (λ (n : ℕ). n < 2 ^ 32) (sym (length-insert es i e h)) few;
     }
 
 -- ---- the same of the slice that was searched

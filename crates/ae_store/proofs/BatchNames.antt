@@ -27,9 +27,9 @@ pub same_number : (m n : ℕ) → m < 2 ^ 64 → n < 2 ^ 64 → bytes_eq (change
 same_number m n a b = elim (bool_cases (nat_eq m n)) [
   | inl is ↦ (bytes_eq-Decides (change_file m) (change_file n)).1 (ap change_file (eqb-true m n is)) ∙ sym is
   | inr isnt ↦ elim (bool_cases (bytes_eq (change_file m) (change_file n))) [
-      | inl same ↦ absurd (never (sym isnt ∙ eq-eqb m n (one_number m n a b ((bytes_eq-Decides (change_file m) (change_file n)).0 same))))
-      | inr differ ↦ differ ∙ sym isnt
-    ]
+    | inl same ↦ absurd (never (sym isnt ∙ eq-eqb m n (one_number m n a b ((bytes_eq-Decides (change_file m) (change_file n)).0 same))))
+    | inr differ ↦ differ ∙ sym isnt
+  ]
 ]
 
 pub change_name_is : (n : ℕ) → n ≤ 1999 → is_state_name (change_file n) ≡ true

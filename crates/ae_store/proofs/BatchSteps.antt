@@ -52,9 +52,9 @@ kept_after : (wanted before after : Contents) (file : List ℕ) → Goes wanted 
 kept_after wanted before after file goes name done = elim (option_cases (wanted name)) [
   | inr some ↦ goes name ∙ ap (λ (o : Option (List ℕ)). or_else o (if bytes_eq file name then wanted file else None)) (done ∙ some.1) ∙ sym some.1
   | inl none ↦ goes name ∙ ap (λ (o : Option (List ℕ)). or_else o (if bytes_eq file name then wanted file else None)) (done ∙ none) ∙ elim (bool_cases (bytes_eq file name)) [
-      | inl is ↦ ap (λ (b : Bool). if b then wanted file else None) is ∙ ap wanted ((bytes_eq-Decides file name).0 is)
-      | inr isnt ↦ ap (λ (b : Bool). if b then wanted file else None) isnt ∙ sym none
-    ]
+    | inl is ↦ ap (λ (b : Bool). if b then wanted file else None) is ∙ ap wanted ((bytes_eq-Decides file name).0 is)
+    | inr isnt ↦ ap (λ (b : Bool). if b then wanted file else None) isnt ∙ sym none
+  ]
 ]
 
 -- what a step puts, of the two texts

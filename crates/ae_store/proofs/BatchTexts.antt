@@ -86,5 +86,5 @@ change_written None n h all change found text is again fits = tt
 change_written (Some o) n h all change found text is again fits =
     let same : canonical (change_fields change) ≡ text_in o (change_file n) = ap text_of_change found ∙ sym (text_is (Some o) n h all) in
     to-if (λ (c : Change). IsChange (text_in o (change_file n)) c) (change_at o n)
-      (λ (c : Change) e. subst (λ (x : Change). IsChange (text_in o (change_file n)) x) (some-is change c (found ∙ e))
-        (fits, subst (λ (t : List ℕ). IsTextOf t (change_fields change)) (is ∙ same) again))
+    (λ (c : Change) e. subst (λ (x : Change). IsChange (text_in o (change_file n)) x) (some-is change c (found ∙ e))
+    (fits, subst (λ (t : List ℕ). IsTextOf t (change_fields change)) (is ∙ same) again))

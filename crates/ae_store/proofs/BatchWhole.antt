@@ -84,18 +84,18 @@ module _ (old : Option Observation) (new : Observation) (entries : List Entry) w
   all_done right project table sound_old sound_new done_new done_old name = elim (option_cases (content_of entries name)) [
     | inr some ↦ some.1 ∙ sym (right.right name some.0 some.1)
     | inl none ↦ elim (bool_cases (bytes_eq name project_file)) [
-        | inl is ↦ subst Done (sym ((bytes_eq-Decides name project_file).0 is)) project
-        | inr not_project ↦ elim (bool_cases (bytes_eq name files_file)) [
-            | inl is ↦ subst Done (sym ((bytes_eq-Decides name files_file).0 is)) table
-            | inr not_files ↦ elim (looked new sound_new done_new name) [
-                | inr is ↦ is
-                | inl new_none ↦ elim (old_looked old sound_old done_old name not_project not_files) [
-                    | inr is ↦ is
-                    | inl old_none ↦ none ∙ sym (ap (λ (t : List ℕ). change_of t (text_in new name)) old_none ∙ ap (change_of []) (text_elsewhere new name not_project not_files ∙ new_none))
-                  ]
-              ]
+      | inl is ↦ subst Done (sym ((bytes_eq-Decides name project_file).0 is)) project
+      | inr not_project ↦ elim (bool_cases (bytes_eq name files_file)) [
+        | inl is ↦ subst Done (sym ((bytes_eq-Decides name files_file).0 is)) table
+        | inr not_files ↦ elim (looked new sound_new done_new name) [
+          | inr is ↦ is
+          | inl new_none ↦ elim (old_looked old sound_old done_old name not_project not_files) [
+            | inr is ↦ is
+            | inl old_none ↦ none ∙ sym (ap (λ (t : List ℕ). change_of t (text_in new name)) old_none ∙ ap (change_of []) (text_elsewhere new name not_project not_files ∙ new_none))
           ]
+        ]
       ]
+    ]
   ]
 
 -- ---- what the files stand for
@@ -192,9 +192,15 @@ module _ (old : Option Observation) (new : Observation) (entries : List Entry)
 
   pub all_stand : new.numbers ≡ map number_of_change new.changes → StandsFor (put entries files) (Some new)
   all_stand all = records new (record {
-      project = (project_new.0, subst (λ (bytes : List ℕ). IsTextOf bytes (project_fields (new.project, new.numbers))) (put_is project_file)
-        (left (text_of old project_file) (text_in new project_file) (files project_file) (project_fields (new.project, new.numbers)) (project_some new) project_new.1 (project_backs files old stands project_old)));
-      table = (table_new.0, subst (λ (bytes : List ℕ). IsTextOf bytes (files_fields (new.files, new.locks))) (put_is files_file)
-        (left (text_of old files_file) (text_in new files_file) (files files_file) (files_fields (new.files, new.locks)) (table_some new) table_new.1 (table_backs files old stands table_old)));
-      changes = subst (λ (numbers : List ℕ). AreChangeFiles (put entries files) numbers new.changes) (sym all) (change_files (put entries files) new.changes change_left)
-    }) sound
+    project = (
+      project_new.0,
+      subst (λ (bytes : List ℕ). IsTextOf bytes (project_fields (new.project, new.numbers))) (put_is project_file)
+          (left (text_of old project_file) (text_in new project_file) (files project_file) (project_fields (new.project, new.numbers)) (project_some new) project_new.1 (project_backs files old stands project_old)),
+    );
+    table = (
+      table_new.0,
+      subst (λ (bytes : List ℕ). IsTextOf bytes (files_fields (new.files, new.locks))) (put_is files_file)
+          (left (text_of old files_file) (text_in new files_file) (files files_file) (files_fields (new.files, new.locks)) (table_some new) table_new.1 (table_backs files old stands table_old)),
+    );
+    changes = subst (λ (numbers : List ℕ). AreChangeFiles (put entries files) numbers new.changes) (sym all) (change_files (put entries files) new.changes change_left);
+  }) sound

@@ -110,7 +110,11 @@ fn put_changes(
 }
 
 // The entries of the state files that change.
-fn changed_entries(alloc: Global, old: Option<&State>, new: &State) -> Result<Vec<Entry>, AllocError>
+fn changed_entries(
+    alloc: Global,
+    old: Option<&State>,
+    new: &State,
+) -> Result<Vec<Entry>, AllocError>
     ensures ordered { IfOk result (λ entries. AreOrdered entries.items) }
     ensures entries { IfOk result (λ entries. (name : List ℕ) → content_of entries.items name ≡ entry_for (option_copied old.entry) new.now name) }
     ensures stands { IfOk result (λ entries. (files : Image) → new.now.numbers ≡ map number_of_change new.now.changes → StandsFor files (option_copied old.entry) → StandsFor (put entries.items files) (Some new.now)) }

@@ -16,8 +16,8 @@ loop-number-preserved c =
     record {
       right = c.in_ok-put_change.ensures.right;
       done = below_more _ _ (λ k h. c.in_ok-put_change.ensures.kept (change_file (get_or c.args.numbers.now k 0)) (c.loop-number.invariant.done k h))
-        (subst (λ (n : ℕ). IsDone (option_copied c.args.old) c.args.new.now c.put_change.new.entries.items (change_file n)) item c.in_ok-put_change.ensures.done);
+          (subst (λ (n : ℕ). IsDone (option_copied c.args.old) c.args.new.now c.put_change.new.entries.items (change_file n)) item c.in_ok-put_change.ensures.done);
       kept = λ name done. c.in_ok-put_change.ensures.kept name (c.loop-number.invariant.kept name done);
       written = below_more _ _ c.loop-number.invariant.written (subst (λ (n : ℕ). ChangeIsWritten (option_copied c.args.old) n) item c.in_ok-put_change.ensures.written);
-      written_new = below_more _ _ c.loop-number.invariant.written_new (subst (λ (n : ℕ). ChangeIsWritten (Some c.args.new.now) n) item c.in_ok-put_change.ensures.written_new)
+      written_new = below_more _ _ c.loop-number.invariant.written_new (subst (λ (n : ℕ). ChangeIsWritten (Some c.args.new.now) n) item c.in_ok-put_change.ensures.written_new);
     }

@@ -14,12 +14,12 @@ returns-in-Ok-clause-content c = there_content c.args.entries.now.items c.deref.
 pub returns-in_ok-insert-in-Err-clause-content : goal.returns-in_ok-insert-in-Err-clause-content
 returns-in_ok-insert-in-Err-clause-content c =
     subst (λ (es : List Entry). (name : List ℕ) → content_of es name ≡ content_of (c.args.entry ∷ c.args.entries.now.items) name) (sym c.in_ok-insert-in-Err.ensures.items)
-      (inserted_content c.args.entries.now.items c.deref.result.now c.deref.ensures.value c.in-Err.at c.args.entry c.requires.ordered c.in-Err.ensures.bound
-        (c.in-Err.ensures.position (λ (y : Entry). by_text.cmp y.name c.args.entry.name) (always_returns_same _ _ _ (λ a r f' called. search rules))))
+    (inserted_content c.args.entries.now.items c.deref.result.now c.deref.ensures.value c.in-Err.at c.args.entry c.requires.ordered c.in-Err.ensures.bound
+    (c.in-Err.ensures.position (λ (y : Entry). by_text.cmp y.name c.args.entry.name) (always_returns_same _ _ _ (λ a r f' called. search rules))))
 
 pub returns-in_ok-insert-in-Err-clause-ordered : goal.returns-in_ok-insert-in-Err-clause-ordered
 returns-in_ok-insert-in-Err-clause-ordered c =
     let few : length c.args.entries.now.items + 1 < 2 ^ 32 = omega arith in
     subst AreOrdered (sym c.in_ok-insert-in-Err.ensures.items)
-      (inserted_ordered c.args.entries.now.items c.deref.result.now c.deref.ensures.value c.in-Err.at c.args.entry c.requires.ordered c.in-Err.ensures.bound c.requires.name few
-        (c.in-Err.ensures.position (λ (y : Entry). by_text.cmp y.name c.args.entry.name) (always_returns_same _ _ _ (λ a r f' called. search rules))))
+    (inserted_ordered c.args.entries.now.items c.deref.result.now c.deref.ensures.value c.in-Err.at c.args.entry c.requires.ordered c.in-Err.ensures.bound c.requires.name few
+    (c.in-Err.ensures.position (λ (y : Entry). by_text.cmp y.name c.args.entry.name) (always_returns_same _ _ _ (λ a r f' called. search rules))))
