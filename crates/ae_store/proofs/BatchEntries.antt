@@ -13,6 +13,7 @@ use Rattle.std.proofs.lemmas.List.Edits.{length-insert}
 use Rattle.ae_types.proofs.Keys.{by_text}
 use Rattle.ae_types.proofs.Ordered.{Order, Above, Ascends, above-above, greater-less, less-other}
 use Rattle.ae_types.proofs.Splits.{and2}
+use Rattle.ae_vault.proofs.Files.{bool_cases}
 use Rattle.ae_vault.specs.declared.entry.Entry.{Entry}
 use Rattle.ae_vault.specs.Vault.{content_of, or_else, names_ascend, all_entry_names, is_entry_name, are_entries}
 use Rattle.ae_vault.specs.Pieces.{pack, no_entry_is_pack}
@@ -24,10 +25,6 @@ entry_name e = e.name
 -- what one entry gives to a name
 abbrev one : Entry → List ℕ → Option (List ℕ)
 one e name = if bytes_eq e.name name then Some (unwrap_or e.bytes []) else None
-
-bool_cases : (b : Bool) → (b ≡ true) ⊎ (b ≡ false)
-bool_cases true = inl refl
-bool_cases false = inr refl
 
 is_less : (x : Ordering) → is_lt x ≡ true → x ≡ Less
 is_less Less e = refl
@@ -86,18 +83,14 @@ sorted es a i d low high =
 
 -- ---- what the entries give
 
+last : (o : Option (List ℕ)) → or_else o None ≡ o
+last None = refl
+last (Some bytes) = refl
+
 no_bytes : (a b c : Option (List ℕ)) → (a ≡ None) ⊎ (b ≡ None) → or_else (or_else c a) b ≡ or_else (or_else c b) a
 no_bytes a b (Some bytes) h = refl
-no_bytes a b None (inl none) = ap (λ (o : Option (List ℕ)). or_else o b) none ∙ sym (last b ∙ refl) ∙ ap (λ (o : Option (List ℕ)). or_else b o) (sym none)
-  where
-    last : (o : Option (List ℕ)) → or_else o None ≡ o
-    last None = refl
-    last (Some bytes) = refl
+no_bytes a b None (inl none) = ap (λ (o : Option (List ℕ)). or_else o b) none ∙ sym (last b) ∙ ap (λ (o : Option (List ℕ)). or_else b o) (sym none)
 no_bytes a b None (inr none) = ap (λ (o : Option (List ℕ)). or_else a o) none ∙ last a ∙ sym (ap (λ (o : Option (List ℕ)). or_else o a) none)
-  where
-    last : (o : Option (List ℕ)) → or_else o None ≡ o
-    last None = refl
-    last (Some bytes) = refl
 
 one_none : (e : Entry) (name : List ℕ) → (e.name ≡ name → ⊥) → one e name ≡ None
 one_none e name other = elim (bool_cases (bytes_eq e.name name)) [
@@ -141,10 +134,6 @@ content_there es i e h is name = elim (bool_cases (bytes_eq e.name name)) [
   | inl here ↦ given es i name h (λ d. by_text.anti (get_or es i d).name e.name (is d) ∙ (bytes_eq-Decides e.name name).0 here) (one e name)
   | inr other ↦ sym (last (content_of es name)) ∙ ap (λ (b : Bool). or_else (content_of es name) (if b then Some (unwrap_or e.bytes []) else None)) (sym other)
 ]
-  where
-    last : (o : Option (List ℕ)) → or_else o None ≡ o
-    last None = refl
-    last (Some bytes) = refl
 
 -- ---- all of it
 

@@ -6,15 +6,12 @@ use Rattle.std.proofs.lemmas.Slice.Eq.{bytes_eq-Decides}
 use Rattle.std.proofs.lemmas.List.{append_cancel_left}
 use Rattle.std.proofs.lemmas.Fmt.{decimal_injective}
 use Rattle.ae_outside.specs.DiskNames.{is_disk_name}
+use Rattle.ae_vault.proofs.Files.{bool_cases}
 use Rattle.ae_vault.specs.Vault.{is_entry_name, is_own}
 use Rattle.ae_vault.specs.Pieces.{pack}
 use Rattle.ae_store.specs.Names.{project_file, files_file, change_file}
 use Rattle.ae_store.proofs.FileNames.{change_file_named}
 use Rattle.ae_store.specs.Batching.{is_state_name}
-
-bool_cases : (b : Bool) → (b ≡ true) ⊎ (b ≡ false)
-bool_cases true = inl refl
-bool_cases false = inr refl
 
 never : false ≡ true → ⊥
 never e = cc

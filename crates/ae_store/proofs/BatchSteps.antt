@@ -3,6 +3,7 @@ use Rattle.std.proofs.Common.{◌≡◌, ◌⊎◌, inl, inr, ℕ, refl, sym, �
 use Rattle.std.specs.Prelude.{Result, Ok, Err, OnOk}
 use Rattle.std.specs.Str.{bytes_eq}
 use Rattle.std.proofs.lemmas.Slice.Eq.{bytes_eq-Decides}
+use Rattle.ae_vault.proofs.Files.{bool_cases, option_cases}
 use Rattle.ae_vault.specs.declared.entry.Entry.{Entry}
 use Rattle.ae_vault.specs.Vault.{content_of, or_else}
 use Rattle.ae_types.specs.Observation.{Observation}
@@ -15,14 +16,6 @@ Contents = List ℕ → Option (List ℕ)
 -- the content after a file is looked at
 abbrev Goes : Contents → Contents → Contents → List ℕ → Type 0
 Goes wanted before after file = (name : List ℕ) → after name ≡ or_else (before name) (if bytes_eq file name then wanted file else None)
-
-bool_cases : (b : Bool) → (b ≡ true) ⊎ (b ≡ false)
-bool_cases true = inl refl
-bool_cases false = inr refl
-
-option_cases : (o : Option (List ℕ)) → (o ≡ None) ⊎ ((b : List ℕ) × (o ≡ Some b))
-option_cases None = inl refl
-option_cases (Some b) = inr (b, refl)
 
 right_after : (wanted before after : Contents) (file : List ℕ) → Goes wanted before after file → ((name bytes : List ℕ) → before name ≡ Some bytes → wanted name ≡ Some bytes)
     → (name bytes : List ℕ) → after name ≡ Some bytes → wanted name ≡ Some bytes

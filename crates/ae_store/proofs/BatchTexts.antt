@@ -9,6 +9,7 @@ use Rattle.ae_types.specs.Observation.{Observation}
 use Rattle.ae_types.specs.Sound.{Sound}
 use Rattle.ae_types.proofs.BinarySearch.{place-in}
 use Rattle.ae_types.proofs.Keys.{by_number}
+use Rattle.ae_types.proofs.Ordered.{some-is}
 use Rattle.ae_types.proofs.Searched.{in-found}
 use Rattle.ae_types.proofs.Splits.{never, to-if}
 use Rattle.ae_schema.specs.Fits.{IsChangeNo, FitsProject, FitsChange}
@@ -76,9 +77,6 @@ project_written o project numbers p n text is again fits =
 pub project_numbered : (o : Observation) (project : Project) (numbers : List ℕ) → project ≡ o.project → numbers ≡ o.numbers → Sound o → FitsProject (project, numbers) → IsNumbered (Some o)
 project_numbered o project numbers p n sound fits =
     numbered_of o sound (subst (λ (x : List ℕ). FitsProject (o.project, x)) n (subst (λ (x : Project). FitsProject (x, numbers)) p fits))
-
-some-is : (x y : Change) → Some x ≡ Some y → x ≡ y
-some-is x y e = cc
 
 pub change_written : (state : Option Observation) (n : ℕ) → n ≤ 1999 → IsNumbered state → (change : Change) → Some change ≡ change_of_state state n
     → (text : List ℕ) → text ≡ canonical (change_fields change) → IsTextOf text (change_fields change) → FitsChange change → ChangeIsWritten state n

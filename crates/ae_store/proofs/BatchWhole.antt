@@ -4,6 +4,7 @@ use Rattle.std.specs.Prelude.{IfSome}
 use Rattle.std.specs.Str.{bytes_eq}
 use Rattle.std.proofs.lemmas.Slice.Eq.{bytes_eq-Decides}
 use Rattle.ae_outside.specs.Image.{Image}
+use Rattle.ae_vault.proofs.Files.{bool_cases, option_cases}
 use Rattle.ae_vault.specs.declared.entry.Entry.{Entry}
 use Rattle.ae_vault.specs.Vault.{content_of, put}
 use Rattle.ae_types.specs.declared.change.Change.{Change}
@@ -24,14 +25,6 @@ use Rattle.ae_store.specs.Records.{IsProject, IsTable, IsChange, AreChangeFiles,
 use Rattle.ae_store.specs.Changed.{canonical, change_text, text_in, text_of, change_of, entry_for}
 use Rattle.ae_store.specs.Batching.{AreRight, IsDone, IsNumbered, ProjectIsWritten, TableIsWritten, ChangeIsWritten, numbers_of, change_of_state}
 use Rattle.ae_store.proofs.BatchTexts.{each_has, text_of_change, text_is}
-
-bool_cases : (b : Bool) → (b ≡ true) ⊎ (b ≡ false)
-bool_cases true = inl refl
-bool_cases false = inr refl
-
-option_cases : {A : Type 0} (o : Option A) → (o ≡ None) ⊎ ((x : A) × (o ≡ Some x))
-option_cases None = inl refl
-option_cases (Some x) = inr (x, refl)
 
 -- ---- every name
 
