@@ -1,5 +1,5 @@
 -- An entry is inserted at its place.
-use Rattle.std.proofs.Common.{◌≡◌, ◌⊎◌, inl, inr, ℕ, zero, suc, ◌+◌, ◌<◌, ◌≤◌, ◌^◌, refl, sym, ◌∙◌, ap, subst, Bool, true, false, ◌&&◌, not, if◌then◌else◌, List, [], ◌∷◌, ◌++◌, length, take, drop, get_or, Option, Some, None, unwrap_or, arith}
+use Rattle.std.proofs.Common.{◌≡◌, ◌⊎◌, inl, inr, ℕ, zero, suc, ◌+◌, ◌<◌, ◌≤◌, ◌^◌, refl, sym, ◌∙◌, ap, subst, Bool, true, ◌&&◌, not, if◌then◌else◌, List, [], ◌∷◌, length, get_or, Option, Some, None, unwrap_or, arith}
 use Rattle.std.specs.List.{insert, list_all}
 use Rattle.std.specs.Ordering.{is_lt}
 use Rattle.std.specs.declared.cmp.Ordering.{Ordering}
@@ -11,12 +11,12 @@ use Rattle.std.proofs.lemmas.Slice.Eq.{bytes_eq-Decides}
 use Rattle.std.proofs.lemmas.List.Sorted.{searchable_from_sorted}
 use Rattle.std.proofs.lemmas.List.Edits.{length-insert}
 use Rattle.ae_types.proofs.Keys.{by_text}
-use Rattle.ae_types.proofs.Ordered.{Order, Above, Ascends, above-above, greater-less, less-other}
+use Rattle.ae_types.proofs.Ordered.{Above, Ascends, above-above, greater-less, less-other}
 use Rattle.ae_types.proofs.Splits.{and2}
 use Rattle.ae_vault.proofs.Files.{bool_cases}
 use Rattle.ae_vault.specs.declared.entry.Entry.{Entry}
-use Rattle.ae_vault.specs.Vault.{content_of, or_else, names_ascend, all_entry_names, is_entry_name, are_entries}
-use Rattle.ae_vault.specs.Pieces.{pack, no_entry_is_pack}
+use Rattle.ae_vault.specs.Vault.{content_of, or_else, names_ascend, all_entry_names, is_entry_name}
+use Rattle.ae_vault.specs.Pieces.{pack}
 use Rattle.ae_store.specs.Batching.{AreOrdered, is_state_name}
 
 abbrev pub entry_name : Entry → List ℕ

@@ -1,5 +1,5 @@
 -- The names of the files of changes.
-use Rattle.std.proofs.Common.{◌≡◌, ◌≢◌, ◌⊎◌, inl, inr, ℕ, zero, suc, ◌+◌, ◌<◌, ◌≤◌, ◌/◌, ◌%◌, ◌^◌, refl, sym, ◌∙◌, ap, subst, Bool, true, false, ◌&&◌, not, nat_eq, eqb-true, eq-eqb, nat_le, List, [], ◌∷◌, ◌++◌, length, codes, arith, length-append}
+use Rattle.std.proofs.Common.{◌≡◌, inl, inr, ℕ, ◌<◌, ◌≤◌, ◌^◌, sym, ◌∙◌, ap, Bool, true, false, ◌&&◌, not, nat_eq, eqb-true, eq-eqb, codes, arith}
 use Rattle.std.specs.Fmt.{decimal}
 use Rattle.std.specs.Str.{bytes_eq}
 use Rattle.std.proofs.lemmas.Slice.Eq.{bytes_eq-Decides}
@@ -7,9 +7,9 @@ use Rattle.std.proofs.lemmas.List.{append_cancel_left}
 use Rattle.std.proofs.lemmas.Fmt.{decimal_injective}
 use Rattle.ae_outside.specs.DiskNames.{is_disk_name}
 use Rattle.ae_vault.proofs.Files.{bool_cases}
-use Rattle.ae_vault.specs.Vault.{is_entry_name, is_own}
+use Rattle.ae_vault.specs.Vault.{is_own}
 use Rattle.ae_vault.specs.Pieces.{pack}
-use Rattle.ae_store.specs.Names.{project_file, files_file, change_file}
+use Rattle.ae_store.specs.Names.{change_file}
 use Rattle.ae_store.proofs.FileNames.{change_file_named}
 use Rattle.ae_store.specs.Batching.{is_state_name}
 

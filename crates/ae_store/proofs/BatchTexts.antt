@@ -1,6 +1,6 @@
 -- The text of the file of a change, by its number.
-use Rattle.std.proofs.Common.{◌≡◌, ℕ, zero, suc, ◌+◌, ◌<◌, ◌≤◌, ◌^◌, refl, sym, ◌∙◌, ap, subst, Bool, true, false, cond, nat_eq, eqb-true, if◌then◌else◌, List, [], ◌∷◌, length, get_or, Option, Some, None, arith}
-use Rattle.std.specs.Prelude.{All, is_some, Result, Ok, Err, IfOk, IfSome}
+use Rattle.std.proofs.Common.{◌≡◌, ℕ, suc, ◌<◌, ◌≤◌, refl, sym, ◌∙◌, ap, subst, Bool, true, false, cond, nat_eq, eqb-true, if◌then◌else◌, List, [], ◌∷◌, length, get_or, Option, Some, None, arith}
+use Rattle.std.specs.Prelude.{All, is_some, Result, Ok, Err, IfOk}
 use Rattle.std.specs.List.{find}
 use Rattle.std.specs.Str.{bytes_eq}
 use Rattle.ae_types.specs.declared.change.Change.{Change}
@@ -19,7 +19,7 @@ use Rattle.ae_types.specs.declared.project.Project.{Project}
 use Rattle.ae_store.specs.Records.{IsProject, IsChange}
 use Rattle.ae_store.specs.Names.{project_file, change_file}
 use Rattle.ae_store.specs.Changed.{canonical, change_text, text_in, text_of}
-use Rattle.ae_store.specs.Batching.{change_of_state, IsNumbered, ProjectIsWritten, ChangeIsWritten}
+use Rattle.ae_store.specs.Batching.{change_of_state, IsNumbered, ChangeIsWritten}
 use Rattle.ae_store.proofs.BatchNames.{same_number}
 
 -- what holds of each number holds of one that is among them

@@ -1,5 +1,5 @@
 -- All files that may change have been looked at, and what the files stand for then.
-use Rattle.std.proofs.Common.{◌≡◌, ◌≢◌, ◌⊎◌, inl, inr, ℕ, zero, suc, ◌<◌, ◌≤◌, refl, sym, ◌∙◌, ap, subst, Bool, true, false, if◌then◌else◌, List, [], ◌∷◌, length, map, get_or, Option, Some, None, unwrap_or, arith}
+use Rattle.std.proofs.Common.{◌≡◌, ◌≢◌, ◌⊎◌, inl, inr, ℕ, ◌<◌, ◌≤◌, refl, sym, ◌∙◌, ap, subst, Bool, true, false, if◌then◌else◌, List, [], ◌∷◌, length, map, get_or, Option, Some, None, unwrap_or}
 use Rattle.std.specs.Prelude.{IfSome}
 use Rattle.std.specs.Str.{bytes_eq}
 use Rattle.std.proofs.lemmas.Slice.Eq.{bytes_eq-Decides}
@@ -8,7 +8,7 @@ use Rattle.ae_vault.proofs.Files.{bool_cases, option_cases}
 use Rattle.ae_vault.specs.declared.entry.Entry.{Entry}
 use Rattle.ae_vault.specs.Vault.{content_of, put}
 use Rattle.ae_types.specs.declared.change.Change.{Change}
-use Rattle.ae_types.specs.Found.{change_in, change_at, number_of_change, has_number}
+use Rattle.ae_types.specs.Found.{change_in, change_at, number_of_change}
 use Rattle.ae_types.specs.Observation.{Observation}
 use Rattle.ae_types.specs.Sound.{Sound}
 use Rattle.ae_types.proofs.BinarySearch.{in-place}
@@ -21,9 +21,9 @@ use Rattle.ae_schema.specs.Files.{project_fields, files_fields, change_fields}
 use Rattle.ae_schema.specs.Records.{Named, IsTextOf}
 use Rattle.ae_schema.proofs.Texts.{one_record}
 use Rattle.ae_store.specs.Names.{project_file, files_file, change_file}
-use Rattle.ae_store.specs.Records.{IsProject, IsTable, IsChange, AreChangeFiles, AreRecords, StandsFor, nothing, records}
-use Rattle.ae_store.specs.Changed.{canonical, change_text, text_in, text_of, change_of, entry_for}
-use Rattle.ae_store.specs.Batching.{AreRight, IsDone, IsNumbered, ProjectIsWritten, TableIsWritten, ChangeIsWritten, numbers_of, change_of_state}
+use Rattle.ae_store.specs.Records.{IsChange, AreChangeFiles, AreRecords, StandsFor, records}
+use Rattle.ae_store.specs.Changed.{canonical, change_text, text_in, text_of, change_of}
+use Rattle.ae_store.specs.Batching.{AreRight, IsDone, IsNumbered, ProjectIsWritten, TableIsWritten, ChangeIsWritten, numbers_of}
 use Rattle.ae_store.proofs.BatchTexts.{each_has, text_of_change, text_is}
 
 -- ---- every name
