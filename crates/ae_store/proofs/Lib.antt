@@ -5,7 +5,8 @@ pub mod OneRecord
 pub mod OneState
 pub mod Told
 pub mod LoadSteps
-pub mod EntryPlaces
-pub mod EntryOrder
-pub mod ChangedFiles
-pub mod ChangeTexts
+pub mod BatchEntries
+pub mod BatchSteps
+pub mod BatchNames
+pub mod BatchTexts
+pub mod BatchWhole

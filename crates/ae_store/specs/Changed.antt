@@ -1,5 +1,5 @@
 -- The texts of the state files, and those of them that a step changes.
-use Rattle.std.specs.Prelude.{◌≤◌, ℕ, List, [], ◌∷◌, map, Option, Some, None, if◌then◌else◌}
+use Rattle.std.specs.Prelude.{ℕ, List, [], ◌∷◌, Option, Some, None, if◌then◌else◌}
 use Rattle.std.specs.Str.{bytes_eq}
 use Rattle.ae_text.specs.Canonical.{fields_text}
 use Rattle.ae_text.specs.View.{members_of}
@@ -37,17 +37,3 @@ change_of old new = if bytes_eq old new then None else Some new
 -- what a batch puts into the file of this name: the new text, where it isn't the old one
 abbrev pub entry_for : Option Observation → Observation → List ℕ → Option (List ℕ)
 entry_for old new name = change_of (text_of old name) (text_in new name)
-
--- the names of the files of these changes
-abbrev pub change_files : List Change → List (List ℕ)
-change_files changes = map (λ (change : Change). change_file change.number) changes
-
--- the numbers are those that changes may have
-abbrev pub AreNumbered : List Change → Type 0
-AreNumbered [] = Unit {0}
-AreNumbered (change ∷ changes) = (change.number ≤ 1999) × AreNumbered changes
-
--- the names of the files of the old state's changes
-abbrev pub old_files : Option Observation → List (List ℕ)
-old_files None = []
-old_files (Some o) = change_files o.changes

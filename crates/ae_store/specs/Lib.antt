@@ -4,4 +4,4 @@ pub mod Damage
 pub mod Changed
 pub mod Answers
 pub mod Steps
-pub mod Entries
+pub mod Batching

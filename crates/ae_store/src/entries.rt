@@ -1,66 +1,63 @@
-// Entries in the order of their names.
-ghost use Rattle.std.specs.Prelude.{◌≡◌, ◌<◌, ◌≤◌, true, Some, length, string_bytes, if◌then◌else◌, OnOk};
+// Entries of a batch, in the order of their names.
+ghost use Rattle.std.specs.Prelude.{◌≡◌, ◌∷◌, [], true, ℕ, List, Some, None, OnOk, if◌then◌else◌};
 ghost use Rattle.std.specs.Str.{bytes_eq};
-ghost use Rattle.ae_types.specs.Trees.{text_cmp};
-ghost use Rattle.ae_store.specs.Entries.{place_of, has_entry, put_entry};
+ghost use Rattle.std.specs.Ordering.{nat_cmp};
+ghost use Rattle.std.specs.Cmp.Lexicographic.{slice_cmp};
+ghost use Rattle.ae_vault.specs.Vault.{content_of, or_else};
+ghost use Rattle.ae_store.specs.Changed.{change_of};
+ghost use Rattle.ae_store.specs.Batching.{AreOrdered, is_state_name};
 
 use ae_base::Text;
 use ae_vault::Entry;
 use std::alloc::AllocError;
 use std::cmp::Ordering;
 
-fn compare(name: &[u8], entry: &Entry) -> Ordering
-    ensures { result ≡ text_cmp name.now entry.now.name }
+// More entries than a batch counts are not made.
+const MOST_ENTRIES: usize = 4_294_967_295;
+
+fn compare_names(name: &Text, other: &Text) -> Ordering
+    ensures { result ≡ slice_cmp nat_cmp name.now other.now }
 {
-    name.cmp(entry.name.bytes())
+    name.bytes().cmp(other.bytes())
 }
 
-// how many first entries have a smaller name, and whether the entry there has this name
-fn place(entries: &[Entry], name: &[u8]) -> (usize, bool)
-    ensures place { result.0 ≡ place_of name.now entries.now }
-    ensures there { result.1 ≡ has_entry name.now entries.now }
-    ensures within { result.0 ≤ length entries.now }
-    ensures inside { result.1 ≡ true → result.0 < length entries.now }
+// The entry is put at its place. One of the same name that is there already stays.
+fn insert(entries: &mut Vec<Entry>, entry: Entry) -> Result<(), AllocError>
+    requires ordered { AreOrdered entries.old.items }
+    requires name { is_state_name entry.name ≡ true }
+    ensures content { OnOk result ((name : List ℕ) → content_of entries.new.items name ≡ content_of (entry ∷ entries.old.items) name) }
+    ensures ordered { OnOk result (AreOrdered entries.new.items) }
 {
-    let mut at = 0;
-    while at < entries.len() {
-        match compare(name, &entries[at]) {
-            Ordering::Greater => at += 1,
-            Ordering::Equal => return (at, true),
-            Ordering::Less => return (at, false),
+    if entries.len() >= MOST_ENTRIES {
+        return Err(AllocError);
+    }
+    match entries.binary_search_by(|other| compare_names(&other.name, &entry.name)) {
+        Ok(_) => Ok(()),
+        Err(at) => {
+            entries.insert(at, entry)?;
+            Ok(())
         }
     }
-    (at, false)
 }
 
-/// Puts the entry in the place of that of its name, or among the others in their order.
-fn put(entries: &mut Vec<Entry>, entry: Entry) -> Result<(), AllocError>
-    ensures { OnOk result (entries.new.items ≡ put_entry entry entries.old.items) }
-{
-    let (at, there) = place(entries.as_slice(), entry.name.bytes());
-    if there {
-        entries[at] = entry;
-        return Ok(());
-    }
-    entries.insert(at, entry)?;
-    Ok(())
-}
-
-/// Puts an entry of the new bytes of the file of this name, where they aren't the old ones.
-pub(crate) fn put_changed(
+/// Where the texts differ, the new one is put into the file of this name.
+pub(crate) fn put_text(
     entries: &mut Vec<Entry>,
-    name: String,
+    name: Text,
     old: &[u8],
     new: Vec<u8>,
 ) -> Result<(), AllocError>
-    ensures { OnOk result (entries.new.items ≡ (if bytes_eq old.now new.items then entries.old.items else put_entry (record { name = string_bytes name; bytes = Some new.items }) entries.old.items)) }
+    requires ordered { AreOrdered entries.old.items }
+    requires name { is_state_name name ≡ true }
+    ensures content { OnOk result ((other : List ℕ) → content_of entries.new.items other ≡ or_else (content_of entries.old.items other) (if bytes_eq name other then change_of old.now new.items else None)) }
+    ensures ordered { OnOk result (AreOrdered entries.new.items) }
 {
     if old == new.as_slice() {
         return Ok(());
     }
     let entry = Entry {
-        name: Text::of(name.into_bytes()),
+        name,
         bytes: Some(Text::of(new)),
     };
-    put(entries, entry)
+    insert(entries, entry)
 }
