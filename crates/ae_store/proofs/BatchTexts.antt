@@ -36,7 +36,7 @@ numbered_of o sound fits k d h =
     let change = get_or o.changes k d in
     let found = in-found by_number number_of_change o.changes sound.changes.ascend change (place-in o.changes k d h) in
     let there = sound.changes.numbered change.number change found in
-    (each_has IsChangeNo o.numbers change.number (λ i low. fits.6 i 0 low) there).1
+    (each_has IsChangeNo o.numbers change.number (λ i low. fits.2.1 i 0 low) there).1
 
 -- the text of a change, where there is one
 abbrev pub text_of_change : Option Change → List ℕ

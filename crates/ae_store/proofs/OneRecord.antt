@@ -229,10 +229,10 @@ one_run : (x y : Evidence) → FitsEvidence x → FitsEvidence y → evidence_ro
 one_run x y fx fy e =
     let during_is = one_ground x.during y.during (ap (field_at 0) e) in
     let kind_is = one_kind x.kind y.kind (ap (field_at 1) e) in
-    let path_is = one_optional IsPath no_empty_path x.path y.path fx.0 fy.0 (ap (field_at 2) e) in
+    let path_is = one_optional IsPath no_empty_path x.path y.path fx.0.0 fy.0.0 (ap (field_at 2) e) in
     let status_is = one_number x.status y.status (ap (field_at 3) e) in
     let clean_is = one_flag x.clean y.clean (ap (field_at 4) e) in
-    let subject_is = one_digest x.subject y.subject fx.2 fy.2 (ap (λ (n : Node). str_in (field_at 5 n)) e) in
+    let subject_is = one_digest x.subject y.subject fx.1.0 fy.1.0 (ap (λ (n : Node). str_in (field_at 5 n)) e) in
     let when_is = one_number x.when y.when (ap (field_at 6) e) in
     let who_is = one_str x.who y.who (ap (field_at 7) e) in
     λ i. record { during = during_is i; kind = kind_is i; path = path_is i; status = status_is i; clean = clean_is i; subject = subject_is i; when = when_is i; who = who_is i }
@@ -322,12 +322,12 @@ one_change bytes c d one other =
     let baseline_is = one_flag c.attributes.test_baseline_exempt d.attributes.test_baseline_exempt (ap (field_at 5) e) in
     let regression_is = one_flag c.attributes.regression_test_exempt d.attributes.regression_test_exempt (ap (field_at 6) e) in
     let phase_is = one_phase c.phase d.phase (ap (field_at 7) e) in
-    let developer_is = one_optional IsUser no_empty_user c.developer d.developer one.0.1 other.0.1 (ap (field_at 8) e) in
-    let reviewing_is = one_optional IsUser no_empty_user c.reviewing d.reviewing one.0.2 other.0.2 (ap (field_at 9) e) in
-    let reviewer_is = one_optional IsUser no_empty_user c.reviewer d.reviewer one.0.3 other.0.3 (ap (field_at 10) e) in
-    let integrator_is = one_optional IsUser no_empty_user c.integrator d.integrator one.0.4 other.0.4 (ap (field_at 11) e) in
-    let files_is = one_list FitsChangeFile change_file one_file c.files d.files one.0.5 other.0.5 (ap (field_at 12) e) in
-    let evidence_is = one_list FitsEvidence evidence_row one_run c.evidence d.evidence one.0.6 other.0.6 (ap (field_at 13) e) in
+    let developer_is = one_optional IsUser no_empty_user c.developer d.developer one.0.1.0 other.0.1.0 (ap (field_at 8) e) in
+    let reviewing_is = one_optional IsUser no_empty_user c.reviewing d.reviewing one.0.1.1 other.0.1.1 (ap (field_at 9) e) in
+    let reviewer_is = one_optional IsUser no_empty_user c.reviewer d.reviewer one.0.1.2 other.0.1.2 (ap (field_at 10) e) in
+    let integrator_is = one_optional IsUser no_empty_user c.integrator d.integrator one.0.1.3 other.0.1.3 (ap (field_at 11) e) in
+    let files_is = one_list FitsChangeFile change_file one_file c.files d.files one.0.2.0 other.0.2.0 (ap (field_at 12) e) in
+    let evidence_is = one_list FitsEvidence evidence_row one_run c.evidence d.evidence one.0.2.1 other.0.2.1 (ap (field_at 13) e) in
     let history_is = one_plain history_row one_event c.history d.history (ap (field_at 14) e) in
     λ i. record {
       number = number_is i;
