@@ -103,7 +103,7 @@ fn a_bad_field_is_told_by_its_line(rt: HostRuntime) -> Result<(), Fail> {
 fn cut_is_refused(alloc: Global, kind: &str, text: &[u8], at: usize) -> Result<bool, AllocError> {
     let front = text.get(..at).unwrap_or(text);
     let is_read = told(alloc, kind, front)?.is_ok();
-    Ok(is_read == (at + 1 >= text.len()))
+    Ok(is_read == (text.len().saturating_sub(at) <= 1))
 }
 
 fn each_cut_is_refused(alloc: Global, kind: &str, text: &[u8]) -> Result<bool, AllocError> {
