@@ -1,0 +1,12 @@
+pub mod Reading
+pub mod FileNames
+pub mod Disks
+pub mod OneRecord
+pub mod OneState
+pub mod Told
+pub mod LoadSteps
+pub mod BatchEntries
+pub mod BatchSteps
+pub mod BatchNames
+pub mod BatchTexts
+pub mod BatchWhole

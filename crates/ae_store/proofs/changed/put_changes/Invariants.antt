@@ -1,0 +1,14 @@
+use Rattle.std.proofs.Common.{ℕ, ◌<◌, Some, get_or}
+use Rattle.std.specs.Prelude.{option_copied}
+use Rattle.ae_store.specs.Names.{change_file}
+use Rattle.ae_store.specs.Batching.{AreRight, IsDone, KeepsDone, ChangeIsWritten}
+use Rattle.ae_store.proofs.changed.put_changes.Given as goal
+
+abbrev pub invariant-loop-number : goal.invariant-loop-number
+invariant-loop-number l = record {
+  right : AreRight (option_copied l.old) l.new l.entries.items;
+  done : (k : ℕ) → k < l.number-index → IsDone (option_copied l.old) l.new l.entries.items (change_file (get_or l.numbers k 0));
+  kept : KeepsDone (option_copied l.old) l.new l.initial.entries.items l.entries.items;
+  written : (k : ℕ) → k < l.number-index → ChangeIsWritten (option_copied l.old) (get_or l.numbers k 0);
+  written_new : (k : ℕ) → k < l.number-index → ChangeIsWritten (Some l.new) (get_or l.numbers k 0);
+}

@@ -1,0 +1,78 @@
+use Rattle.std.proofs.Common.{◌≢◌, ℕ, List, [], Err, sym, ◌∙◌, subst, arith}
+use Rattle.std.proofs.lemmas.Result.{err_from_is_err_and}
+use Rattle.ae_outside.specs.Image.{Image}
+use Rattle.ae_outside.specs.State.{reads}
+use Rattle.ae_outside.specs.Time.{same_on}
+use Rattle.ae_vault.specs.Vault.{files}
+use Rattle.ae_types.specs.Observation.{Observation}
+use Rattle.ae_store.specs.Names.{project_file}
+use Rattle.ae_store.specs.Damage.{ReadsProject, ReadsTable, ReadsChanges}
+use Rattle.ae_store.specs.Steps.{AreRead}
+use Rattle.ae_store.proofs.OneState.{Reads}
+use Rattle.ae_store.proofs.LoadSteps.{project_err, table_err, changes_err, checked_err, checked_ok}
+use Rattle.ae_store.proofs.loading.load_project.Goals as goal
+
+pub returns-in_err-project-clause-loaded : goal.returns-in_err-project-clause-loaded
+returns-in_err-project-clause-loaded g c = λ t.
+    let here : Image = files (reads (g.D.Disk.state c.args.disk.now)) in
+    let some : here project_file ≢ [] = λ e. c.requires.some (sym (c.requires.bytes t) ∙ e) in
+    let p = err_from_is_err_and c.from_residual.result c.from_residual.ensures.1 in
+    rw (p.1, p.2) (project_err here c.in_err-project.field-0.0 some (c.in_err-project.ensures.value here (c.requires.bytes t)))
+
+pub returns-in_err-files-clause-loaded : goal.returns-in_err-files-clause-loaded
+returns-in_err-files-clause-loaded g c = λ t.
+    let here : Image = files (reads (g.D.Disk.state c.args.disk.now)) in
+    let some : here project_file ≢ [] = λ e. c.requires.some (sym (c.requires.bytes t) ∙ e) in
+    let rp : ReadsProject here c.in_ok-project.project c.in_ok-project.numbers = c.in_ok-project.ensures.value here (c.requires.bytes t) in
+    let p = err_from_is_err_and c.from_residual-in_err-files.result c.from_residual-in_err-files.ensures.1 in
+    rw (p.1, p.2) (table_err here c.in_err-files.field-0.0 some c.in_ok-project.project c.in_ok-project.numbers rp (c.in_err-files.ensures.table t))
+
+pub returns-in_err-changes-clause-loaded : goal.returns-in_err-changes-clause-loaded
+returns-in_err-changes-clause-loaded g c = λ t.
+    let here : Image = files (reads (g.D.Disk.state c.args.disk.now)) in
+    let some : here project_file ≢ [] = λ e. c.requires.some (sym (c.requires.bytes t) ∙ e) in
+    let rp : ReadsProject here c.in_ok-project.project c.in_ok-project.numbers = c.in_ok-project.ensures.value here (c.requires.bytes t) in
+    let rt : ReadsTable here c.in_ok-project.project c.in_ok-files.files c.in_ok-files.locks = c.in_ok-files.ensures.table t in
+    let bad : AreRead here c.as_slice.result.now (Err c.in_err-changes.field-0.0) = subst (λ (f : Image). AreRead f c.as_slice.result.now (Err c.in_err-changes.field-0.0)) (c.load_table.ensures.same t) (c.in_err-changes.ensures.loaded t) in
+    let bad_here : AreRead here c.in_ok-project.numbers (Err c.in_err-changes.field-0.0) = subst (λ (ns : List ℕ). AreRead here ns (Err c.in_err-changes.field-0.0)) c.as_slice.ensures bad in
+    let p = err_from_is_err_and c.from_residual-in_err-changes.result c.from_residual-in_err-changes.ensures.1 in
+    rw (p.1, p.2) (changes_err here c.in_err-changes.field-0.0 some c.in_ok-project.project c.in_ok-project.numbers rp c.in_ok-files.files c.in_ok-files.locks rt bad_here)
+
+pub returns-in_err-state-clause-loaded : goal.returns-in_err-state-clause-loaded
+returns-in_err-state-clause-loaded g c = λ t.
+    let here : Image = files (reads (g.D.Disk.state c.args.disk.now)) in
+    let some : here project_file ≢ [] = λ e. c.requires.some (sym (c.requires.bytes t) ∙ e) in
+    let rp : ReadsProject here c.in_ok-project.project c.in_ok-project.numbers = c.in_ok-project.ensures.value here (c.requires.bytes t) in
+    let rt : ReadsTable here c.in_ok-project.project c.in_ok-files.files c.in_ok-files.locks = c.in_ok-files.ensures.table t in
+    let later : ReadsChanges here c.as_slice.result.now c.in_ok-changes.changes = subst (λ (f : Image). ReadsChanges f c.as_slice.result.now c.in_ok-changes.changes) (c.load_table.ensures.same t) (c.in_ok-changes.ensures.loaded t) in
+    let rc : ReadsChanges here c.in_ok-project.numbers c.in_ok-changes.changes = subst (λ (ns : List ℕ). ReadsChanges here ns c.in_ok-changes.changes) c.as_slice.ensures later in
+    let parts : Observation = record { project = c.in_ok-project.project; numbers = c.in_ok-project.numbers; files = c.in_ok-files.files; locks = c.in_ok-files.locks; changes = c.in_ok-changes.changes } in
+    let read : Reads here parts = record { project = rp; table = rt; changes = rc } in
+    let p = err_from_is_err_and c.from_residual-in_err-state.result c.from_residual-in_err-state.ensures.1 in
+    rw (p.1, p.2) (checked_err here parts c.in_err-state.field-0.0 some read c.in_err-state.ensures)
+
+pub returns-clause-loaded : goal.returns-clause-loaded
+returns-clause-loaded g c = λ t.
+    let here : Image = files (reads (g.D.Disk.state c.args.disk.now)) in
+    let some : here project_file ≢ [] = λ e. c.requires.some (sym (c.requires.bytes t) ∙ e) in
+    let rp : ReadsProject here c.in_ok-project.project c.in_ok-project.numbers = c.in_ok-project.ensures.value here (c.requires.bytes t) in
+    let rt : ReadsTable here c.in_ok-project.project c.in_ok-files.files c.in_ok-files.locks = c.in_ok-files.ensures.table t in
+    let later : ReadsChanges here c.as_slice.result.now c.in_ok-changes.changes = subst (λ (f : Image). ReadsChanges f c.as_slice.result.now c.in_ok-changes.changes) (c.load_table.ensures.same t) (c.in_ok-changes.ensures.loaded t) in
+    let rc : ReadsChanges here c.in_ok-project.numbers c.in_ok-changes.changes = subst (λ (ns : List ℕ). ReadsChanges here ns c.in_ok-changes.changes) c.as_slice.ensures later in
+    let parts : Observation = record { project = c.in_ok-project.project; numbers = c.in_ok-project.numbers; files = c.in_ok-files.files; locks = c.in_ok-files.locks; changes = c.in_ok-changes.changes } in
+    let read : Reads here parts = record { project = rp; table = rt; changes = rc } in
+    checked_ok here parts c.in_ok-state.state read c.in_ok-state.ensures
+
+pub returns-in_err-state-clause-change : goal.returns-in_err-state-clause-change
+returns-in_err-state-clause-change g c = λ t.
+    same_on _ _ _ (c.load_table.ensures.change t) (c.load_changes.ensures.change t)
+
+pub returns-clause-change : goal.returns-clause-change
+returns-clause-change g c = λ t.
+    same_on _ _ _ (c.load_table.ensures.change t) (c.load_changes.ensures.change t)
+
+pub returns-clause-cause : goal.returns-clause-cause
+returns-clause-cause g c = record {
+  later = let first = c.load_table.ensures.cause.later in let second = c.load_changes.ensures.cause.later in omega arith;
+  rose = λ fault. cc;
+}

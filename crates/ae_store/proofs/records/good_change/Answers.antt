@@ -1,0 +1,25 @@
+use Rattle.std.proofs.Common.{ℕ, List, Err, sym, ◌∙◌, subst, arith}
+use Rattle.std.proofs.lemmas.Bool.Decides.{nat_tests}
+use Rattle.ae_schema.specs.Files.{change_fields}
+use Rattle.ae_schema.specs.Records.{IsTextOf}
+use Rattle.ae_types.specs.declared.blame.Blame.TheVariants as blame
+use Rattle.ae_store.specs.Damage.{ReadsChange}
+use Rattle.ae_store.specs.Steps.{IsReading}
+use Rattle.ae_store.proofs.Reading.{stops, reading_err}
+use Rattle.ae_store.proofs.records.good_change.Goals as goal
+
+pub returns-then-change_is_good-clause-value : goal.returns-then-change_is_good-clause-value
+returns-then-change_is_good-clause-value c = λ files at. record {
+  is = (c.in-Ok.ensures.fits, subst (λ (bytes : List ℕ). IsTextOf bytes (change_fields c.in-Ok.change)) (sym at) c.in-Ok.ensures.found);
+  numbered = let same = c.if-eq.true in let tested = c.eq.ensures in grind (arith, nat_tests);
+  good = sym c.change_is_good.ensures ∙ c.if-change_is_good.true;
+}
+
+pub returns-in-Err-clause-value : goal.returns-in-Err-clause-value
+returns-in-Err-clause-value c = λ files at.
+    subst (λ s. IsReading (ReadsChange files c.args.number) (blame.Change c.args.number) (Err s)) (sym c.stop_of.ensures)
+    (reading_err (ReadsChange files c.args.number) (blame.Change c.args.number) c.in-Err.error c.read_change.result c.in-Err.is
+    (λ change reads. c.read_change.ensures.only change reads.is.0 (subst (λ (bytes : List ℕ). IsTextOf bytes (change_fields change)) at reads.is.1)))
+
+pub returns-in-Err-clause-no_fault : goal.returns-in-Err-clause-no_fault
+returns-in-Err-clause-no_fault c = λ fault. stops c.in-Err.error _ c.stop_of.result c.stop_of.ensures fault

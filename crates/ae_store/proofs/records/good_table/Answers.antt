@@ -1,0 +1,29 @@
+use Rattle.std.proofs.Common.{◌≡◌, ℕ, false, length, List, Err, refl, sym, subst, arith}
+use Rattle.ae_schema.specs.Files.{files_fields}
+use Rattle.ae_schema.specs.Records.{IsTextOf}
+use Rattle.ae_types.specs.declared.blame.Blame.TheVariants as blame
+use Rattle.ae_types.specs.declared.file_table.FileRow.{FileRow}
+use Rattle.ae_types.specs.declared.file_table.Lock.{Lock}
+use Rattle.ae_types.specs.Rules.{files_are_good}
+use Rattle.ae_store.specs.Damage.{ReadsTable}
+use Rattle.ae_store.specs.Steps.{IsReading}
+use Rattle.ae_store.proofs.Reading.{stops, reading_err, none_read}
+use Rattle.ae_store.proofs.records.good_table.Goals as goal
+
+pub returns-else-files_are_good-clause-value : goal.returns-else-files_are_good-clause-value
+returns-else-files_are_good-clause-value c = λ files at.
+    let bad : files_are_good (length c.args.project.now.deltas) c.in-Ok.rows ≡ false = grind arith in (
+      refl,
+      none_read (λ (t : List FileRow × List Lock). ReadsTable files c.args.project.now t.0 t.1) (c.in-Ok.rows, c.in-Ok.locks) c.read_files.result c.in-Ok.is
+          (λ t reads. c.read_files.ensures.only t reads.is.0 (subst (λ (bytes : List ℕ). IsTextOf bytes (files_fields t)) at reads.is.1))
+          (λ reads. let good = reads.good in cc),
+    )
+
+pub returns-in-Err-clause-value : goal.returns-in-Err-clause-value
+returns-in-Err-clause-value c = λ files at.
+    subst (λ s. IsReading (λ (t : List FileRow × List Lock). ReadsTable files c.args.project.now t.0 t.1) blame.Files (Err s)) (sym c.stop_of.ensures)
+    (reading_err (λ (t : List FileRow × List Lock). ReadsTable files c.args.project.now t.0 t.1) blame.Files c.in-Err.error c.read_files.result c.in-Err.is
+    (λ t reads. c.read_files.ensures.only t reads.is.0 (subst (λ (bytes : List ℕ). IsTextOf bytes (files_fields t)) at reads.is.1)))
+
+pub returns-in-Err-clause-no_fault : goal.returns-in-Err-clause-no_fault
+returns-in-Err-clause-no_fault c = λ fault. stops c.in-Err.error _ c.stop_of.result c.stop_of.ensures fault
