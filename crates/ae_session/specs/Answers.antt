@@ -1,5 +1,5 @@
 -- How a call ends, and what is written of it.
-use Rattle.std.specs.Prelude.{◌≡◌, ◌≢◌, ◌⊎◌, ℕ, List, [], ◌∷◌, ◌++◌, codes}
+use Rattle.std.specs.Prelude.{◌≡◌, ◌≢◌, ◌⊎◌, ℕ, List, [], ◌∷◌, ◌++◌, codes, Option, Some, None}
 use Rattle.std.specs.Fmt.{decimal}
 use Rattle.ae_base.specs.declared.outcome.Outcome.{Outcome}
 use Rattle.ae_base.specs.declared.outcome.Outcome.TheVariants.{Done, RunFailed, Refused, BadWords, BadScript, DiskFault, SiteFault, SinkFault, SourceFault, Damaged, Memory}
@@ -8,24 +8,43 @@ use Rattle.ae_base.specs.Refusals.{message_of}
 use Rattle.ae_outside.specs.Causes.{HasRisen}
 use Rattle.ae_outside.specs.Image.{Image}
 use Rattle.ae_outside.specs.Streams.{TakesPrefix}
-use Rattle.ae_session.specs.Records.{project_text, files_text}
+use Rattle.ae_types.specs.Observation.{Observation}
+use Rattle.ae_vault.specs.Vault.{effective}
+use Rattle.ae_store.specs.Names.{project_file, files_file}
+use Rattle.ae_store.specs.Records.{Stands}
+use Rattle.ae_store.specs.Answers.{IsNamed}
 
-abbrev pub project_file : List ℕ
-project_file = codes "project"
-
-abbrev pub files_file : List ℕ
-files_file = codes "files"
+-- the store is damaged, and this is the file that is named: `body` where the gate is open and it isn't in its grammar, else
+-- the state file that breaks a rule first
+pub data IsDamagedAt (image : Image) (name : List ℕ) : Type 0 where
+  body : effective image ≡ None → name ≡ codes "body" → IsDamagedAt image name
+  record_of : (files : Image) → effective image ≡ Some files → IsNamed files name → IsDamagedAt image name
 
 -- How a call may end, and the cause of each outcome: `bad` are the places at which the call is bad, `asks` that it asks
--- for a project, `project` is what the file of that name held where the disk tells it, and the last two say that the
--- disk's or the sink's count of faults rose.
-pub data EndsAs (bad : ℕ → Type 0) (asks tells : Type 0) (project : List ℕ) (disk_rose sink_rose : Type 0) : Outcome → Type 0 where
-  bad_words : (place : ℕ) → bad place → EndsAs bad asks tells project disk_rose sink_rose (BadWords place)
-  exists : asks → (tells → project ≢ []) → EndsAs bad asks tells project disk_rose sink_rose (Refused ProjectExists)
-  created : asks → (tells → project ≡ []) → EndsAs bad asks tells project disk_rose sink_rose Done
-  disk_fault : asks → disk_rose → EndsAs bad asks tells project disk_rose sink_rose DiskFault
-  sink_fault : sink_rose → EndsAs bad asks tells project disk_rose sink_rose SinkFault
-  memory : EndsAs bad asks tells project disk_rose sink_rose Memory
+-- for a project, `image` is what the disk read where it is told, and the last two say that the disk's or the sink's count
+-- of faults rose.
+pub data EndsAs (bad : ℕ → Type 0) (asks told : Type 0) (image : Image) (disk_rose sink_rose : Type 0) : Outcome → Type 0 where
+  bad_words : (place : ℕ) → bad place → EndsAs bad asks told image disk_rose sink_rose (BadWords place)
+  exists : asks → (told → (o : Observation) × Stands image (Some o)) → EndsAs bad asks told image disk_rose sink_rose (Refused ProjectExists)
+  created : asks → (told → Stands image None) → EndsAs bad asks told image disk_rose sink_rose Done
+  damaged : (name : List ℕ) → asks → (told → IsDamagedAt image name) → EndsAs bad asks told image disk_rose sink_rose (Damaged name)
+  disk_fault : asks → disk_rose → EndsAs bad asks told image disk_rose sink_rose DiskFault
+  sink_fault : sink_rose → EndsAs bad asks told image disk_rose sink_rose SinkFault
+  memory : EndsAs bad asks told image disk_rose sink_rose Memory
+
+-- the outcomes of a call that changes nothing
+abbrev pub ChangesNothing : Outcome → Type 0
+ChangesNothing (Refused refusal) = Unit {0}
+ChangesNothing (BadWords place) = Unit {0}
+ChangesNothing (Damaged name) = Unit {0}
+ChangesNothing Memory = Unit {0}
+ChangesNothing Done = ⊥
+ChangesNothing RunFailed = ⊥
+ChangesNothing (BadScript line) = ⊥
+ChangesNothing DiskFault = ⊥
+ChangesNothing SiteFault = ⊥
+ChangesNothing SinkFault = ⊥
+ChangesNothing SourceFault = ⊥
 
 abbrev pub created_text : List ℕ → List ℕ
 created_text name = codes "aegis: project \"" ++ (name ++ (codes "\": created" ++ 10 ∷ []))
@@ -35,6 +54,10 @@ bad_words_text place = codes "aegis: word " ++ (decimal place ++ (codes " is not
 
 abbrev pub disk_fault_text : List ℕ
 disk_fault_text = codes "aegis: disk fault" ++ 10 ∷ []
+
+-- a file of the store is named
+abbrev pub damaged_text : List ℕ → List ℕ
+damaged_text name = codes "aegis: \"" ++ (name ++ (codes "\" is damaged" ++ 10 ∷ []))
 
 abbrev pub memory_text : List ℕ
 memory_text = codes "aegis: out of memory" ++ 10 ∷ []
@@ -51,16 +74,13 @@ IsMessage made (BadScript line) text = text ≡ []
 IsMessage made SiteFault text = text ≡ []
 IsMessage made SinkFault text = text ≡ []
 IsMessage made SourceFault text = text ≡ []
-IsMessage made (Damaged file) text = text ≡ []
+IsMessage made (Damaged name) text = text ≡ damaged_text name
 
--- the two files of a new project of this name, made by this user
-pub record HoldsProject (name who : List ℕ) (image : Image) : Type 0 where
-  pub files : image files_file ≡ files_text
-  pub project : image project_file ≡ project_text name who
-
--- no other file is changed
-abbrev pub OthersSame : Image → Image → Type 0
-OthersSame old new = (name : List ℕ) → name ≢ files_file → name ≢ project_file → new name ≡ old name
+-- no file but the two of a new project is changed
+abbrev pub OthersSame : Option Image → Option Image → Type 0
+OthersSame None new = new ≡ None
+OthersSame (Some old) None = ⊥
+OthersSame (Some old) (Some new) = (name : List ℕ) → name ≢ project_file → name ≢ files_file → new name ≡ old name
 
 -- some first bytes of the message were taken, and all of it unless the count of faults rose
 pub record IsTried (message old new : List ℕ) (faults faults_new : ℕ) : Type 0 where

@@ -1,4 +1,6 @@
 pub mod Answers
-pub mod Records
+pub mod Makes
+pub mod NewProject
 pub mod Replies
 pub mod Request
+pub mod Stops

@@ -3,10 +3,10 @@ ghost use Rattle.std.specs.Prelude.{◌≡◌, ◌≤◌, ◌⊎◌, ◌++◌, �
 ghost use Rattle.ae_base.specs.Refusals.{message_of};
 ghost use Rattle.ae_outside.specs.Causes.{HasRisen, HasCause};
 ghost use Rattle.ae_outside.specs.Streams.{TakesPrefix};
-ghost use Rattle.ae_session.specs.Answers.{IsMessage, bad_words_text, created_text, IsSaid};
+ghost use Rattle.ae_session.specs.Answers.{IsMessage, bad_words_text, created_text, damaged_text, IsSaid};
 
 use crate::request::Request;
-use ae_base::{Outcome, Refusal};
+use ae_base::{Outcome, Refusal, Text};
 use ae_outside::{Failed, Sink};
 use std::alloc::{AllocError, Global};
 
@@ -130,4 +130,24 @@ pub fn refused(alloc: Global, refusal: Refusal) -> Reply
         Ok(text) => Reply::of(Outcome::Refused(refusal), text),
         Err(_) => Reply::bare(alloc, Outcome::Memory),
     }
+}
+
+/// This file of the store is damaged.
+pub fn damaged(alloc: Global, name: Text) -> Reply
+    ensures outcome { (result.outcome ≡ Outcome.Damaged name) ⊎ (result.outcome ≡ Outcome.Memory) }
+    ensures text { IsMessage (λ name. ⊥) result.outcome (reply_text result.outcome result.text.items) }
+{
+    match damaged_message(alloc, &name) {
+        Ok(text) => Reply::of(Outcome::Damaged(name), text),
+        Err(_) => Reply::bare(alloc, Outcome::Memory),
+    }
+}
+
+fn damaged_message(alloc: Global, name: &Text) -> Result<Vec<u8>, AllocError>
+    ensures { IfOk result (λ text. text.items ≡ damaged_text name.now) }
+{
+    let mut text = Vec::from_slice(alloc, b"aegis: \"")?;
+    text.extend_from_slice(name.bytes())?;
+    text.extend_from_slice(b"\" is damaged\n")?;
+    Ok(text)
 }

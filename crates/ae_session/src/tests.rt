@@ -1,6 +1,7 @@
 // A project is made, once.
 use super::*;
-use ae_outside::{Disk, MemDisk, MemRunList, MemSink, MemSite, MemSource, ReadError};
+use ae_outside::{Disk, MemDisk, MemRunList, MemSink, MemSite, MemSource, Pick, ReadError};
+use ae_vault::Vault;
 use std::alloc::{AllocError, Global};
 use std::process::Abort;
 use std::test::Fail;
@@ -107,7 +108,7 @@ fn its_files_are_canonical(rt: HostRuntime) -> Result<(), Fail> {
     assert_eq!(rt; status_of_demo(alloc, &mut world)?, 0);
     assert_eq!(rt; project_in(alloc, &mut world.disk)?.as_slice(), PROJECT);
     let files = world.disk.read_at(alloc, "files", 0, 1000)?;
-    assert_eq!(rt; files.as_slice(), b"files = [];\nlocks = [];\n".as_slice());
+    assert_eq!(rt; files.as_slice(), FILES);
     Ok(())
 }
 
@@ -205,4 +206,85 @@ fn a_reply_that_cannot_be_written_is_a_sink_fault(rt: HostRuntime) -> Result<(),
     assert_eq!(rt; status_of_demo(alloc, &mut world)?, 5);
     assert_eq!(rt; project_in(alloc, &mut world.disk)?.as_slice(), PROJECT);
     Ok(())
+}
+
+static FILES: &[u8] = b"files = [];\nlocks = [];\n";
+
+// Whether a stop behind so many calls leaves no project or the whole one, once the disk is opened; at the end the whole one.
+fn is_none_or_whole(
+    rt: &impl Abort,
+    alloc: Global,
+    disk: &MemDisk,
+    calls: u64,
+    pick: Pick,
+) -> Result<bool, Fail> {
+    assert!(rt; calls <= disk.calls());
+    let mut left = disk.after_stop(alloc, calls, pick)?;
+    Vault::open(alloc, &mut left)?;
+    let project = Vault::get(alloc, &mut left, "project")?;
+    let files = Vault::get(alloc, &mut left, "files")?;
+    let is_none = project.is_empty() && files.is_empty() && calls < disk.calls();
+    Ok(is_none || (project.as_slice() == PROJECT && files.as_slice() == FILES))
+}
+
+#[test]
+fn a_stop_anywhere_leaves_no_project_or_the_whole_one(rt: HostRuntime) -> Result<(), Fail> {
+    let alloc = rt.alloc();
+    let mut world = make_world(alloc, &[], &[])?;
+    assert_eq!(rt; status_of_demo(alloc, &mut world)?, 0);
+    for calls in 0..world.disk.calls() + 1 {
+        for pick in [Pick::Old, Pick::New, Pick::Zeros, Pick::Ones] {
+            assert!(rt; is_none_or_whole(&rt, alloc, &world.disk, calls, pick)?);
+        }
+    }
+    Ok(())
+}
+
+// What `-npr other` by bob is told over the disk of a world.
+fn is_told_other(
+    rt: &impl Abort,
+    alloc: Global,
+    world: &mut World,
+    status: u8,
+    message: &[u8],
+) -> Result<(), Fail> {
+    let before = world.err.taken().len();
+    assert_eq!(rt; status_of(alloc, world, &["-npr", "other"], "bob", 0)?, status);
+    assert!(rt; before <= world.err.taken().len());
+    assert_eq!(rt; &world.err.taken()[before..], message);
+    Ok(())
+}
+
+#[test]
+fn a_project_without_its_fields_is_damaged(rt: HostRuntime) -> Result<(), Fail> {
+    let alloc = rt.alloc();
+    let mut world = make_world(alloc, &[], &[])?;
+    world.disk.write_at("project", 0, b"format = 1;")?;
+    is_told_other(&rt, alloc, &mut world, 7, b"aegis: \"project\" is damaged\n")
+}
+
+#[test]
+fn files_cut_to_nothing_are_damaged(rt: HostRuntime) -> Result<(), Fail> {
+    let alloc = rt.alloc();
+    let mut world = make_world(alloc, &[], &[])?;
+    assert_eq!(rt; status_of_demo(alloc, &mut world)?, 0);
+    world.disk.cut("files", 0)?;
+    is_told_other(&rt, alloc, &mut world, 7, b"aegis: \"files\" is damaged\n")
+}
+
+#[test]
+fn a_project_cut_to_nothing_is_none(rt: HostRuntime) -> Result<(), Fail> {
+    let alloc = rt.alloc();
+    let mut world = make_world(alloc, &[], &[])?;
+    assert_eq!(rt; status_of_demo(alloc, &mut world)?, 0);
+    world.disk.cut("project", 0)?;
+    is_told_other(&rt, alloc, &mut world, 0, b"aegis: project \"other\": created\n")
+}
+
+#[test]
+fn an_open_gate_without_a_body_is_damaged(rt: HostRuntime) -> Result<(), Fail> {
+    let alloc = rt.alloc();
+    let mut world = make_world(alloc, &[], &[])?;
+    world.disk.write_at("gate", 0, &[1])?;
+    is_told_other(&rt, alloc, &mut world, 7, b"aegis: \"body\" is damaged\n")
 }
