@@ -66,7 +66,6 @@ module _ {Log : Type 0} (Stands : Image → Log → Type 0) (by_files : ByFiles 
   module _ (one : (f : Image) (l m : Log) → Stands f l → Stands f m → l ≡ m) (batch : BatchRecord) (log next : Log)
       (before : (f g : Image) → Stands f log → IsBeforeBatch batch f g → Stands g log)
       (after : (f g : Image) → Stands f log → IsAfterBatch batch f g → Stands g next) where
-
     -- what an image at a moment of the commit stands for
     of_moment : (base : DiskState) (read : Image) (images : Image → Type 0) → Holds Stands base (log ∷ []) → BatchAt batch base read images → (f : Image) → images f → StandsForOne Stands (log ∷ next ∷ []) f
     of_moment base read images holds at f is =
@@ -109,7 +108,7 @@ module _ {Log : Type 0} (Stands : Image → Log → Type 0) (by_files : ByFiles 
         → IsAfterBatch batch (reads base) (reads disk) → Holds Stands disk (next ∷ [])
     done_holds base disk holds clean all read =
         let stands : (from f : Image) → MayLeave base from → IsAfterBatch batch from f → Stands f next =
-              λ from f is put. let stood = holds.each from is in after from f (subst (λ (l : Log). Stands from l) (sym (only_one log stood.0 stood.1)) stood.2) put in
+        λ from f is put. let stood = holds.each from is in after from f (subst (λ (l : Log). Stands from l) (sym (only_one log stood.0 stood.1)) stood.2) put in
         let base_stands : Stands (reads base) log = subst (λ (l : Log). Stands (reads base) l) (sym (only_one log holds.read.0 holds.read.1)) holds.read.2 in
         let now : Stands (reads disk) next = after (reads base) (reads disk) base_stands read in
         record {

@@ -249,7 +249,10 @@ fn is_told_other(
     message: &[u8],
 ) -> Result<(), Fail> {
     let before = world.err.taken().len();
-    assert_eq!(rt; status_of(alloc, world, &["-npr", "other"], "bob", 0)?, status);
+    assert_eq!(rt;
+        status_of(alloc, world, &["-npr", "other"], "bob", 0)?,
+        status
+    );
     assert!(rt; before <= world.err.taken().len());
     assert_eq!(rt; &world.err.taken()[before..], message);
     Ok(())
@@ -260,7 +263,13 @@ fn a_project_without_its_fields_is_damaged(rt: HostRuntime) -> Result<(), Fail> 
     let alloc = rt.alloc();
     let mut world = make_world(alloc, &[], &[])?;
     world.disk.write_at("project", 0, b"format = 1;")?;
-    is_told_other(&rt, alloc, &mut world, 7, b"aegis: \"project\" is damaged\n")
+    is_told_other(
+        &rt,
+        alloc,
+        &mut world,
+        7,
+        b"aegis: \"project\" is damaged\n",
+    )
 }
 
 #[test]
@@ -278,7 +287,13 @@ fn a_project_cut_to_nothing_is_none(rt: HostRuntime) -> Result<(), Fail> {
     let mut world = make_world(alloc, &[], &[])?;
     assert_eq!(rt; status_of_demo(alloc, &mut world)?, 0);
     world.disk.cut("project", 0)?;
-    is_told_other(&rt, alloc, &mut world, 0, b"aegis: project \"other\": created\n")
+    is_told_other(
+        &rt,
+        alloc,
+        &mut world,
+        0,
+        b"aegis: project \"other\": created\n",
+    )
 }
 
 #[test]
