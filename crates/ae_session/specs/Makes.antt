@@ -1,5 +1,5 @@
 -- When no project is put.
-use Rattle.std.specs.Prelude.{Result, Ok, Err, ℕ, List}
+use Rattle.std.specs.Prelude.{Result, Ok, Err}
 use Rattle.ae_session.specs.declared.make.MakeError.{MakeError}
 use Rattle.ae_session.specs.declared.make.MakeError.TheVariants.{Exists, Damaged, DiskFault, Memory}
 

@@ -1,4 +1,4 @@
-use Rattle.std.proofs.Common.{rules, ◌≡◌, ◌∷◌, [], sym, ◌∙◌, ap, Err, None}
+use Rattle.std.proofs.Common.{rules, ◌∷◌, [], None}
 use Rattle.ae_store.specs.Records.{Stands}
 use Rattle.ae_session.proofs.Held.{same_holds}
 use Rattle.ae_session.proofs.Stores.{by_files, begun, and_more, all_put, absent_before, damaged_by_files}

@@ -1,4 +1,4 @@
-use Rattle.std.proofs.Common.{◌≡◌, ◌∙◌, refl, sym, ap, subst, List, ℕ, map, None, Some}
+use Rattle.std.proofs.Common.{◌≡◌, ◌∙◌, refl, sym, ap, subst, map, None, Some}
 use Rattle.ae_store.specs.Changed.{entry_for}
 use Rattle.ae_store.specs.Records.{StandsFor}
 use Rattle.ae_types.specs.Found.{number_of_change}

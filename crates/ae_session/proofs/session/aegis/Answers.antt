@@ -1,4 +1,4 @@
-use Rattle.std.proofs.Common.{◌≡◌, ◌∙◌, sym, subst}
+use Rattle.std.proofs.Common.{◌∙◌}
 use Rattle.ae_outside.specs.State.{reads}
 use Rattle.ae_session.proofs.Asking.{asks_or_bad}
 use Rattle.ae_session.proofs.Endings.{ends_told, meant_done, told_same, changed_nothing}

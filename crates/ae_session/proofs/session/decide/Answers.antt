@@ -1,4 +1,4 @@
-use Rattle.std.proofs.Common.{◌≡◌, ◌++◌, ◌∷◌, [], ℕ, List, Option, Some, map, string_bytes, inl, inr, sym, ap, subst, Err}
+use Rattle.std.proofs.Common.{◌++◌, ◌∷◌, [], ℕ, List, Some, map, string_bytes, inl, inr, sym, ap, subst, Err}
 use Rattle.ae_store.specs.Records.{Stands}
 use Rattle.ae_types.specs.Observation.{Observation}
 use Rattle.ae_vault.specs.Kept.{Holds}
@@ -8,7 +8,7 @@ use Rattle.ae_session.specs.NewProject.{new_project}
 use Rattle.ae_session.specs.Stops.{Leaves}
 use Rattle.ae_session.proofs.Asking.{asks_once, asks_or_bad}
 use Rattle.ae_session.proofs.Endings.{ends_for, message_on}
-use Rattle.ae_session.proofs.Stores.{still, unmoved, same_project}
+use Rattle.ae_session.proofs.Stores.{still, same_project}
 use Rattle.ae_session.proofs.session.decide.Goals as goal
 
 pub returns-in-Ok-clause-ends : goal.returns-in-Ok-clause-ends
