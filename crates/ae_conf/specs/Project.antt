@@ -6,7 +6,7 @@ use Rattle.ae_conf.specs.declared.kind.FieldKind.{FieldKind}
 use Rattle.ae_conf.specs.declared.kind.FieldKind.TheVariants.{Text, Flag, EndAction}
 use Rattle.ae_conf.specs.Values.{text_in, flag_in, end_action_in}
 use Rattle.ae_conf.specs.Fields.{given}
-use Rattle.ae_conf.specs.Said.{right_fields, making}
+use Rattle.ae_conf.specs.RightFields.{right_fields, making}
 
 -- the fields that it may have, each with its kind
 abbrev pub project_kinds : List (List ℕ × FieldKind)

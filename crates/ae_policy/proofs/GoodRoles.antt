@@ -32,6 +32,7 @@ AllDiffer-append (u ∷ us) user d none = (all us d.0, AllDiffer-append us user 
   where
     apart : (bytes_eq user u ≡ false) × (has_user us user ≡ false)
     apart = neither (bytes_eq user u) (has_user us user) none
+
     all : (vs : List (List ℕ)) → AllByRecursion (λ y. bytes_eq u y ≡ false) vs → AllByRecursion (λ y. bytes_eq u y ≡ false) (vs ++ user ∷ [])
     all [] h = (nat_list_eq_equiv.symm u user ∙ apart.0, tt)
     all (v ∷ vs) h = (h.0, all vs h.1)

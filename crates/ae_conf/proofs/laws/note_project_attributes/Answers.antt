@@ -3,9 +3,9 @@ use Rattle.std.specs.Option.{option_map_or}
 use Rattle.ae_text.specs.Tree.{Node}
 use Rattle.ae_types.specs.declared.project.Attributes.{Attributes}
 use Rattle.ae_conf.specs.Fields.{fields_in}
-use Rattle.ae_conf.specs.Said.{right_fields, making}
+use Rattle.ae_conf.specs.RightFields.{right_fields, making}
 use Rattle.ae_conf.specs.Project.{project_kinds, given_project, project_attributes}
-use Rattle.ae_conf.proofs.Saying.{text_fields, error_line}
+use Rattle.ae_conf.proofs.Texts.{text_fields, error_line}
 use Rattle.ae_conf.proofs.laws.note_project_attributes.Goals as goal
 
 -- the attributes of the fields that are right

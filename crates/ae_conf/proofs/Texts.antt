@@ -8,7 +8,7 @@ use Rattle.ae_text.proofs.Errors.{never_both, one_line}
 use Rattle.ae_conf.specs.declared.kind.FieldKind.{FieldKind}
 use Rattle.ae_conf.specs.Reading.{IsText, IsNoText, reading}
 use Rattle.ae_conf.specs.Fields.{fields_in, right_or_line}
-use Rattle.ae_conf.specs.Said.{fields_read, right_fields}
+use Rattle.ae_conf.specs.RightFields.{fields_read, right_fields}
 
 pub text_fields : (kinds : List (List ℕ × FieldKind)) (bytes : List ℕ) (tree : Node) (lines : List ℕ) → Reads bytes tree lines → right_fields kinds bytes ≡ right_or_line kinds (fields_in tree) lines
 text_fields kinds bytes tree lines reads = by (reading bytes) where
