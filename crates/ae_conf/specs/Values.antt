@@ -1,7 +1,7 @@
 -- What the values of a text are.
 use Rattle.std.specs.Prelude.{ℕ, Bool, true, false, List, [], ◌∷◌, Option, Some, None, codes, find}
 use Rattle.std.specs.Str.{bytes_eq}
-use Rattle.ae_text.specs.Tree.{Node, word, number, str, list, fields}
+use Rattle.ae_text.specs.Tree.{Node, word, str}
 use Rattle.ae_base.specs.Words.{cause_word, causes}
 use Rattle.ae_base.specs.declared.words.Cause.{Cause}
 use Rattle.ae_types.specs.declared.project.EndAction.{EndAction}

@@ -1,4 +1,4 @@
-use Rattle.std.proofs.Common.{◌≡◌, sym, ◌∙◌, refl, Some, None, rules}
+use Rattle.std.proofs.Common.{◌≡◌, sym, ◌∙◌, refl, Some, None}
 use Rattle.std.specs.Prelude.{position, slice_get}
 use Rattle.ae_text.specs.View.{named_node, fields_seen}
 use Rattle.ae_conf.specs.Fields.{kinds_seen, is_wrong}
