@@ -4,3 +4,8 @@ pub mod Listed
 pub mod Steps
 pub mod ProjectSteps
 pub mod MakingSteps
+pub mod OneChange
+pub mod Calm
+pub mod Quiet
+pub mod SoundProject
+pub mod SoundMaking

@@ -5,4 +5,7 @@ mod event;
 mod laws;
 
 pub use event::{Event, EventKind, EventList, PlaceList, RunEvent};
-pub use laws::{first_event_follows, making_events_follow, project_events_follow};
+pub use laws::{
+    first_event_follows, first_event_is_sound, making_events_follow, making_events_keep_rules,
+    project_events_follow, project_events_keep_rules,
+};
