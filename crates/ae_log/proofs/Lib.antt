@@ -5,6 +5,8 @@ pub mod Steps
 pub mod ProjectSteps
 pub mod MakingSteps
 pub mod OneChange
+pub mod Steady
+pub mod Still
 pub mod Calm
 pub mod Quiet
 pub mod SoundProject
@@ -19,3 +21,10 @@ pub mod ReturnSteps
 pub mod PassSteps
 pub mod EndSteps
 pub mod Following
+pub mod SoundQuiet
+pub mod Gone
+pub mod SoundReturn
+pub mod SoundIntegration
+pub mod PassedTree
+pub mod OneMore
+pub mod SoundPass

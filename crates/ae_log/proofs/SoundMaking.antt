@@ -28,7 +28,8 @@ use Rattle.ae_log.specs.Applies.{AppliesBy, comes_in, Suits}
 use Rattle.ae_log.specs.Laws.{KeepsRules, IsOfMaking}
 use Rattle.ae_log.proofs.Steps.{of_change}
 use Rattle.ae_log.proofs.OneChange.{never}
-use Rattle.ae_log.proofs.Quiet.{quiet-keeps, version_in}
+use Rattle.ae_log.proofs.Still.{version_in}
+use Rattle.ae_log.proofs.Quiet.{quiet-keeps}
 
 -- ---- a change is made
 
