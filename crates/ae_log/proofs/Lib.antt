@@ -3,7 +3,6 @@ pub mod Ascending
 pub mod Listed
 pub mod Steps
 pub mod ProjectSteps
-pub mod MakingSteps
 pub mod OneChange
 pub mod Steady
 pub mod Still
@@ -14,6 +13,7 @@ pub mod SoundMaking
 pub mod RunSteps
 pub mod FileSteps
 pub mod ChangeSteps
+pub mod MakingSteps
 pub mod DevelopmentSteps
 pub mod ReviewSteps
 pub mod LockSteps
@@ -28,3 +28,6 @@ pub mod SoundIntegration
 pub mod PassedTree
 pub mod OneMore
 pub mod SoundPass
+pub mod Numbered
+pub mod SoundEnd
+pub mod Keeping

@@ -1,5 +1,5 @@
 // What holds of one more event.
-ghost use Rattle.ae_log.specs.Laws.{Begins, BeginsSound, Follows, KeepsRules, IsOfProject, IsOfMaking};
+ghost use Rattle.ae_log.specs.Laws.{Begins, BeginsSound, Follows, KeepsRules};
 
 /// What stands after the first event is the project that it makes.
 pub fn first_event_follows()
@@ -16,12 +16,7 @@ pub fn observation_follows()
     ensures { Follows }
 {}
 
-/// An event of the project's settings and roles keeps the rules.
-pub fn project_events_keep_rules()
-    ensures { KeepsRules IsOfProject }
-{}
-
-/// The rules are kept where a change is made or taken away, or gets other settings.
-pub fn making_events_keep_rules()
-    ensures { KeepsRules IsOfMaking }
+/// An event keeps the rules of the records.
+pub fn rules_kept()
+    ensures { KeepsRules }
 {}

@@ -5,7 +5,4 @@ mod event;
 mod laws;
 
 pub use event::{Event, EventKind, EventList, PlaceList, RunEvent};
-pub use laws::{
-    first_event_follows, first_event_is_sound, making_events_keep_rules, observation_follows,
-    project_events_keep_rules,
-};
+pub use laws::{first_event_follows, first_event_is_sound, observation_follows, rules_kept};
