@@ -54,7 +54,7 @@ free-is log a c p has e = go (member by_text p (paths log)) refl (sym (at-filter
 end-found : (log : Log) (o : Observation) (who : List ℕ) (when c : ℕ) (tree : Rows) (to : Phase) (places : List ℕ) (a : Attributes) → Finds log o a c (on.End tree to places)
     → observation_with (of_change who when c (on.End tree to places) ∷ log) a ≡ after (observation_with log a) (of_change who when c (on.End tree to places))
 end-found log o who when c tree to places a f =
-    with-end log who when c tree to places f.is_of.numbered (ap (λ (v : Option ChangeAttributes). is_some v) f.is_of.has) (ap holds_locks (developed-is _ f.comes)) f.suits.to_review
+    with-end log who when c tree to places f.is_of.numbered (ap (λ (v : Option ChangeAttributes). is_some v) f.is_of.has) (ap holds_locks (developed-is _ f.comes)) f.suits.fits.to_review
     (λ p has. free-is log a c p has (ap (λ (q : Observation). lock_in q.locks p) f.stands ∙ held p (file (course log c) p) refl has)) a f.is_of.given f.is_of.has
   where
     held : (p : List ℕ) (fact : Option FileFact) → file (course log c) p ≡ fact → is_some fact ≡ true → lock_in o.locks p ≡ None

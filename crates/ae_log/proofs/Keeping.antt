@@ -8,8 +8,8 @@ use Rattle.ae_types.specs.Sound.{Sound, IsMoment}
 use Rattle.ae_log.specs.declared.event.EventKind.{EventKind}
 use Rattle.ae_log.specs.declared.event.EventKind.TheVariants as on
 use Rattle.ae_log.specs.After.{after}
-use Rattle.ae_log.specs.Applies.{AppliesBy, comes_in, Suits}
-use Rattle.ae_log.specs.Laws.{KeepsRules}
+use Rattle.ae_log.specs.Applies.{AppliesTo, AppliesAlone, AppliesBy, comes_in, Suits, Fits, Names, NamesOne, NamesNone}
+use Rattle.ae_log.specs.Laws.{KeepsRules, MayBeApplied}
 use Rattle.ae_log.proofs.Steps.{of_change}
 use Rattle.ae_log.proofs.ProjectSteps.{out-of-phase}
 use Rattle.ae_log.proofs.ChangeSteps.{awaits-is, developed-is, awaits_review-is, reviewed-is, awaits_integration-is, integrated-is}
@@ -61,3 +61,28 @@ keeps-by o who when None kind s t m = absurd m
 
 pub keeps : KeepsRules
 keeps o event s m = keeps-by o event.who event.when event.change event.what s m.moment m.comes
+
+-- ---- an event that may come may be applied
+
+weaker : (o : Observation) (kind : EventKind) (x : Option Change) → ((change : Change) → Suits o change kind → Fits change kind)
+    → IsSomeAnd x (λ (change : Change). (comes_in kind change.phase ≡ true) × Suits o change kind) → IsSomeAnd x (λ (change : Change). (comes_in kind change.phase ≡ true) × Fits change kind)
+weaker o kind (Some x) fits h = (h.0, fits x h.1)
+weaker o kind None fits h = h
+
+names-one : (o : Observation) (c : ℕ) (kind : EventKind) → AppliesTo o c kind → NamesOne o c kind
+names-one o c (on.New b) m = m.1
+names-one o c (on.End tree to places) m = weaker o (on.End tree to places) (change_at o c) (λ change may. may.fits) m
+names-one o c kind m = weaker o kind (change_at o c) (λ change _. tt) m
+
+names-none : (o : Observation) (kind : EventKind) → AppliesAlone o kind → NamesNone kind
+names-none o (on.Attributes b) m = tt
+names-none o (on.RoleAdd role user) m = tt
+names-none o (on.RoleDrop role user) m = tt
+names-none o kind m = absurd m
+
+names-by : (o : Observation) (c : Option ℕ) (kind : EventKind) → AppliesBy o c kind → Names o c kind
+names-by o (Some c) kind m = names-one o c kind m
+names-by o None kind m = names-none o kind m
+
+pub may-be-applied : MayBeApplied
+may-be-applied o event s m = record { names = names-by o event.change event.what m.comes; sound = keeps o event s m }

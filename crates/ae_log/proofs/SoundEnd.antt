@@ -81,10 +81,10 @@ module _ (o : Observation) (s : Sound o) (who : List ℕ) (when c : ℕ) (moment
   its y e = some-is y x (sym e ∙ at_c)
 
   so : Ended to
-  so = ended to may.to_review
+  so = ended to may.fits.to_review
 
   few : length (present tree) ≤ 1000
-  few = let as_many : length (files_shape x.files) ≡ length x.files = length-map x.files _ in omega (arith, present-few tree, ap length may.shape, as_many, good.files.few)
+  few = let as_many : length (files_shape x.files) ≡ length x.files = length-map x.files _ in omega (arith, present-few tree, ap length may.fits.shape, as_many, good.files.few)
 
   file-then : (p : List ℕ) → file_in (map freeze x.files) p ≡ option_map freeze (file_in x.files p)
   file-then p = at-map by_text file_path freeze (λ _. refl) p x.files
@@ -114,7 +114,7 @@ module _ (o : Observation) (s : Sound o) (who : List ℕ) (when c : ℕ) (moment
   froze q f (Some g) eg e = ap (λ (k : ChangeFile). is_some k.frozen) (sym (some-is (freeze g) f e))
       ∙ is_some-map ref_of (version_of (frozen_file (numbered next tree places) g.path))
       ∙ version-shown next tree places g.path
-      ∙ ap (λ (rows : List (List ℕ × Bool)). shown (find (λ (row : List ℕ × Bool). bytes_eq g.path row.0) rows)) may.shape
+      ∙ ap (λ (rows : List (List ℕ × Bool)). shown (find (λ (row : List ℕ × Bool). bytes_eq g.path row.0) rows)) may.fits.shape
       ∙ files-shown x.files g.path g (ap (file_in x.files) (found-key by_text file_path q x.files g eg) ∙ eg)
       ∙ ap (λ (k : ChangeFile). not (is_remove k.action)) (some-is (freeze g) f e)
       ∙ sym (ap (λ b. b && not (is_remove f.action)) so.holds)

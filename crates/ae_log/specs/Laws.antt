@@ -6,7 +6,7 @@ use Rattle.ae_log.specs.declared.event.Event.{Event}
 use Rattle.ae_log.specs.Log.{Log}
 use Rattle.ae_log.specs.Observed.{observation}
 use Rattle.ae_log.specs.After.{after, started}
-use Rattle.ae_log.specs.Applies.{Applies, Starts}
+use Rattle.ae_log.specs.Applies.{Applies, MayApply, Starts}
 
 -- the first event makes what stands after it
 abbrev pub Begins : Type 0
@@ -23,3 +23,7 @@ Follows = (log : Log) (event : Event) (o : Observation) → observation log ≡ 
 -- and keeps the rules
 abbrev pub KeepsRules : Type 0
 KeepsRules = (o : Observation) (event : Event) → Sound o → Applies o event → Sound (after o event)
+
+-- so it may be applied
+abbrev pub MayBeApplied : Type 0
+MayBeApplied = (o : Observation) (event : Event) → Sound o → Applies o event → MayApply o event

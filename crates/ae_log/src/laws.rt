@@ -1,5 +1,5 @@
 // What holds of one more event.
-ghost use Rattle.ae_log.specs.Laws.{Begins, BeginsSound, Follows, KeepsRules};
+ghost use Rattle.ae_log.specs.Laws.{Begins, BeginsSound, Follows, KeepsRules, MayBeApplied};
 
 /// What stands after the first event is the project that it makes.
 pub fn first_event_follows()
@@ -19,4 +19,9 @@ pub fn observation_follows()
 /// An event keeps the rules of the records.
 pub fn rules_kept()
     ensures { KeepsRules }
+{}
+
+/// So an event that may come may be applied.
+pub fn event_may_be_applied()
+    ensures { MayBeApplied }
 {}

@@ -5,4 +5,7 @@ mod event;
 mod laws;
 
 pub use event::{Event, EventKind, EventList, PlaceList, RunEvent};
-pub use laws::{first_event_follows, first_event_is_sound, observation_follows, rules_kept};
+pub use laws::{
+    event_may_be_applied, first_event_follows, first_event_is_sound, observation_follows,
+    rules_kept,
+};
