@@ -4,14 +4,13 @@ use Rattle.std.specs.Prelude.{nat_le}
 use Rattle.std.specs.List.{filter_map, cons_option}
 use Rattle.std.specs.Option.{option_map, option_and_then}
 use Rattle.ae_types.specs.declared.project.Attributes.{Attributes}
-use Rattle.ae_types.specs.declared.file_table.FileVersion.{FileVersion}
 use Rattle.ae_types.specs.declared.version.VersionRef.{VersionRef}
 use Rattle.ae_types.specs.Observation.{Observation}
 use Rattle.ae_types.specs.Trees.{tree_of, tree_row, entry_row, unless_later, last_up_to}
 use Rattle.ae_log.specs.Log.{Log}
 use Rattle.ae_log.specs.Files.{Version, paths, ref_of}
 use Rattle.ae_log.specs.Baseline.{Entry, past, tree, tree_file, tree_file_of, entry_file, unless_later as unless_after, last_up_to as last_entry}
-use Rattle.ae_log.specs.Observed.{observation, observation_with, file_row, file_version, tree_row_of}
+use Rattle.ae_log.specs.Observed.{observation_with, file_row, file_version, tree_row_of}
 use Rattle.ae_log.specs.Laws.{TreesStand}
 use Rattle.ae_log.proofs.Lists.{filter_map-step}
 use Rattle.ae_log.proofs.Steps.{attributes-of}
