@@ -29,6 +29,12 @@ pub record Given : Type 0 where
   pub places : Placing
   pub view : View
 
+abbrev pub call_of : Observation → Command → List ℕ → ℕ → Call
+call_of o command who when = record { stands = o; command = command; who = who; when = when }
+
+abbrev pub given_of : Placing → Observation → (ℕ → List ℕ) → Command → List ℕ → ℕ → View → Given
+given_of places o bytes command who when view = record { call = call_of o command who when; bytes = bytes; places = places; view = view }
+
 -- the change that the command names, where it is there
 abbrev pub change_of : Call → Option Change
 change_of call = option_and_then (change_at call.stands) call.command.change
