@@ -1,0 +1,11 @@
+pub mod Lists
+pub mod Ascending
+pub mod Listed
+pub mod Steps
+pub mod ProjectSteps
+pub mod MakingSteps
+pub mod OneChange
+pub mod Calm
+pub mod Quiet
+pub mod SoundProject
+pub mod SoundMaking
