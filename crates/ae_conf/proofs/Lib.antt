@@ -1,0 +1,4 @@
+pub mod Members
+pub mod Options
+pub mod Places
+pub mod Saying

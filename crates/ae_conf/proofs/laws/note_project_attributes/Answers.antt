@@ -1,0 +1,19 @@
+use Rattle.std.proofs.Common.{◌≡◌, ℕ, Option, Ok, Err, ap, ◌∙◌}
+use Rattle.std.specs.Option.{option_map_or}
+use Rattle.ae_conf.specs.Fields.{fields_in}
+use Rattle.ae_conf.specs.Project.{project_kinds, given_project}
+use Rattle.ae_conf.proofs.Saying.{says_text, says_line}
+use Rattle.ae_conf.proofs.laws.note_project_attributes.Goals as goal
+
+pub returns-clause-given : goal.returns-clause-given
+returns-clause-given c bytes old tree lines reads none =
+    says_text project_kinds (λ fields. given_project fields old) bytes tree lines reads
+    ∙ ap (λ (o : Option ℕ). option_map_or Err o (Ok (given_project (fields_in tree) old))) none
+
+pub returns-clause-wrong_field : goal.returns-clause-wrong_field
+returns-clause-wrong_field c bytes old tree lines line reads some =
+    says_text project_kinds (λ fields. given_project fields old) bytes tree lines reads
+    ∙ ap (λ (o : Option ℕ). option_map_or Err o (Ok (given_project (fields_in tree) old))) some
+
+pub returns-clause-no_text : goal.returns-clause-no_text
+returns-clause-no_text c bytes old line error = says_line project_kinds (λ fields. given_project fields old) bytes line error
