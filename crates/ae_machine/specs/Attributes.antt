@@ -41,31 +41,18 @@ first_change_attributes attributes = record {
 abbrev pub Reading : Type 0 → Type 0
 Reading A = List ℕ → A → Result A ℕ
 
-abbrev pub line_refused : {A : Type 0} → Result A ℕ → Option Refusal
-line_refused (Ok attributes) = None
-line_refused (Err line) = Some (BadAttributes line)
+abbrev pub or_bad_line : {A : Type 0} → Result A ℕ → Result A Refusal
+or_bad_line (Ok attributes) = Ok attributes
+or_bad_line (Err line) = Err (BadAttributes line)
 
--- why a file of this path with this content is refused: it isn't there, it is longer than 65,536 bytes, or a line is bad
-abbrev pub content_refused : {A : Type 0} → Reading A → A → List ℕ → Content → Option Refusal
-content_refused reading old path Absent = Some (NoAttributes path)
-content_refused reading old path TooLong = Some (Limit AttributeBytes 65536)
-content_refused reading old path (Bytes bytes) = line_refused (reading bytes old)
-
--- why the file that a command names is refused; one that names none has none
-abbrev pub file_refused : {A : Type 0} → Reading A → A → Option (List ℕ) → Content → Option Refusal
-file_refused reading old (Some path) content = content_refused reading old path content
-file_refused reading old None content = None
-
-abbrev pub new_or_old : {A : Type 0} → A → Result A ℕ → A
-new_or_old old (Ok new) = new
-new_or_old old (Err line) = old
-
--- the attributes after a file of this content
-abbrev pub content_gives : {A : Type 0} → Reading A → A → Content → A
-content_gives reading old (Bytes bytes) = new_or_old old (reading bytes old)
-content_gives reading old _ = old
+-- the attributes after a file of this path with this content, or why it is refused: it isn't there, it is longer than 65,536
+-- bytes, or a line is bad
+abbrev pub content_gives : {A : Type 0} → Reading A → A → List ℕ → Content → Result A Refusal
+content_gives reading old path Absent = Err (NoAttributes path)
+content_gives reading old path TooLong = Err (Limit AttributeBytes 65536)
+content_gives reading old path (Bytes bytes) = or_bad_line (reading bytes old)
 
 -- the attributes after the file that a command names, and the old ones where it names none
-abbrev pub file_gives : {A : Type 0} → Reading A → A → Option (List ℕ) → Content → A
-file_gives reading old (Some path) content = content_gives reading old content
-file_gives reading old None content = old
+abbrev pub file_gives : {A : Type 0} → Reading A → A → Option (List ℕ) → Content → Result A Refusal
+file_gives reading old (Some path) content = content_gives reading old path content
+file_gives reading old None content = Ok old

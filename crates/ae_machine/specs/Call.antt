@@ -66,3 +66,13 @@ on_change condition call = option_and_then (condition call) (change_of call)
 -- the same, of one that asks what the command sees
 abbrev pub seen_on_change : (Given → Change → Option Refusal) → SightCondition
 seen_on_change condition given = option_and_then (condition given) (change_of given.call)
+
+-- ---- what is given, or refused
+
+abbrev pub refusal_in : {A : Type 0} → Result A Refusal → Option Refusal
+refusal_in (Ok given) = None
+refusal_in (Err refusal) = Some refusal
+
+abbrev pub given_in : {A : Type 0} → Result A Refusal → A → A
+given_in (Ok given) otherwise = given
+given_in (Err refusal) otherwise = otherwise

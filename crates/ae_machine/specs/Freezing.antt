@@ -17,7 +17,7 @@ use Rattle.ae_types.specs.Phases.{is_create, is_integrating, is_test}
 use Rattle.ae_types.specs.Runs.{Needed, missing}
 use Rattle.ae_types.specs.Trees.{TreeRow, edit_of, last_delta, candidate_of}
 use Rattle.ae_machine.specs.declared.view.View.{View}
-use Rattle.ae_machine.specs.Call.{Call, Given, Condition, SightCondition, unless, on_change, seen_on_change}
+use Rattle.ae_machine.specs.Call.{Call, Given, Condition, SightCondition, unless, on_change, seen_on_change, refusal_in}
 use Rattle.ae_machine.specs.Digest.{digest, digest_rows}
 use Rattle.ae_machine.specs.Paths.{is_in_baseline, with_paths, paths_with, no_clash}
 use Rattle.ae_machine.specs.Permission.{within}
@@ -135,10 +135,6 @@ group_is_there call change = unless (not (nat_eq (length (group call change)) 0)
 -- there is a test of the kind that is asked for
 abbrev pub there_are_tests : Condition
 there_are_tests = on_change group_is_there
-
-abbrev pub refusal_in : Result (List ℕ) Refusal → Option Refusal
-refusal_in (Ok command) = None
-refusal_in (Err refusal) = Some refusal
 
 abbrev pub first_command_refused : Given → Change → List Needed → Option Refusal
 first_command_refused given change [] = None

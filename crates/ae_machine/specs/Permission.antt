@@ -4,7 +4,6 @@ use Rattle.std.specs.Option.{is_none, option_or}
 use Rattle.std.specs.Str.{bytes_eq}
 use Rattle.ae_base.specs.Users.{without}
 use Rattle.ae_base.specs.declared.words.Phase.{Phase}
-use Rattle.ae_base.specs.declared.words.Phase.TheVariants as phase
 use Rattle.ae_base.specs.declared.words.Role.{Role}
 use Rattle.ae_base.specs.declared.words.Role.TheVariants.{Administrator, Developer, Reviewer, Integrator}
 use Rattle.ae_base.specs.declared.words.Which.{Which}
@@ -16,6 +15,7 @@ use Rattle.ae_types.specs.declared.change.Change.{Change}
 use Rattle.ae_types.specs.Found.{there_and, if_there}
 use Rattle.ae_types.specs.Phases.{is_awaiting_development, is_integrating, is_completed}
 use Rattle.ae_types.specs.Roles.{users_of, has_user, refuses_adding, refuses_dropping}
+use Rattle.ae_log.specs.Applies.{is_being_developed, is_awaiting_review, is_being_reviewed, is_awaiting_integration}
 use Rattle.ae_words.specs.declared.table.Function.{Function}
 use Rattle.ae_words.specs.declared.table.Function.TheVariants as function
 use Rattle.ae_machine.specs.Call.{Call, Condition, unless, on_change, change_of}
@@ -31,22 +31,6 @@ abbrev pub right_change : Condition
 right_change call = unless (is_none call.command.change || is_some (change_of call)) NoSuchChange
 
 -- ---- phases
-
-abbrev pub is_being_developed : Phase → Bool
-is_being_developed phase.BeingDeveloped = true
-is_being_developed _ = false
-
-abbrev pub is_awaiting_review : Phase → Bool
-is_awaiting_review phase.AwaitingReview = true
-is_awaiting_review _ = false
-
-abbrev pub is_being_reviewed : Phase → Bool
-is_being_reviewed phase.BeingReviewed = true
-is_being_reviewed _ = false
-
-abbrev pub is_awaiting_integration : Phase → Bool
-is_awaiting_integration phase.AwaitingIntegration = true
-is_awaiting_integration _ = false
 
 -- the phases of its change in which a function may come
 abbrev pub may_come_in : Function → Phase → Bool

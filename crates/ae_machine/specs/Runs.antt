@@ -18,7 +18,7 @@ use Rattle.ae_words.specs.declared.table.Function.{Function}
 use Rattle.ae_words.specs.declared.table.Function.TheVariants as function
 use Rattle.ae_log.specs.declared.event.RunEvent.{RunEvent}
 use Rattle.ae_machine.specs.declared.view.RunRow.{RunRow}
-use Rattle.ae_machine.specs.Call.{Call, Given}
+use Rattle.ae_machine.specs.Call.{Call, Given, given_in}
 use Rattle.ae_machine.specs.Config.{Template, Config, Values, config, expanded}
 use Rattle.ae_machine.specs.Digest.{digest, digest_rows}
 use Rattle.ae_machine.specs.Sight.{row_at, config_path, config_below, bytes_of, read_at, tree_read, change_tree, base_tree}
@@ -114,17 +114,13 @@ values_for call change run = record { file_name = run.path; change = change.numb
 abbrev pub command_of : Given → Change → Needed → Result (List ℕ) Refusal
 command_of given change run = command_by (values_for given.call change run) run.kind (config_bytes given change)
 
-abbrev pub ok_or_empty : Result (List ℕ) Refusal → List ℕ
-ok_or_empty (Ok bytes) = bytes
-ok_or_empty (Err refusal) = []
-
 -- the run as it is recorded
 abbrev pub run_event : Given → Change → RunRow → RunEvent
 run_event given change run = record {
   during = part_of change.phase;
   kind = run.kind;
   path = run.path;
-  command = ok_or_empty (command_of given change (needed_of run));
+  command = given_in (command_of given change (needed_of run)) [];
   exit = run.exit;
   before = run.before;
   after = run.after;

@@ -1,5 +1,5 @@
 -- What is answered to a command: the conditions of each function in their order, and the events where none refuses.
-use Rattle.std.specs.Prelude.{ℕ, Bool, true, false, not, List, [], ◌∷◌, map, Option, Some, None, if◌then◌else◌, unwrap_or, find}
+use Rattle.std.specs.Prelude.{ℕ, Bool, true, false, not, List, [], ◌∷◌, map, Option, Some, None, if◌then◌else◌, unwrap_or, find, Result}
 use Rattle.std.specs.Option.{option_map_or, option_or}
 use Rattle.ae_base.specs.declared.words.Phase.{Phase}
 use Rattle.ae_base.specs.declared.words.Phase.TheVariants as phase
@@ -10,6 +10,7 @@ use Rattle.ae_conf.specs.Change.{change_attributes}
 use Rattle.ae_conf.specs.Project.{project_attributes}
 use Rattle.ae_types.specs.declared.change.Change.{Change}
 use Rattle.ae_types.specs.declared.change.ChangeAttributes.{ChangeAttributes}
+use Rattle.ae_types.specs.declared.project.Attributes.{Attributes}
 use Rattle.ae_types.specs.declared.project.EndAction.{EndAction}
 use Rattle.ae_types.specs.declared.project.EndAction.TheVariants as goto
 use Rattle.ae_types.specs.Found.{has_number}
@@ -24,8 +25,8 @@ use Rattle.ae_words.specs.declared.table.Function.TheVariants as function
 use Rattle.ae_machine.specs.declared.verdict.Verdict.{Verdict}
 use Rattle.ae_machine.specs.declared.verdict.Verdict.TheVariants.{Accept, Refuse}
 use Rattle.ae_machine.specs.declared.view.View.{View}
-use Rattle.ae_machine.specs.Attributes.{first_attributes, first_change_attributes, file_refused, file_gives}
-use Rattle.ae_machine.specs.Call.{Call, Given, Condition, SightCondition, Placing, call_of, given_of, change_of, first_of}
+use Rattle.ae_machine.specs.Attributes.{first_attributes, first_change_attributes, file_gives}
+use Rattle.ae_machine.specs.Call.{Call, Given, Condition, SightCondition, Placing, call_of, given_of, change_of, first_of, refusal_in, given_in}
 use Rattle.ae_machine.specs.Freezing.{change_has_files, files_may_end, leaves_no_clash, versions_have_room, right_files, frozen_bytes_have_room, develop_runs_suffice, integrate_runs_suffice, there_are_tests, configured, places_are_there, nobody_integrates, files_have_room, tests_have_room, deltas_have_room}
 use Rattle.ae_machine.specs.Paths.{right_paths, delta_is_there, path_event}
 use Rattle.ae_machine.specs.Permission.{right_project, right_change, right_phase, caller_is_administrator, caller_is_developer, caller_is_reviewer, caller_is_integrator, caller_may_make, caller_develops, caller_integrates, caller_works, nobody_else_reviews, caller_reviews, caller_passed, may_review, developer_may_integrate, reviewer_may_integrate, history_has_room, changes_have_room, may_be_added, may_be_dropped, name_or_empty}
@@ -38,13 +39,19 @@ use Rattle.ae_machine.specs.Sight.{change_tree}
 abbrev pub old_change_attributes : Call → ChangeAttributes
 old_change_attributes call = option_map_or (λ (change : Change). change.attributes) (change_of call) (first_change_attributes call.stands.project.attributes)
 
--- the file of a project's attributes is there, not too long, and each line is good
-abbrev pub project_file_is_good : SightCondition
-project_file_is_good given = file_refused project_attributes given.call.stands.project.attributes given.call.command.attributes given.view.attributes
+-- what the file of a project's attributes gives, and that of a change's
+abbrev pub project_file : Given → Result Attributes Refusal
+project_file given = file_gives project_attributes given.call.stands.project.attributes given.call.command.attributes given.view.attributes
 
--- the same of a change's
+abbrev pub change_file : Given → Result ChangeAttributes Refusal
+change_file given = file_gives change_attributes (old_change_attributes given.call) given.call.command.attributes given.view.attributes
+
+-- the file is there, not too long, and each line is good
+abbrev pub project_file_is_good : SightCondition
+project_file_is_good given = refusal_in (project_file given)
+
 abbrev pub change_file_is_good : SightCondition
-change_file_is_good given = file_refused change_attributes (old_change_attributes given.call) given.call.command.attributes given.view.attributes
+change_file_is_good given = refusal_in (change_file given)
 
 -- ---- the conditions of each function, in their order
 
@@ -130,13 +137,6 @@ abbrev pub runs : Given → Option Change → List EventKind
 runs given (Some change) = map (λ run. on.Run (run_event given change run)) given.view.runs
 runs given None = []
 
--- the attributes that a file gives a project, and a change
-abbrev pub project_file_gives : Given → EventKind
-project_file_gives given = on.Attributes (file_gives project_attributes given.call.stands.project.attributes given.call.command.attributes given.view.attributes)
-
-abbrev pub change_file_gives : Given → ChangeAttributes
-change_file_gives given = file_gives change_attributes (old_change_attributes given.call) given.call.command.attributes given.view.attributes
-
 -- what happens, in its order
 abbrev pub kinds_of : Function → Given → List EventKind
 kinds_of function.NewAdministrator given = map (on.RoleAdd Administrator) given.call.command.users
@@ -147,10 +147,10 @@ kinds_of function.RemoveAdministrator given = map (on.RoleDrop Administrator) gi
 kinds_of function.RemoveDeveloper given = map (on.RoleDrop Developer) given.call.command.users
 kinds_of function.RemoveReviewer given = map (on.RoleDrop Reviewer) given.call.command.users
 kinds_of function.RemoveIntegrator given = map (on.RoleDrop Integrator) given.call.command.users
-kinds_of function.ProjectAttributes given = project_file_gives given ∷ []
-kinds_of function.NewChange given = on.New (change_file_gives given) ∷ []
+kinds_of function.ProjectAttributes given = on.Attributes (given_in (project_file given) given.call.stands.project.attributes) ∷ []
+kinds_of function.NewChange given = on.New (given_in (change_file given) (old_change_attributes given.call)) ∷ []
 kinds_of function.NewChangeUndo given = on.NewUndo ∷ []
-kinds_of function.ChangeAttributes given = on.ChangeAttributes (change_file_gives given) ∷ []
+kinds_of function.ChangeAttributes given = on.ChangeAttributes (given_in (change_file given) (old_change_attributes given.call)) ∷ []
 kinds_of function.DevelopBegin given = on.Begin ∷ []
 kinds_of function.DevelopBeginUndo given = on.BeginUndo ∷ []
 kinds_of function.CopyFile given = map (path_event given.call) given.call.command.paths
@@ -204,14 +204,16 @@ is_new_project function.NewProject = true
 is_new_project _ = false
 
 -- the attributes of a new project begin from those that every project has first
-abbrev pub new_project_event : Command → List ℕ → ℕ → View → Event
-new_project_event command who when view =
-    event_of who when None (on.Project (name_or_empty command.name) (file_gives project_attributes first_attributes command.attributes view.attributes))
+abbrev pub new_project_file : Command → View → Result Attributes Refusal
+new_project_file command view = file_gives project_attributes first_attributes command.attributes view.attributes
+
+-- the project has the name that the command says
+abbrev pub new_project_event : Command → List ℕ → ℕ → Result Attributes Refusal → Event
+new_project_event command who when attributes = event_of who when None (on.Project (name_or_empty command.name) (given_in attributes first_attributes))
 
 -- on a new project, where none stands
 abbrev pub new_project : Command → List ℕ → ℕ → View → Verdict
-new_project command who when view =
-    answer (file_refused project_attributes first_attributes command.attributes view.attributes) (new_project_event command who when view ∷ [])
+new_project command who when view = answer (refusal_in (new_project_file command view)) (new_project_event command who when (new_project_file command view) ∷ [])
 
 -- the refusal that the conditions without reading give first, also where no project stands
 abbrev pub refused_before : Option Observation → Command → List ℕ → ℕ → Option Refusal

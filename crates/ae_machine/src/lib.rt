@@ -1,6 +1,7 @@
 //! What a command does to a project: its verdict.
 #![tactic(auto)]
 
+mod attributes;
 mod verdict;
 mod view;
 
