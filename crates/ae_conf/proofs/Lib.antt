@@ -2,3 +2,4 @@ pub mod Members
 pub mod Options
 pub mod Places
 pub mod Saying
+pub mod Answering

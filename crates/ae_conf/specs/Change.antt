@@ -6,7 +6,7 @@ use Rattle.ae_conf.specs.declared.kind.FieldKind.{FieldKind}
 use Rattle.ae_conf.specs.declared.kind.FieldKind.TheVariants.{Text, Flag, Cause}
 use Rattle.ae_conf.specs.Values.{text_in, flag_in, cause_in}
 use Rattle.ae_conf.specs.Fields.{given}
-use Rattle.ae_conf.specs.Said.{bytes_say}
+use Rattle.ae_conf.specs.Said.{right_fields, making}
 
 -- the fields that it may have, each with its kind
 abbrev pub change_kinds : List (List ℕ × FieldKind)
@@ -32,4 +32,4 @@ given_change fields old = record {
 
 -- the attributes after a file of these bytes, or its bad line
 abbrev pub change_attributes : List ℕ → ChangeAttributes → Result ChangeAttributes ℕ
-change_attributes bytes old = bytes_say change_kinds (λ fields. given_change fields old) bytes
+change_attributes bytes old = making (λ fields. given_change fields old) (right_fields change_kinds bytes)

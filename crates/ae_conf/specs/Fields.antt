@@ -35,6 +35,6 @@ first_wrong kinds fields lines = option_and_then (slice_get lines) (position (is
 abbrev pub given : {A : Type 0} → (Node → Option A) → List ℕ → List (List ℕ × Node) → A → A
 given value_in name fields old = unwrap_or (option_and_then value_in (lookup (bytes_eq name) fields)) old
 
--- the line of the first wrong field, or where none is wrong what the fields make
-abbrev pub fields_say : {A : Type 0} → List (List ℕ × FieldKind) → (List (List ℕ × Node) → A) → List (List ℕ × Node) → List ℕ → Result A ℕ
-fields_say kinds made fields lines = option_map_or Err (first_wrong kinds fields lines) (Ok (made fields))
+-- the fields, or where one is wrong the line of the first such
+abbrev pub right_or_line : List (List ℕ × FieldKind) → List (List ℕ × Node) → List ℕ → Result (List (List ℕ × Node)) ℕ
+right_or_line kinds fields lines = option_map_or Err (first_wrong kinds fields lines) (Ok fields)

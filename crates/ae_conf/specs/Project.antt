@@ -6,7 +6,7 @@ use Rattle.ae_conf.specs.declared.kind.FieldKind.{FieldKind}
 use Rattle.ae_conf.specs.declared.kind.FieldKind.TheVariants.{Text, Flag, EndAction}
 use Rattle.ae_conf.specs.Values.{text_in, flag_in, end_action_in}
 use Rattle.ae_conf.specs.Fields.{given}
-use Rattle.ae_conf.specs.Said.{bytes_say}
+use Rattle.ae_conf.specs.Said.{right_fields, making}
 
 -- the fields that it may have, each with its kind
 abbrev pub project_kinds : List (List ℕ × FieldKind)
@@ -34,4 +34,4 @@ given_project fields old = record {
 
 -- the attributes after a file of these bytes, or its bad line
 abbrev pub project_attributes : List ℕ → Attributes → Result Attributes ℕ
-project_attributes bytes old = bytes_say project_kinds (λ fields. given_project fields old) bytes
+project_attributes bytes old = making (λ fields. given_project fields old) (right_fields project_kinds bytes)

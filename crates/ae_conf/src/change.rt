@@ -9,7 +9,7 @@ ghost use Rattle.ae_conf.specs.Change.{given_change, change_attributes};
 use crate::ConfError;
 use crate::fields::{Kinds, flag_or, text_or, value_of};
 use crate::kind::FieldKind;
-use crate::text::{read_text, right_fields};
+use crate::text::{fields_of, read_right};
 use crate::values::cause_in;
 use ae_base::Cause;
 use ae_text::Field;
@@ -61,7 +61,6 @@ pub fn read_change_attributes(
         ("test_baseline_exempt", FieldKind::Flag),
         ("regression_test_exempt", FieldKind::Flag),
     ];
-    let parsed = read_text(alloc, bytes)?;
-    let fields = right_fields(kinds, &parsed)?;
-    Ok(with_given(alloc, fields, old)?)
+    let parsed = read_right(alloc, kinds, bytes)?;
+    Ok(with_given(alloc, fields_of(&parsed.tree), old)?)
 }

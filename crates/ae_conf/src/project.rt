@@ -9,7 +9,7 @@ ghost use Rattle.ae_conf.specs.Project.{given_project, project_attributes};
 use crate::ConfError;
 use crate::fields::{Kinds, flag_or, text_or, value_of};
 use crate::kind::FieldKind;
-use crate::text::{read_text, right_fields};
+use crate::text::{fields_of, read_right};
 use crate::values::end_action_in;
 use ae_text::Field;
 use ae_types::{Attributes, EndAction};
@@ -72,7 +72,6 @@ pub fn read_project_attributes(
         ("develop_end_action", FieldKind::EndAction),
         ("default_test_exemption", FieldKind::Flag),
     ];
-    let parsed = read_text(alloc, bytes)?;
-    let fields = right_fields(kinds, &parsed)?;
-    Ok(with_given(alloc, fields, old)?)
+    let parsed = read_right(alloc, kinds, bytes)?;
+    Ok(with_given(alloc, fields_of(&parsed.tree), old)?)
 }

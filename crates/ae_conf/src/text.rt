@@ -1,17 +1,19 @@
 // A file of a user as a text.
-ghost use Rattle.std.specs.Prelude.{◌≡◌, ℕ, Err, None, Some, IfOk, IfErr};
+ghost use Rattle.std.specs.Prelude.{◌≡◌, ℕ, [], Ok, Err, IfOk, IfSome, IfNone};
+ghost use Rattle.ae_text.specs.Tree.{fields as structure};
 ghost use Rattle.ae_text.specs.Grammar.{Reads};
 ghost use Rattle.ae_text.specs.Wrong.{IsError};
-ghost use Rattle.ae_text.specs.View.{node, fields_seen};
-ghost use Rattle.ae_conf.specs.Fields.{fields_in, kinds_seen, first_wrong};
+ghost use Rattle.ae_text.specs.View.{node, fields_seen, members_seen};
+ghost use Rattle.ae_conf.specs.Fields.{fields_in, kinds_seen};
+ghost use Rattle.ae_conf.specs.Said.{right_fields};
 
 use crate::ConfError;
 use crate::fields::{Kinds, first_wrong};
 use ae_text::{Field, Parsed, TextError, Tree, read_tree};
 use std::alloc::Global;
 
-/// The text, or the line of its first wrong token.
-pub(crate) fn read_text(alloc: Global, bytes: &[u8]) -> Result<Parsed, ConfError>
+// The text, or the line of its first wrong token.
+fn read_text(alloc: Global, bytes: &[u8]) -> Result<Parsed, ConfError>
     ensures found { IfOk result (λ p. Reads bytes.now (node p.tree) p.lines) }
     ensures bad { (line : ℕ) → result ≡ Err (ConfError.Line line) → IsError bytes.now line }
 {
@@ -23,25 +25,36 @@ pub(crate) fn read_text(alloc: Global, bytes: &[u8]) -> Result<Parsed, ConfError
     }
 }
 
-// The fields of a structure.
-fn fields_of(tree: &Tree) -> &[Field]
-    ensures { fields_seen result.now ≡ fields_in (node tree.now) }
+fn structure_in(tree: &Tree) -> Option<&[Field]>
+    ensures some { IfSome result (λ fields. node tree.now ≡ structure (members_seen fields.now)) }
+    ensures none { IfNone result (fields_in (node tree.now) ≡ []) }
 {
     match tree {
-        Tree::Fields(fields) => fields.items(),
-        _ => &[],
+        Tree::Fields(fields) => Some(fields.items()),
+        _ => None,
     }
 }
 
-/// The fields of the text, where none is wrong, or the line of the first wrong one.
-pub(crate) fn right_fields<'a>(kinds: Kinds, parsed: &'a Parsed) -> Result<&'a [Field], ConfError>
-    ensures fields { IfOk result (λ fields. fields_seen fields.now ≡ fields_in (node parsed.now.tree)) }
-    ensures right { IfOk result (λ fields. first_wrong (kinds_seen kinds.now) (fields_in (node parsed.now.tree)) parsed.now.lines ≡ None) }
-    ensures wrong { IfErr result (λ error. (line : ℕ) × (error ≡ ConfError.Line line) × (first_wrong (kinds_seen kinds.now) (fields_in (node parsed.now.tree)) parsed.now.lines ≡ Some line)) }
+/// The fields of a text.
+pub(crate) fn fields_of(tree: &Tree) -> &[Field]
+    ensures { fields_seen result.now ≡ fields_in (node tree.now) }
 {
-    let fields = fields_of(&parsed.tree);
-    match first_wrong(kinds, fields, parsed.lines.lines()) {
-        Some(line) => Err(ConfError::Line(line)),
-        None => Ok(fields),
+    match structure_in(tree) {
+        Some(fields) => fields,
+        None => &[],
+    }
+}
+
+/// The text, whose known fields are all of their kinds, or its bad line.
+pub(crate) fn read_right(alloc: Global, kinds: Kinds, bytes: &[u8]) -> Result<Parsed, ConfError>
+    ensures text { IfOk result (λ p. right_fields (kinds_seen kinds.now) bytes.now ≡ Ok (fields_in (node p.tree))) }
+    ensures line { (line : ℕ) → result ≡ Err (ConfError.Line line) → right_fields (kinds_seen kinds.now) bytes.now ≡ Err line }
+{
+    match read_text(alloc, bytes) {
+        Ok(parsed) => match first_wrong(kinds, fields_of(&parsed.tree), parsed.lines.lines()) {
+            Some(line) => Err(ConfError::Line(line)),
+            None => Ok(parsed),
+        },
+        Err(error) => Err(error),
     }
 }

@@ -2,6 +2,7 @@
 ghost use Rattle.std.specs.Prelude.{◌≡◌, option_copied, find};
 ghost use Rattle.std.specs.Str.{bytes_eq};
 ghost use Rattle.ae_text.specs.View.{node};
+ghost use Rattle.ae_base.specs.Words.{cause_word, causes};
 ghost use Rattle.ae_conf.specs.Values.{text_in, flag_in, end_action_in, cause_in, flag_word, flags, end_action_word, end_actions};
 
 use ae_base::{Cause, Text};
@@ -62,12 +63,18 @@ pub(crate) fn end_action_in(value: &Tree) -> Option<EndAction>
     }
 }
 
+fn cause_of(word: &[u8]) -> Option<Cause>
+    ensures { result ≡ find (λ cause. bytes_eq (cause_word cause) word.now) causes }
+{
+    Cause::read(word)
+}
+
 /// The cause that it is.
 pub(crate) fn cause_in(value: &Tree) -> Option<Cause>
     ensures { result ≡ cause_in (node value.now) }
 {
     match value {
-        Tree::Word(word) => Cause::read(word.bytes()),
+        Tree::Word(word) => cause_of(word.bytes()),
         _ => None,
     }
 }

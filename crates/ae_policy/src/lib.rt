@@ -2,10 +2,12 @@
 #![tactic(auto)]
 
 mod error;
+mod laws;
 mod making;
 mod roles;
 
 pub use error::PolicyError;
+pub use laws::note_roles_stay_good;
 pub use making::may_create;
 pub use roles::{add_user, drop_user, has_role};
 

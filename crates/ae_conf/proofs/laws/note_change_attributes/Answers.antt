@@ -1,19 +1,26 @@
-use Rattle.std.proofs.Common.{◌≡◌, ℕ, Option, Ok, Err, ap, ◌∙◌}
+use Rattle.std.proofs.Common.{◌≡◌, ℕ, List, Option, Result, Ok, Err, ap, ◌∙◌}
 use Rattle.std.specs.Option.{option_map_or}
+use Rattle.ae_text.specs.Tree.{Node}
+use Rattle.ae_types.specs.declared.change.ChangeAttributes.{ChangeAttributes}
 use Rattle.ae_conf.specs.Fields.{fields_in}
-use Rattle.ae_conf.specs.Change.{change_kinds, given_change}
-use Rattle.ae_conf.proofs.Saying.{says_text, says_line}
+use Rattle.ae_conf.specs.Said.{right_fields, making}
+use Rattle.ae_conf.specs.Change.{change_kinds, given_change, change_attributes}
+use Rattle.ae_conf.proofs.Saying.{text_fields, error_line}
 use Rattle.ae_conf.proofs.laws.note_change_attributes.Goals as goal
+
+-- the attributes of the fields that are right
+attributes_of : (bytes : List ℕ) (old : ChangeAttributes) (read : Result (List (List ℕ × Node)) ℕ) → right_fields change_kinds bytes ≡ read → change_attributes bytes old ≡ making (λ fields. given_change fields old) read
+attributes_of bytes old read e = ap (λ (r : Result (List (List ℕ × Node)) ℕ). making (λ fields. given_change fields old) r) e
 
 pub returns-clause-given : goal.returns-clause-given
 returns-clause-given c bytes old tree lines reads none =
-    says_text change_kinds (λ fields. given_change fields old) bytes tree lines reads
-    ∙ ap (λ (o : Option ℕ). option_map_or Err o (Ok (given_change (fields_in tree) old))) none
+    attributes_of bytes old (Ok (fields_in tree))
+    (text_fields change_kinds bytes tree lines reads ∙ ap (λ (o : Option ℕ). option_map_or Err o (Ok (fields_in tree))) none)
 
 pub returns-clause-wrong_field : goal.returns-clause-wrong_field
 returns-clause-wrong_field c bytes old tree lines line reads some =
-    says_text change_kinds (λ fields. given_change fields old) bytes tree lines reads
-    ∙ ap (λ (o : Option ℕ). option_map_or Err o (Ok (given_change (fields_in tree) old))) some
+    attributes_of bytes old (Err line)
+    (text_fields change_kinds bytes tree lines reads ∙ ap (λ (o : Option ℕ). option_map_or Err o (Ok (fields_in tree))) some)
 
 pub returns-clause-no_text : goal.returns-clause-no_text
-returns-clause-no_text c bytes old line error = says_line change_kinds (λ fields. given_change fields old) bytes line error
+returns-clause-no_text c bytes old line error = attributes_of bytes old (Err line) (error_line change_kinds bytes line error)

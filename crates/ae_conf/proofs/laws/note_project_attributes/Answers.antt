@@ -1,19 +1,26 @@
-use Rattle.std.proofs.Common.{◌≡◌, ℕ, Option, Ok, Err, ap, ◌∙◌}
+use Rattle.std.proofs.Common.{◌≡◌, ℕ, List, Option, Result, Ok, Err, ap, ◌∙◌}
 use Rattle.std.specs.Option.{option_map_or}
+use Rattle.ae_text.specs.Tree.{Node}
+use Rattle.ae_types.specs.declared.project.Attributes.{Attributes}
 use Rattle.ae_conf.specs.Fields.{fields_in}
-use Rattle.ae_conf.specs.Project.{project_kinds, given_project}
-use Rattle.ae_conf.proofs.Saying.{says_text, says_line}
+use Rattle.ae_conf.specs.Said.{right_fields, making}
+use Rattle.ae_conf.specs.Project.{project_kinds, given_project, project_attributes}
+use Rattle.ae_conf.proofs.Saying.{text_fields, error_line}
 use Rattle.ae_conf.proofs.laws.note_project_attributes.Goals as goal
+
+-- the attributes of the fields that are right
+attributes_of : (bytes : List ℕ) (old : Attributes) (read : Result (List (List ℕ × Node)) ℕ) → right_fields project_kinds bytes ≡ read → project_attributes bytes old ≡ making (λ fields. given_project fields old) read
+attributes_of bytes old read e = ap (λ (r : Result (List (List ℕ × Node)) ℕ). making (λ fields. given_project fields old) r) e
 
 pub returns-clause-given : goal.returns-clause-given
 returns-clause-given c bytes old tree lines reads none =
-    says_text project_kinds (λ fields. given_project fields old) bytes tree lines reads
-    ∙ ap (λ (o : Option ℕ). option_map_or Err o (Ok (given_project (fields_in tree) old))) none
+    attributes_of bytes old (Ok (fields_in tree))
+    (text_fields project_kinds bytes tree lines reads ∙ ap (λ (o : Option ℕ). option_map_or Err o (Ok (fields_in tree))) none)
 
 pub returns-clause-wrong_field : goal.returns-clause-wrong_field
 returns-clause-wrong_field c bytes old tree lines line reads some =
-    says_text project_kinds (λ fields. given_project fields old) bytes tree lines reads
-    ∙ ap (λ (o : Option ℕ). option_map_or Err o (Ok (given_project (fields_in tree) old))) some
+    attributes_of bytes old (Err line)
+    (text_fields project_kinds bytes tree lines reads ∙ ap (λ (o : Option ℕ). option_map_or Err o (Ok (fields_in tree))) some)
 
 pub returns-clause-no_text : goal.returns-clause-no_text
-returns-clause-no_text c bytes old line error = says_line project_kinds (λ fields. given_project fields old) bytes line error
+returns-clause-no_text c bytes old line error = attributes_of bytes old (Err line) (error_line project_kinds bytes line error)
