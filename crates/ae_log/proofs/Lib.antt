@@ -9,3 +9,13 @@ pub mod Calm
 pub mod Quiet
 pub mod SoundProject
 pub mod SoundMaking
+pub mod RunSteps
+pub mod FileSteps
+pub mod ChangeSteps
+pub mod DevelopmentSteps
+pub mod ReviewSteps
+pub mod LockSteps
+pub mod ReturnSteps
+pub mod PassSteps
+pub mod EndSteps
+pub mod Following

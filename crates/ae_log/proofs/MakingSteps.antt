@@ -24,7 +24,7 @@ use Rattle.ae_log.specs.Baseline.{holds}
 use Rattle.ae_log.specs.Observed.{observation, observation_with, change, change_with}
 use Rattle.ae_log.specs.After.{after, new_change, change_after}
 use Rattle.ae_log.specs.Applies.{AppliesBy, comes_in, Suits}
-use Rattle.ae_log.specs.Laws.{Follows, IsOfMaking}
+use Rattle.ae_log.specs.Laws.{IsOfMaking}
 use Rattle.ae_log.proofs.Lists.{filter_map-same, filter-filter_map, if_passes}
 use Rattle.ae_log.proofs.Ascending.{change_numbers-ascend, is-change_number}
 use Rattle.ae_log.proofs.Listed.{own_change}
@@ -140,7 +140,7 @@ settings-by log who when c a o stood (Some x) e m = stands-after log (of_change 
     with-change_attributes log who when c a b (ap (λ (v : Option ChangeAttributes). is_some v) i.has))
 settings-by log who when c a o stood None e m = absurd m
 
-making-by : (log : Log) (who : List ℕ) (when : ℕ) (c : Option ℕ) (kind : EventKind) (o : Observation) → IsOfMaking kind → observation log ≡ Some o → AppliesBy o c kind
+pub making-by : (log : Log) (who : List ℕ) (when : ℕ) (c : Option ℕ) (kind : EventKind) (o : Observation) → IsOfMaking kind → observation log ≡ Some o → AppliesBy o c kind
     → observation (record { who = who; when = when; change = c; what = kind } ∷ log) ≡ Some (after o (record { who = who; when = when; change = c; what = kind }))
 making-by log who when (Some c) (on.New a) o h stood m = stands-after log (of_change who when c (on.New a)) o refl stood (λ b is.
     with-new log who when c a b (is-change_number c m.0) (absent log c (is-change_number c m.0) (ap (λ (q : Observation). has_number q.numbers c) is ∙ m.1)))
@@ -150,6 +150,3 @@ making-by log who when None (on.New a) o h stood m = absurd m
 making-by log who when None on.NewUndo o h stood m = absurd m
 making-by log who when None (on.ChangeAttributes a) o h stood m = absurd m
 making-by log who when c kind o h stood m = absurd h
-
-pub making-follows : Follows IsOfMaking
-making-follows log event o h stood s m = making-by log event.who event.when event.change event.what o h stood m.comes

@@ -15,7 +15,7 @@ use Rattle.ae_log.specs.Settings.{change_numbers}
 use Rattle.ae_log.specs.Observed.{observation, observation_with}
 use Rattle.ae_log.specs.After.{after, started, new_observation}
 use Rattle.ae_log.specs.Applies.{AppliesTo, AppliesBy, comes_in, Suits, IsProject}
-use Rattle.ae_log.specs.Laws.{Begins, Follows, IsOfProject}
+use Rattle.ae_log.specs.Laws.{Begins, IsOfProject}
 use Rattle.ae_log.proofs.Lists.{filter_map-none, filter-none}
 use Rattle.ae_log.proofs.Steps.{of_none, same-parts, attributes-of, stands-after}
 
@@ -56,7 +56,7 @@ after-attributes log who when b o stood =
     ap (λ q. Some (after q (of_none who when (on.Attributes b)))) w.2
 
 -- an event that comes in no phase is none of a change
-out-of-phase : (o : Observation) (kind : EventKind) (x : Option Change) → ((phase : Phase) → comes_in kind phase ≡ false) → IsSomeAnd x (λ (change : Change). (comes_in kind change.phase ≡ true) × Suits o change kind) → ⊥
+pub out-of-phase : (o : Observation) (kind : EventKind) (x : Option Change) → ((phase : Phase) → comes_in kind phase ≡ false) → IsSomeAnd x (λ (change : Change). (comes_in kind change.phase ≡ true) × Suits o change kind) → ⊥
 out-of-phase o kind (Some x) never_in h = never (sym (never_in x.phase) ∙ h.0)
   where
     never : false ≡ true → ⊥
@@ -69,13 +69,10 @@ no-change o c (on.RoleAdd role user) h m = out-of-phase o (on.RoleAdd role user)
 no-change o c (on.RoleDrop role user) h m = out-of-phase o (on.RoleDrop role user) (change_at o c) (λ _. refl) m
 no-change o c kind h m = absurd h
 
-project-by : (log : Log) (who : List ℕ) (when : ℕ) (c : Option ℕ) (kind : EventKind) (o : Observation) → IsOfProject kind → observation log ≡ Some o → AppliesBy o c kind
+pub project-by : (log : Log) (who : List ℕ) (when : ℕ) (c : Option ℕ) (kind : EventKind) (o : Observation) → IsOfProject kind → observation log ≡ Some o → AppliesBy o c kind
     → observation (record { who = who; when = when; change = c; what = kind } ∷ log) ≡ Some (after o (record { who = who; when = when; change = c; what = kind }))
 project-by log who when None (on.Attributes b) o h stood m = after-attributes log who when b o stood
 project-by log who when None (on.RoleAdd role user) o h stood m = stands-after log (of_none who when (on.RoleAdd role user)) o refl stood (λ a is. with-role_add log who when role user a)
 project-by log who when None (on.RoleDrop role user) o h stood m = stands-after log (of_none who when (on.RoleDrop role user)) o refl stood (λ a is. with-role_drop log who when role user a)
 project-by log who when (Some c) kind o h stood m = absurd (no-change o c kind h m)
 project-by log who when None kind o h stood m = absurd h
-
-pub project-follows : Follows IsOfProject
-project-follows log event o h stood s m = project-by log event.who event.when event.change event.what o h stood m.comes

@@ -18,11 +18,11 @@ Begins = (event : Event) → Starts event → observation (event ∷ []) ≡ sta
 abbrev pub BeginsSound : Type 0
 BeginsSound = (event : Event) → Starts event → IsSomeAnd (started event) Sound
 
--- what stands after an event of these kinds is what it makes of what stood before
-abbrev pub Follows : (EventKind → Type 0) → Type 0
-Follows IsOne = (log : Log) (event : Event) (o : Observation) → IsOne event.what → observation log ≡ Some o → Sound o → Applies o event → observation (event ∷ log) ≡ Some (after o event)
+-- what stands after an event is what it makes of what stood before
+abbrev pub Follows : Type 0
+Follows = (log : Log) (event : Event) (o : Observation) → observation log ≡ Some o → Sound o → Applies o event → observation (event ∷ log) ≡ Some (after o event)
 
--- and keeps the rules
+-- an event of these kinds keeps the rules
 abbrev pub KeepsRules : (EventKind → Type 0) → Type 0
 KeepsRules IsOne = (o : Observation) (event : Event) → IsOne event.what → Sound o → Applies o event → Sound (after o event)
 

@@ -11,22 +11,17 @@ pub fn first_event_is_sound()
     ensures { BeginsSound }
 {}
 
-/// What stands after an event of the project's settings and roles is what it makes of what stood before.
-pub fn project_events_follow()
-    ensures { Follows IsOfProject }
+/// What stands after an event is what it makes of what stood before.
+pub fn observation_follows()
+    ensures { Follows }
 {}
 
-/// Such an event keeps the rules.
+/// An event of the project's settings and roles keeps the rules.
 pub fn project_events_keep_rules()
     ensures { KeepsRules IsOfProject }
 {}
 
-/// What stands after a change is made or taken away, or gets other settings, is what that makes of what stood before.
-pub fn making_events_follow()
-    ensures { Follows IsOfMaking }
-{}
-
-/// Such an event keeps the rules.
+/// The rules are kept where a change is made or taken away, or gets other settings.
 pub fn making_events_keep_rules()
     ensures { KeepsRules IsOfMaking }
 {}

@@ -6,6 +6,6 @@ mod laws;
 
 pub use event::{Event, EventKind, EventList, PlaceList, RunEvent};
 pub use laws::{
-    first_event_follows, first_event_is_sound, making_events_follow, making_events_keep_rules,
-    project_events_follow, project_events_keep_rules,
+    first_event_follows, first_event_is_sound, making_events_keep_rules, observation_follows,
+    project_events_keep_rules,
 };
