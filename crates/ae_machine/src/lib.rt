@@ -2,6 +2,7 @@
 #![tactic(auto)]
 
 mod attributes;
+mod deciding;
 mod events;
 mod numbers;
 mod permission;
@@ -9,6 +10,7 @@ mod refusing;
 mod verdict;
 mod view;
 
+pub use deciding::decide;
 pub use refusing::before;
 pub use verdict::Verdict;
 pub use view::{RunRow, RunRowList, ScanList, View};
