@@ -1,0 +1,5 @@
+pub mod Members
+pub mod Options
+pub mod Places
+pub mod Texts
+pub mod Answering

@@ -1,0 +1,2 @@
+pub mod GoodRoles
+pub mod HasUser
