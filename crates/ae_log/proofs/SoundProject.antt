@@ -1,0 +1,193 @@
+-- The first event makes what keeps the rules, and events of settings and roles keep them.
+use Rattle.std.proofs.Common.{◌≡◌, ℕ, ◌<◌, refl, sym, ◌∙◌, List, [], ◌∷◌, ◌++◌, Option, Some, None, Bool, true, false, cond, ◌&&◌, ◌||◌, not, arith, length-append}
+use Rattle.std.specs.Prelude.{length, nat_le, IsSomeAnd}
+use Rattle.std.specs.List.{list_any, IsDistinct, AllByRecursion}
+use Rattle.std.specs.Str.{bytes_eq}
+use Rattle.std.proofs.lemmas.Bool.{leb-false}
+use Rattle.std.proofs.lemmas.Cmp.{nat_list_eq_equiv}
+use Rattle.std.proofs.lemmas.Map.Made.{length-remove_key}
+use Rattle.ae_base.specs.Users.{AllDiffer, without}
+use Rattle.ae_base.specs.declared.words.Role.{Role}
+use Rattle.ae_base.specs.declared.words.Role.TheVariants.{Administrator, Developer, Reviewer, Integrator}
+use Rattle.ae_base.specs.declared.words.Which.TheVariants.{RoleUsers}
+use Rattle.ae_base.specs.declared.refusal.Refusal.TheVariants.{UserThere, UserNotThere, LastAdministrator, Limit}
+use Rattle.ae_types.specs.declared.project.Attributes.{Attributes}
+use Rattle.ae_types.specs.declared.version.VersionRef.{VersionRef}
+use Rattle.ae_types.specs.Observation.{Observation}
+use Rattle.ae_types.specs.Roles.{users_of, with_users, has_user, is_administrators, refuses_adding, refuses_dropping}
+use Rattle.ae_types.specs.Sound.{Sound, IsGoodRole}
+use Rattle.ae_types.specs.Versions.{Place, in_table, in_change, version_at}
+use Rattle.ae_types.proofs.Ordered.{none-some}
+use Rattle.ae_log.specs.declared.event.EventKind.{EventKind}
+use Rattle.ae_log.specs.declared.event.EventKind.TheVariants as on
+use Rattle.ae_log.specs.After.{started, new_observation}
+use Rattle.ae_log.specs.Applies.{IsProject}
+use Rattle.ae_log.specs.Laws.{BeginsSound}
+
+-- ---- users of a role
+
+one-user : (user : List ℕ) → AllDiffer (user ∷ [])
+unfolding IsDistinct
+one-user user = (tt, tt)
+
+none-differ : AllDiffer []
+unfolding IsDistinct
+none-differ = tt
+
+-- a user that is none of the others
+apart-all : (user : List ℕ) (us : List (List ℕ)) → AllByRecursion (λ y. bytes_eq user y ≡ false) us → (v : List ℕ) → bytes_eq user v ≡ false → AllByRecursion (λ y. bytes_eq user y ≡ false) (us ++ v ∷ [])
+apart-all user [] h v e = (e, tt)
+apart-all user (u ∷ us) h v e = (h.0, apart-all user us h.1 v e)
+
+or-none : (a b : Bool) → (a || b) ≡ false → (a ≡ false) × (b ≡ false)
+or-none true b e = cc
+or-none false b e = (refl, e)
+
+pub added-differ : (users : List (List ℕ)) (user : List ℕ) → AllDiffer users → list_any (bytes_eq user) users ≡ false → AllDiffer (users ++ user ∷ [])
+unfolding IsDistinct
+added-differ [] user d e = (tt, tt)
+added-differ (u ∷ us) user d e = let a = or-none (bytes_eq user u) (list_any (bytes_eq user) us) e in (apart-all u us d.0 user (nat_list_eq_equiv.symm u user ∙ a.0), added-differ us user d.1 a.1)
+
+fewer-apart : (P : List ℕ → Type 0) (user : List ℕ) (us : List (List ℕ)) → AllByRecursion P us → AllByRecursion P (without user us)
+fewer-apart P user [] h = tt
+fewer-apart P user (u ∷ us) h = go (bytes_eq user u) (fewer-apart P user us h.1)
+  where
+    go : (b : Bool) → AllByRecursion P (without user us) → AllByRecursion P (cond b us (u ∷ without user us))
+    go true rest = h.1
+    go false rest = (h.0, rest)
+
+pub dropped-differ : (users : List (List ℕ)) (user : List ℕ) → AllDiffer users → AllDiffer (without user users)
+unfolding IsDistinct
+dropped-differ [] user d = tt
+dropped-differ (u ∷ us) user d = go (bytes_eq user u) (dropped-differ us user d.1)
+  where
+    go : (b : Bool) → AllDiffer (without user us) → AllDiffer (cond b us (u ∷ without user us))
+    go true rest = d.1
+    go false rest = (fewer-apart (λ y. bytes_eq u y ≡ false) user us d.0, rest)
+
+-- ---- why a user is added or dropped
+
+record MayAdd (users : List (List ℕ)) (user : List ℕ) : Type 0 where
+  fresh : list_any (bytes_eq user) users ≡ false
+  few : length users < 256
+
+may-add : (users : List (List ℕ)) (user : List ℕ) → refuses_adding users user ≡ None → MayAdd users user
+may-add users user e = go (has_user users user) refl (nat_le 256 (length users)) refl e
+  where
+    go : (b : Bool) → has_user users user ≡ b → (d : Bool) → nat_le 256 (length users) ≡ d → cond b (Some (UserThere user)) (cond d (Some (Limit RoleUsers 256)) None) ≡ None → MayAdd users user
+    go true is d few e = cc
+    go false is true few e = cc
+    go false is false few e = record { fresh = is; few = leb-false 256 (length users) few }
+
+record MayDrop (role : Role) (users : List (List ℕ)) (user : List ℕ) : Type 0 where
+  there : list_any (bytes_eq user) users ≡ true
+  others : is_administrators role ≡ true → 1 < length users
+
+may-drop : (role : Role) (users : List (List ℕ)) (user : List ℕ) → refuses_dropping role users user ≡ None → MayDrop role users user
+may-drop role users user e = go (has_user users user) refl (is_administrators role) refl (nat_le (length users) 1) refl e
+  where
+    never : {P : Type 0} → false ≡ true → P
+    never e = cc
+
+    go : (b : Bool) → has_user users user ≡ b → (d : Bool) → is_administrators role ≡ d → (f : Bool) → nat_le (length users) 1 ≡ f
+        → cond (not b) (Some (UserNotThere user)) (cond (d && f) (Some LastAdministrator) None) ≡ None → MayDrop role users user
+    go false is d a f l e = cc
+    go true is true a true l e = cc
+    go true is true a false l e = record { there = is; others = λ _. leb-false (length users) 1 l }
+    go true is false a f l e = record { there = is; others = λ b. never (sym a ∙ b) }
+
+added-good : (users : List (List ℕ)) (user : List ℕ) → IsGoodRole users → refuses_adding users user ≡ None → IsGoodRole (users ++ user ∷ [])
+added-good users user good e = let m = may-add users user e in record { differ = added-differ users user good.differ m.fresh; few = omega (arith, length-append users (user ∷ []), m.few) }
+
+dropped-good : (role : Role) (users : List (List ℕ)) (user : List ℕ) → IsGoodRole users → refuses_dropping role users user ≡ None → IsGoodRole (without user users)
+dropped-good role users user good e =
+    let m = may-drop role users user e in
+    record { differ = dropped-differ users user good.differ; few = omega (arith, length-remove_key (bytes_eq user) users m.there, good.few) }
+
+-- ---- other settings and users
+
+roles-sound : (o : Observation) → Sound o → (name : List ℕ) (attributes : Attributes) (administrators developers reviewers integrators : List (List ℕ))
+    → IsGoodRole administrators → IsGoodRole developers → IsGoodRole reviewers → IsGoodRole integrators → 0 < length administrators
+    → Sound (record o { project = record o.project { name = name; attributes = attributes; administrators = administrators; developers = developers; reviewers = reviewers; integrators = integrators } })
+roles-sound o s name attributes admins devs revs ints ga gd gr gi some = record {
+  project = record { roles = roles; administrator = some; numbers_ascend = s.project.numbers_ascend; numbered = s.project.numbered; moments = s.project.moments; next = s.project.next };
+  rows = s.rows;
+  changes = s.changes;
+  integrating = s.integrating;
+  deltas = s.deltas;
+  versions = s.versions;
+  entries = s.entries;
+  locks = s.locks;
+  candidate = s.candidate;
+}
+  where
+    roles : (role : Role) → IsGoodRole (users_of role (record o.project { name = name; attributes = attributes; administrators = admins; developers = devs; reviewers = revs; integrators = ints }))
+    roles Administrator = ga
+    roles Developer = gd
+    roles Reviewer = gr
+    roles Integrator = gi
+
+module _ (o : Observation) (s : Sound o) where
+  abbrev pub its : (role : Role) → IsGoodRole (users_of role o.project)
+  its = s.project.roles
+
+  pub sound-attributes : (a : Attributes) → Sound (record o { project = record o.project { attributes = a } })
+  sound-attributes a = roles-sound o s o.project.name a o.project.administrators o.project.developers o.project.reviewers o.project.integrators (its Administrator) (its Developer) (its Reviewer) (its Integrator) s.project.administrator
+
+  pub sound-add : (role : Role) (user : List ℕ) → refuses_adding (users_of role o.project) user ≡ None → Sound (record o { project = with_users role (users_of role o.project ++ user ∷ []) o.project })
+  sound-add Administrator user e = roles-sound o s o.project.name o.project.attributes (o.project.administrators ++ user ∷ []) o.project.developers o.project.reviewers o.project.integrators
+      (added-good o.project.administrators user (its Administrator) e) (its Developer) (its Reviewer) (its Integrator) (omega (arith, length-append o.project.administrators (user ∷ [])))
+  sound-add Developer user e = roles-sound o s o.project.name o.project.attributes o.project.administrators (o.project.developers ++ user ∷ []) o.project.reviewers o.project.integrators
+      (its Administrator) (added-good o.project.developers user (its Developer) e) (its Reviewer) (its Integrator) s.project.administrator
+  sound-add Reviewer user e = roles-sound o s o.project.name o.project.attributes o.project.administrators o.project.developers (o.project.reviewers ++ user ∷ []) o.project.integrators
+      (its Administrator) (its Developer) (added-good o.project.reviewers user (its Reviewer) e) (its Integrator) s.project.administrator
+  sound-add Integrator user e = roles-sound o s o.project.name o.project.attributes o.project.administrators o.project.developers o.project.reviewers (o.project.integrators ++ user ∷ [])
+      (its Administrator) (its Developer) (its Reviewer) (added-good o.project.integrators user (its Integrator) e) s.project.administrator
+
+  pub sound-drop : (role : Role) (user : List ℕ) → refuses_dropping role (users_of role o.project) user ≡ None → Sound (record o { project = with_users role (without user (users_of role o.project)) o.project })
+  sound-drop Administrator user e =
+      let m = may-drop Administrator o.project.administrators user e in
+      roles-sound o s o.project.name o.project.attributes (without user o.project.administrators) o.project.developers o.project.reviewers o.project.integrators
+      (dropped-good Administrator o.project.administrators user (its Administrator) e) (its Developer) (its Reviewer) (its Integrator)
+      (omega (arith, length-remove_key (bytes_eq user) o.project.administrators m.there, m.others refl))
+  sound-drop Developer user e = roles-sound o s o.project.name o.project.attributes o.project.administrators (without user o.project.developers) o.project.reviewers o.project.integrators
+      (its Administrator) (dropped-good Developer o.project.developers user (its Developer) e) (its Reviewer) (its Integrator) s.project.administrator
+  sound-drop Reviewer user e = roles-sound o s o.project.name o.project.attributes o.project.administrators o.project.developers (without user o.project.reviewers) o.project.integrators
+      (its Administrator) (its Developer) (dropped-good Reviewer o.project.reviewers user (its Reviewer) e) (its Integrator) s.project.administrator
+  sound-drop Integrator user e = roles-sound o s o.project.name o.project.attributes o.project.administrators o.project.developers o.project.reviewers (without user o.project.integrators)
+      (its Administrator) (its Developer) (its Reviewer) (dropped-good Integrator o.project.integrators user (its Integrator) e) s.project.administrator
+
+-- ---- the first event
+
+sound-start : (who name : List ℕ) (attributes : Attributes) → Sound (new_observation who name attributes)
+sound-start who name attributes = record {
+  project = record { roles = roles; administrator = omega arith; numbers_ascend = tt; numbered = refl; moments = λ n d e. none-some d e; next = (omega arith, omega arith) };
+  rows = record { ascend = tt; good = λ p r e. none-some r e; clash = λ folder path e f g. absurd (never e) };
+  changes = record { ascend = tt; numbered = λ n x e. none-some x e; good = λ n x e. none-some x e };
+  integrating = record { one = λ m n x y e f i j. none-some x e; room = λ n x e i. none-some x e };
+  deltas = record { numbered = λ n d e. none-some d e; completed = λ n d e. none-some d e; once = λ m n d e ed ee same there. none-some d ed; named = λ n x e i. none-some x e };
+  versions = record { below = λ p v e. no-version p v e; apart = λ p q v w ev ew same. no-version p v ev; inside = λ p v e h. no-version p v e; unshared = λ p q v w ev ew m. no-version p v ev };
+  entries = λ n d e. none-some d e;
+  locks = record { ascend = tt; numbered = λ p l e. none-some l e; held = λ p l e. none-some l e; taken = λ n x e i p has. none-some x e };
+  candidate = λ n x e i. none-some x e;
+}
+  where
+    never : false ≡ true → ⊥
+    never e = cc
+
+    no-version : {P : Type 0} (p : Place) (v : VersionRef) → version_at [] [] p ≡ Some v → P
+    no-version (in_table path delta) v e = none-some v e
+    no-version (in_change n path) v e = none-some v e
+
+    roles : (role : Role) → IsGoodRole (users_of role (new_observation who name attributes).project)
+    roles Administrator = record { differ = one-user who; few = omega arith }
+    roles Developer = record { differ = none-differ; few = omega arith }
+    roles Reviewer = record { differ = none-differ; few = omega arith }
+    roles Integrator = record { differ = none-differ; few = omega arith }
+
+begins-by : (who : List ℕ) (when : ℕ) (c : Option ℕ) (kind : EventKind) → IsProject kind → IsSomeAnd (started (record { who = who; when = when; change = c; what = kind })) Sound
+begins-by who when c (on.Project name attributes) h = sound-start who name attributes
+begins-by who when c kind h = absurd h
+
+pub begins-sound : BeginsSound
+begins-sound event s = begins-by event.who event.when event.change event.what s.project

@@ -1,0 +1,11 @@
+pub mod Log
+pub mod Phases
+pub mod People
+pub mod Settings
+pub mod Files
+pub mod Baseline
+pub mod Runs
+pub mod Observed
+pub mod After
+pub mod Applies
+pub mod Laws
