@@ -1,0 +1,17 @@
+pub mod Call
+pub mod Sight
+pub mod Digest
+pub mod Config
+pub mod Attributes
+pub mod Runs
+pub mod Fits
+pub mod Space
+pub mod Permission
+pub mod Paths
+pub mod Freezing
+pub mod Verdict
+pub mod Legal
+pub mod Provenance
+pub mod Same
+pub mod Replies
+pub mod Laws
