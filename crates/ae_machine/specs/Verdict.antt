@@ -115,9 +115,12 @@ refusal given = option_or (refusal_before given.call) (first_of (asked_of_sight 
 
 -- ---- the events of each function
 
+abbrev pub is_unused : List ℕ → ℕ → Bool
+is_unused numbers number = not (has_number numbers number)
+
 -- the least number that no change has
 abbrev pub free_number : Observation → Option ℕ
-free_number o = find (λ number. not (has_number o.numbers number)) change_numbers
+free_number o = find (is_unused o.numbers) change_numbers
 
 -- by the project's attributes a review begins at once, or is waited for
 abbrev pub phase_behind : EndAction → Phase
@@ -187,7 +190,7 @@ event_of who when change kind = record { who = who; when = when; change = change
 
 -- they are made by the caller, at the moment of the call
 abbrev pub events_of : Given → List Event
-events_of given = map (event_of given.call.who given.call.when (change_of_events given.call.command.function given.call)) (kinds_of given.call.command.function given)
+events_of given = map (event_of given.call.who given.when (change_of_events given.call.command.function given.call)) (kinds_of given.call.command.function given)
 
 -- ---- the verdict
 
@@ -216,9 +219,9 @@ abbrev pub new_project : Command → List ℕ → ℕ → View → Verdict
 new_project command who when view = answer (refusal_in (new_project_file command view)) (new_project_event command who when (new_project_file command view) ∷ [])
 
 -- the refusal that the conditions without reading give first, also where no project stands
-abbrev pub refused_before : Option Observation → Command → List ℕ → ℕ → Option Refusal
-refused_before None command who when = if is_new_project command.function then None else Some NoProject
-refused_before (Some o) command who when = if is_new_project command.function then Some ProjectExists else refusal_before (call_of o command who when)
+abbrev pub refused_before : Option Observation → Command → List ℕ → Option Refusal
+refused_before None command who = if is_new_project command.function then None else Some NoProject
+refused_before (Some o) command who = if is_new_project command.function then Some ProjectExists else refusal_before (call_of o command who)
 
 -- the answer to a command: where no project stands only a new one is made, and where one stands none is
 abbrev pub verdict : Placing → Option Observation → (ℕ → List ℕ) → Command → List ℕ → ℕ → View → Verdict
