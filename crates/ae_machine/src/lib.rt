@@ -3,12 +3,14 @@
 
 mod attributes;
 mod events;
+mod laws;
 mod numbers;
 mod permission;
 mod refusing;
 mod verdict;
 mod view;
 
+pub use laws::{accepted_events_apply, accepted_events_follow, legal_logs_are_sound};
 pub use refusing::before;
 pub use verdict::Verdict;
 pub use view::{RunRow, RunRowList, ScanList, View};
