@@ -1,2 +1,6 @@
 mod Asked
 mod Upward
+pub mod AcceptedNumbers
+pub mod AcceptedRoles
+pub mod Accepted
+pub mod AcceptedLogs
