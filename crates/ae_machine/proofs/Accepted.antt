@@ -1,7 +1,7 @@
 -- The events of an accepted command apply, function by function.
 use Rattle.std.proofs.Common.{◌≡◌, ℕ, ◌+◌, refl, sym, ◌∙◌, ap, subst, List, [], ◌∷◌, map, Option, Some, None, Bool, true, false, not, ◌&&◌, ◌||◌, length, nat_le}
 use Rattle.std.specs.Prelude.{is_some, IsSomeAnd}
-use Rattle.std.specs.Option.{is_none, option_or, option_and_then}
+use Rattle.std.specs.Option.{is_none, option_and_then}
 use Rattle.ae_base.specs.declared.words.Phase.{Phase}
 use Rattle.ae_base.specs.declared.words.Role.{Role}
 use Rattle.ae_base.specs.declared.words.Role.TheVariants.{Administrator, Developer, Reviewer, Integrator}
@@ -9,7 +9,7 @@ use Rattle.ae_base.specs.declared.words.Which.TheVariants.{Changes}
 use Rattle.ae_base.specs.declared.refusal.Refusal.{Refusal}
 use Rattle.ae_base.specs.declared.refusal.Refusal.TheVariants.{NoSuchChange, WrongPhase, Limit}
 use Rattle.ae_types.specs.declared.change.Change.{Change}
-use Rattle.ae_types.specs.Found.{change_at, has_number}
+use Rattle.ae_types.specs.Found.{change_at}
 use Rattle.ae_types.specs.Observation.{Observation}
 use Rattle.ae_types.specs.Phases.{is_awaiting_development, is_completed}
 use Rattle.ae_types.specs.Roles.{users_of}
@@ -22,14 +22,14 @@ use Rattle.ae_words.specs.declared.command.Command.{Command}
 use Rattle.ae_words.specs.declared.table.Function.{Function}
 use Rattle.ae_words.specs.declared.table.Function.TheVariants as function
 use Rattle.ae_words.specs.declared.table.Setting.TheVariants as setting
-use Rattle.ae_words.specs.Formed.{IsFormed, AreOptions}
+use Rattle.ae_words.specs.Formed.{IsFormed}
 use Rattle.ae_words.specs.Meaning.{is_whole, has_plain}
 use Rattle.ae_words.specs.Table.{row, needs_attributes, needs_change}
 use Rattle.ae_machine.specs.declared.verdict.Verdict.{Verdict}
 use Rattle.ae_machine.specs.declared.verdict.Verdict.TheVariants.{Accept, Refuse}
 use Rattle.ae_machine.specs.declared.view.View.{View}
 use Rattle.ae_machine.specs.Accepted.{AppliesAll, AcceptedApply}
-use Rattle.ae_machine.specs.Call.{Given, call_of, given_of, unless, first_of}
+use Rattle.ae_machine.specs.Call.{Given, given_of, unless, first_of}
 use Rattle.ae_machine.specs.Permission.{right_project, right_change, all_added, all_dropped}
 use Rattle.ae_machine.specs.Space.{placing}
 use Rattle.ae_machine.specs.There.{is_there_yet}

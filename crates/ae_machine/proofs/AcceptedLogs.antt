@@ -7,8 +7,7 @@ use Rattle.ae_types.specs.Rules.{blamed}
 use Rattle.ae_types.specs.Sound.{Sound}
 use Rattle.ae_types.proofs.RulesAre.{sound-blamed}
 use Rattle.ae_log.specs.declared.event.Event.{Event}
-use Rattle.ae_log.specs.After.{after, after_all, started}
-use Rattle.ae_log.specs.Applies.{Starts}
+use Rattle.ae_log.specs.After.{after, started}
 use Rattle.ae_log.specs.Log.{Log, followed}
 use Rattle.ae_log.specs.Files.{version_bytes}
 use Rattle.ae_log.specs.Observed.{observation, observation_with}
@@ -18,16 +17,13 @@ use Rattle.ae_log.proofs.Keeping.{keeps}
 use Rattle.ae_log.proofs.ProjectSteps.{begins}
 use Rattle.ae_log.proofs.SoundProject.{begins-sound}
 use Rattle.ae_words.specs.declared.command.Command.{Command}
-use Rattle.ae_words.specs.declared.table.Function.{Function}
-use Rattle.ae_words.specs.declared.table.Function.TheVariants as function
 use Rattle.ae_machine.specs.declared.verdict.Verdict.{Verdict}
-use Rattle.ae_machine.specs.declared.verdict.Verdict.TheVariants.{Accept, Refuse}
+use Rattle.ae_machine.specs.declared.verdict.Verdict.TheVariants.{Accept}
 use Rattle.ae_machine.specs.declared.view.View.{View}
-use Rattle.ae_machine.specs.Accepted.{AppliesAll, AreStart, decided, AcceptedStarts, Follow, AcceptedFollow, FollowFirst, FirstFollow, LegalStands, AreDecided, LegalSoFar, SoFarSound, SoFarBlameless}
+use Rattle.ae_machine.specs.Accepted.{AppliesAll, AreStart, decided, AcceptedStarts, Follow, AcceptedFollow, FirstFollow, LegalStands, AreDecided, SoFarSound, SoFarBlameless}
 use Rattle.ae_machine.specs.Call.{refusal_in}
-use Rattle.ae_machine.specs.Legal.{Legal, nothing, more, Occasion, MayCome, verdict_after}
-use Rattle.ae_machine.specs.There.{is_there_yet}
-use Rattle.ae_machine.specs.Verdict.{answer, is_new_project, new_project, new_project_file, new_project_event}
+use Rattle.ae_machine.specs.Legal.{Legal, nothing, more, verdict_after}
+use Rattle.ae_machine.specs.Verdict.{is_new_project, new_project, new_project_file, new_project_event}
 use Rattle.ae_machine.proofs.Accepted.{accepted, accepted-apply}
 
 never : {P : Type 0} → false ≡ true → P
