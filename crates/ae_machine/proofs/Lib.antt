@@ -1,4 +1,6 @@
 mod Asked
+mod Behind
+mod Named
 mod Upward
 pub mod AcceptedNumbers
 pub mod AcceptedRoles

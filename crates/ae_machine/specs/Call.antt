@@ -35,9 +35,13 @@ call_of o command who = record { stands = o; command = command; who = who }
 abbrev pub given_of : Placing → Observation → (ℕ → List ℕ) → Command → List ℕ → ℕ → View → Given
 given_of places o bytes command who when view = record { call = call_of o command who; bytes = bytes; places = places; when = when; view = view }
 
--- the change that the command names, where it is there
+-- the change of the number that is named, where it is there
+abbrev pub change_named : Observation → Option ℕ → Option Change
+change_named o number = option_and_then (change_at o) number
+
+-- the change that the command names
 abbrev pub change_of : Call → Option Change
-change_of call = option_and_then (change_at call.stands) call.command.change
+change_of call = change_named call.stands call.command.change
 
 -- ---- conditions
 

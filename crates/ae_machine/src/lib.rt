@@ -2,6 +2,7 @@
 #![tactic(auto)]
 
 mod attributes;
+mod deciding;
 mod events;
 mod laws;
 mod numbers;
@@ -10,6 +11,7 @@ mod refusing;
 mod verdict;
 mod view;
 
+pub use deciding::decide;
 pub use laws::{accepted_events_apply, accepted_events_follow, legal_logs_are_sound};
 pub use refusing::before;
 pub use verdict::Verdict;

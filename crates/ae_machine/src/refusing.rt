@@ -5,9 +5,9 @@ ghost use Rattle.std.specs.Str.{bytes_eq};
 ghost use Rattle.ae_base.specs.declared.words.Which.TheVariants.{Changes};
 ghost use Rattle.ae_base.specs.declared.refusal.Refusal.TheVariants.{NotAdministrator, WrongPhase};
 ghost use Rattle.ae_policy.specs.Making.{refuses_making};
-ghost use Rattle.ae_types.specs.Found.{change_at, if_there};
+ghost use Rattle.ae_types.specs.Found.{if_there};
 ghost use Rattle.ae_types.specs.Roles.{has_user};
-ghost use Rattle.ae_machine.specs.Call.{call_of, first_of, unless};
+ghost use Rattle.ae_machine.specs.Call.{call_of, change_named, first_of, unless};
 ghost use Rattle.ae_machine.specs.Permission.{within, may_come_in, right_phase, caller_is_administrator, caller_may_make, may_be_added, may_be_dropped};
 ghost use Rattle.ae_machine.specs.There.{is_there_yet};
 ghost use Rattle.ae_machine.specs.Verdict.{asked, refusal_before, refused_before};
@@ -21,7 +21,7 @@ use std::alloc::{AllocError, Global};
 
 /// The change that a command names, where it is there.
 pub(crate) fn change_of<'a>(state: &'a State, command: &Command) -> Option<&'a Change>
-    ensures { option_copied result ≡ option_and_then (change_at state.now) command.now.change }
+    ensures { option_copied result ≡ change_named state.now command.now.change }
 {
     state.change(command.change?)
 }
@@ -38,7 +38,7 @@ fn is_other_project(project: &Project, command: &Command) -> bool
 
 // Why the command doesn't come in this phase of its change.
 fn phase_refused(state: &State, command: &Command) -> Option<Refusal>
-    ensures { result ≡ option_and_then (λ change. unless (may_come_in command.now.function change.phase) (WrongPhase change.phase)) (option_and_then (change_at state.now) command.now.change) }
+    ensures { result ≡ option_and_then (λ change. unless (may_come_in command.now.function change.phase) (WrongPhase change.phase)) (change_named state.now command.now.change) }
 {
     let phase = change_of(state, command)?.phase;
     if may_come_in(command.function, phase) {
