@@ -1,23 +1,25 @@
 -- The events of an accepted command apply, function by function.
-use Rattle.std.proofs.Common.{◌≡◌, ℕ, ◌+◌, refl, sym, ◌∙◌, ap, subst, List, [], ◌∷◌, map, Option, Some, None, Bool, true, false, not, ◌&&◌, ◌||◌, length, nat_le}
+use Rattle.std.proofs.Common.{◌≡◌, ℕ, ◌+◌, ◌≤◌, refl, sym, ◌∙◌, ap, subst, List, [], ◌∷◌, map, Option, Some, None, Bool, true, false, not, ◌&&◌, ◌||◌, length, nat_le}
 use Rattle.std.specs.Prelude.{is_some, IsSomeAnd}
 use Rattle.std.specs.Option.{is_none, option_and_then}
+use Rattle.std.proofs.lemmas.Bool.{leb-true}
 use Rattle.ae_base.specs.declared.words.Phase.{Phase}
 use Rattle.ae_base.specs.declared.words.Role.{Role}
 use Rattle.ae_base.specs.declared.words.Role.TheVariants.{Administrator, Developer, Reviewer, Integrator}
-use Rattle.ae_base.specs.declared.words.Which.TheVariants.{Changes}
+use Rattle.ae_base.specs.declared.words.Which.TheVariants.{ChangeFiles, Changes}
 use Rattle.ae_base.specs.declared.refusal.Refusal.{Refusal}
 use Rattle.ae_base.specs.declared.refusal.Refusal.TheVariants.{NoSuchChange, WrongPhase, Limit}
 use Rattle.ae_types.specs.declared.change.Change.{Change}
+use Rattle.ae_types.specs.declared.change.ChangeFile.{ChangeFile}
 use Rattle.ae_types.specs.Found.{change_at}
 use Rattle.ae_types.specs.Observation.{Observation}
-use Rattle.ae_types.specs.Phases.{is_awaiting_development, is_completed}
+use Rattle.ae_types.specs.Phases.{is_awaiting_development, is_integrating, is_completed}
 use Rattle.ae_types.specs.Roles.{users_of}
 use Rattle.ae_types.specs.Sound.{Sound, IsMoment}
 use Rattle.ae_log.specs.declared.event.Event.{Event}
 use Rattle.ae_log.specs.declared.event.EventKind.{EventKind}
 use Rattle.ae_log.specs.declared.event.EventKind.TheVariants as on
-use Rattle.ae_log.specs.Applies.{AppliesTo, AppliesAlone}
+use Rattle.ae_log.specs.Applies.{is_being_developed, is_awaiting_review, is_being_reviewed, is_awaiting_integration, AppliesTo, AppliesAlone}
 use Rattle.ae_words.specs.declared.command.Command.{Command}
 use Rattle.ae_words.specs.declared.table.Function.{Function}
 use Rattle.ae_words.specs.declared.table.Function.TheVariants as function
@@ -29,13 +31,16 @@ use Rattle.ae_machine.specs.declared.verdict.Verdict.{Verdict}
 use Rattle.ae_machine.specs.declared.verdict.Verdict.TheVariants.{Accept, Refuse}
 use Rattle.ae_machine.specs.declared.view.View.{View}
 use Rattle.ae_machine.specs.Accepted.{AppliesAll, AcceptedApply}
-use Rattle.ae_machine.specs.Call.{Given, given_of, unless, first_of}
-use Rattle.ae_machine.specs.Permission.{right_project, right_change, all_added, all_dropped}
+use Rattle.ae_machine.specs.Call.{Call, Given, given_of, unless, first_of}
+use Rattle.ae_machine.specs.Paths.{PathCondition, asked_of_path, path_refused}
+use Rattle.ae_machine.specs.Permission.{within, right_project, right_change, all_added, all_dropped}
+use Rattle.ae_machine.specs.Runs.{run_event}
 use Rattle.ae_machine.specs.Space.{placing}
 use Rattle.ae_machine.specs.There.{is_there_yet}
-use Rattle.ae_machine.specs.Verdict.{asked, asked_of_sight, refusal_before, refusal, events_of, event_of, answer, verdict_on, verdict, free_number}
+use Rattle.ae_machine.specs.Verdict.{asked, asked_of_sight, refusal_before, refusal, events_of, event_of, answer, verdict_on, verdict, runs, free_number}
 use Rattle.ae_machine.proofs.AcceptedNumbers.{a-number-is-free}
 use Rattle.ae_machine.proofs.AcceptedRoles.{both-none, added-apply, dropped-apply}
+use Rattle.ae_machine.proofs.AcceptedPaths.{paths-apply, runs-apply}
 
 never : {P : Type 0} → false ≡ true → P
 never e = cc
@@ -123,6 +128,22 @@ one-applies : (o : Observation) (who : List ℕ) (when : ℕ) (number : Option �
 one-applies o who when (Some n) kind m h = (record { moment = m; comes = h }, tt)
 one-applies o who when None kind m h = absurd h
 
+-- ---- room for files
+
+-- none of the conditions on a path refuses
+abbrev pub PassedPath : List PathCondition → Call → List ChangeFile → List ℕ → Type 0
+PassedPath [] call files path = Unit {0}
+PassedPath (condition ∷ conditions) call files path = (condition call files path ≡ None) × PassedPath conditions call files path
+
+passed-path : (conditions : List PathCondition) (call : Call) (files : List ChangeFile) (path : List ℕ) → path_refused conditions call files path ≡ None → PassedPath conditions call files path
+passed-path [] call files path e = tt
+passed-path (condition ∷ conditions) call files path e =
+    let p = both-none (condition call files path) (path_refused conditions call files path) e in
+    (p.0, passed-path conditions call files path p.1)
+
+room-last : (most size : ℕ) → within ChangeFiles most size ≡ None → size ≤ most
+room-last most size e = leb-true size most (tested (nat_le size most) (Limit ChangeFiles most) e)
+
 -- ---- the functions
 
 -- the command with this function
@@ -188,6 +209,82 @@ module _ (o : Observation) (bytes : ℕ → List ℕ) (c : Command) (who : List 
       let p = passes function.ChangeAttributes e in
       these-apply _ p.these (one-applies o who when c.change (on.ChangeAttributes _) m (in-phase o c.change (λ phase. not (is_completed phase)) (change-there (with_function function.ChangeAttributes c) formed.whole refl) p.before.1.0 p.before.1.1.0))
   by-function function.NewProject s formed there e = cc
+  by-function function.DevelopBegin s formed there e =
+      let p = passes function.DevelopBegin e in
+      these-apply _ p.these (one-applies o who when c.change on.Begin m (in-phase o c.change is_awaiting_development (change-there (with_function function.DevelopBegin c) formed.whole refl) p.before.1.0 p.before.1.1.0))
+  by-function function.DevelopBeginUndo s formed there e =
+      let p = passes function.DevelopBeginUndo e in
+      these-apply _ p.these (one-applies o who when c.change on.BeginUndo m (in-phase o c.change is_being_developed (change-there (with_function function.DevelopBeginUndo c) formed.whole refl) p.before.1.0 p.before.1.1.0))
+  by-function function.DevelopEndUndo s formed there e =
+      let p = passes function.DevelopEndUndo e in
+      these-apply _ p.these (one-applies o who when c.change on.EndUndo m (in-phase o c.change (λ phase. is_awaiting_review phase || is_being_reviewed phase || is_awaiting_integration phase) (change-there (with_function function.DevelopEndUndo c) formed.whole refl) p.before.1.0 p.before.1.1.0))
+  by-function function.ReviewBegin s formed there e =
+      let p = passes function.ReviewBegin e in
+      these-apply _ p.these (one-applies o who when c.change on.ReviewBegin m (in-phase o c.change is_awaiting_review (change-there (with_function function.ReviewBegin c) formed.whole refl) p.before.1.0 p.before.1.1.0))
+  by-function function.ReviewBeginUndo s formed there e =
+      let p = passes function.ReviewBeginUndo e in
+      these-apply _ p.these (one-applies o who when c.change on.ReviewBeginUndo m (in-phase o c.change is_being_reviewed (change-there (with_function function.ReviewBeginUndo c) formed.whole refl) p.before.1.0 p.before.1.1.0))
+  by-function function.ReviewPass s formed there e =
+      let p = passes function.ReviewPass e in
+      these-apply _ p.these (one-applies o who when c.change on.Pass m (in-phase o c.change is_being_reviewed (change-there (with_function function.ReviewPass c) formed.whole refl) p.before.1.0 p.before.1.1.0))
+  by-function function.ReviewPassUndo s formed there e =
+      let p = passes function.ReviewPassUndo e in
+      these-apply _ p.these (one-applies o who when c.change on.PassUndo m (in-phase o c.change is_awaiting_integration (change-there (with_function function.ReviewPassUndo c) formed.whole refl) p.before.1.0 p.before.1.1.0))
+  by-function function.ReviewFail s formed there e =
+      let p = passes function.ReviewFail e in
+      these-apply _ p.these (one-applies o who when c.change on.Fail m (in-phase o c.change is_being_reviewed (change-there (with_function function.ReviewFail c) formed.whole refl) p.before.1.0 p.before.1.1.0))
+  by-function function.IntegrateBeginUndo s formed there e =
+      let p = passes function.IntegrateBeginUndo e in
+      these-apply _ p.these (one-applies o who when c.change on.IBeginUndo m (in-phase o c.change is_integrating (change-there (with_function function.IntegrateBeginUndo c) formed.whole refl) p.before.1.0 p.before.1.1.0))
+  by-function function.IntegratePass s formed there e =
+      let p = passes function.IntegratePass e in
+      these-apply _ p.these (one-applies o who when c.change on.IPass m (in-phase o c.change is_integrating (change-there (with_function function.IntegratePass c) formed.whole refl) p.before.1.0 p.before.1.1.0))
+  by-function function.IntegrateFail s formed there e =
+      let p = passes function.IntegrateFail e in
+      these-apply _ p.these (one-applies o who when c.change on.IFail m (in-phase o c.change is_integrating (change-there (with_function function.IntegrateFail c) formed.whole refl) p.before.1.0 p.before.1.1.0))
+  by-function function.Build s formed there e =
+      let p = passes function.Build e in
+      let given = is_given function.Build in
+      these-apply _ p.these (runs-apply o (run_event given) who when c.change view.runs (runs given) m (λ change. refl)
+          (in-phase o c.change (λ phase. is_being_developed phase || is_integrating phase) (change-there (with_function function.Build c) formed.whole refl) p.before.1.0 p.before.1.1.0))
+  by-function function.Test s formed there e =
+      let p = passes function.Test e in
+      let given = is_given function.Test in
+      these-apply _ p.these (runs-apply o (run_event given) who when c.change view.runs (runs given) m (λ change. refl)
+          (in-phase o c.change (λ phase. is_being_developed phase || is_integrating phase) (change-there (with_function function.Test c) formed.whole refl) p.before.1.0 p.before.1.1.0))
+  by-function function.CopyFile s formed there e =
+      let p = passes function.CopyFile e in
+      these-apply _ p.these (paths-apply (is_given function.CopyFile).call (λ path. refl) (λ path files h. room-last 1000 _ (passed-path (asked_of_path function.CopyFile) (is_given function.CopyFile).call files path h).1.1.1.0) who when c.change c.paths m
+          (in-phase o c.change is_being_developed (change-there (with_function function.CopyFile c) formed.whole refl) p.before.1.0 p.before.1.1.0) p.before.1.1.1.1.1.0)
+  by-function function.NewFile s formed there e =
+      let p = passes function.NewFile e in
+      these-apply _ p.these (paths-apply (is_given function.NewFile).call (λ path. refl) (λ path files h. room-last 1000 _ (passed-path (asked_of_path function.NewFile) (is_given function.NewFile).call files path h).1.1.1.0) who when c.change c.paths m
+          (in-phase o c.change is_being_developed (change-there (with_function function.NewFile c) formed.whole refl) p.before.1.0 p.before.1.1.0) p.before.1.1.1.1.0)
+  by-function function.NewTest s formed there e =
+      let p = passes function.NewTest e in
+      these-apply _ p.these (paths-apply (is_given function.NewTest).call (λ path. refl) (λ path files h. room-last 1000 _ (passed-path (asked_of_path function.NewTest) (is_given function.NewTest).call files path h).1.1.1.0) who when c.change c.paths m
+          (in-phase o c.change is_being_developed (change-there (with_function function.NewTest c) formed.whole refl) p.before.1.0 p.before.1.1.0) p.before.1.1.1.1.0)
+  by-function function.RemoveFile s formed there e =
+      let p = passes function.RemoveFile e in
+      these-apply _ p.these (paths-apply (is_given function.RemoveFile).call (λ path. refl) (λ path files h. room-last 1000 _ (passed-path (asked_of_path function.RemoveFile) (is_given function.RemoveFile).call files path h).1.1.0) who when c.change c.paths m
+          (in-phase o c.change is_being_developed (change-there (with_function function.RemoveFile c) formed.whole refl) p.before.1.0 p.before.1.1.0) p.before.1.1.1.1.0)
+  by-function function.CopyFileUndo s formed there e =
+      let p = passes function.CopyFileUndo e in
+      these-apply _ p.these (paths-apply (is_given function.CopyFileUndo).call (λ path. tt) (λ path files h. tt) who when c.change c.paths m
+          (in-phase o c.change is_being_developed (change-there (with_function function.CopyFileUndo c) formed.whole refl) p.before.1.0 p.before.1.1.0) p.before.1.1.1.1.0)
+  by-function function.NewFileUndo s formed there e =
+      let p = passes function.NewFileUndo e in
+      these-apply _ p.these (paths-apply (is_given function.NewFileUndo).call (λ path. tt) (λ path files h. tt) who when c.change c.paths m
+          (in-phase o c.change is_being_developed (change-there (with_function function.NewFileUndo c) formed.whole refl) p.before.1.0 p.before.1.1.0) p.before.1.1.1.1.0)
+  by-function function.NewTestUndo s formed there e =
+      let p = passes function.NewTestUndo e in
+      these-apply _ p.these (paths-apply (is_given function.NewTestUndo).call (λ path. tt) (λ path files h. tt) who when c.change c.paths m
+          (in-phase o c.change is_being_developed (change-there (with_function function.NewTestUndo c) formed.whole refl) p.before.1.0 p.before.1.1.0) p.before.1.1.1.1.0)
+  by-function function.RemoveFileUndo s formed there e =
+      let p = passes function.RemoveFileUndo e in
+      these-apply _ p.these (paths-apply (is_given function.RemoveFileUndo).call (λ path. tt) (λ path files h. tt) who when c.change c.paths m
+          (in-phase o c.change is_being_developed (change-there (with_function function.RemoveFileUndo c) formed.whole refl) p.before.1.0 p.before.1.1.0) p.before.1.1.1.1.0)
+  by-function function.List s formed there e = these-apply [] (passes function.List e).these tt
   by-function f s formed there e = never there
 
 pub accepted-apply : AcceptedApply

@@ -4,5 +4,6 @@ mod Named
 mod Upward
 pub mod AcceptedNumbers
 pub mod AcceptedRoles
+pub mod AcceptedPaths
 pub mod Accepted
 pub mod AcceptedLogs
