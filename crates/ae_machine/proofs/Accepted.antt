@@ -6,7 +6,7 @@ use Rattle.std.proofs.lemmas.Bool.{leb-true}
 use Rattle.ae_base.specs.declared.words.Phase.{Phase}
 use Rattle.ae_base.specs.declared.words.Role.{Role}
 use Rattle.ae_base.specs.declared.words.Role.TheVariants.{Administrator, Developer, Reviewer, Integrator}
-use Rattle.ae_base.specs.declared.words.Which.TheVariants.{ChangeFiles, Changes}
+use Rattle.ae_base.specs.declared.words.Which.TheVariants.{ChangeFiles, Changes, Deltas}
 use Rattle.ae_base.specs.declared.refusal.Refusal.{Refusal}
 use Rattle.ae_base.specs.declared.refusal.Refusal.TheVariants.{NoSuchChange, WrongPhase, Limit}
 use Rattle.ae_types.specs.declared.change.Change.{Change}
@@ -16,6 +16,7 @@ use Rattle.ae_types.specs.Observation.{Observation}
 use Rattle.ae_types.specs.Phases.{is_awaiting_development, is_integrating, is_completed}
 use Rattle.ae_types.specs.Roles.{users_of}
 use Rattle.ae_types.specs.Sound.{Sound, IsMoment}
+use Rattle.ae_types.specs.Trees.{last_delta}
 use Rattle.ae_log.specs.declared.event.Event.{Event}
 use Rattle.ae_log.specs.declared.event.EventKind.{EventKind}
 use Rattle.ae_log.specs.declared.event.EventKind.TheVariants as on
@@ -38,6 +39,7 @@ use Rattle.ae_machine.specs.Runs.{run_event}
 use Rattle.ae_machine.specs.Space.{placing}
 use Rattle.ae_machine.specs.There.{is_there_yet}
 use Rattle.ae_machine.specs.Verdict.{asked, asked_of_sight, refusal_before, refusal, events_of, event_of, answer, verdict_on, verdict, runs, free_number}
+use Rattle.ae_machine.proofs.AcceptedIntegration.{integration-comes}
 use Rattle.ae_machine.proofs.AcceptedNumbers.{a-number-is-free}
 use Rattle.ae_machine.proofs.AcceptedRoles.{both-none, added-apply, dropped-apply}
 use Rattle.ae_machine.proofs.AcceptedPaths.{paths-apply, runs-apply}
@@ -285,6 +287,12 @@ module _ (o : Observation) (bytes : ℕ → List ℕ) (c : Command) (who : List 
       these-apply _ p.these (paths-apply (is_given function.RemoveFileUndo).call (λ path. tt) (λ path files h. tt) who when c.change c.paths m
           (in-phase o c.change is_being_developed (change-there (with_function function.RemoveFileUndo c) formed.whole refl) p.before.1.0 p.before.1.1.0) p.before.1.1.1.1.0)
   by-function function.List s formed there e = these-apply [] (passes function.List e).these tt
+  by-function function.IntegrateBegin s formed there e =
+      let p = passes function.IntegrateBegin e in
+      let behind = p.before.1.1.1.1.1.1 in
+      these-apply _ p.these (one-applies o who when c.change on.IBegin m (integration-comes o s c.change
+          (in-phase o c.change is_awaiting_integration (change-there (with_function function.IntegrateBegin c) formed.whole refl) p.before.1.0 p.before.1.1.0)
+          behind.0 behind.1.0 (tested (nat_le (last_delta o + 1) 1990) (Limit Deltas 1990) behind.1.1.1.1.0)))
   by-function f s formed there e = never there
 
 pub accepted-apply : AcceptedApply

@@ -5,5 +5,6 @@ mod Upward
 pub mod AcceptedNumbers
 pub mod AcceptedRoles
 pub mod AcceptedPaths
+pub mod AcceptedIntegration
 pub mod Accepted
 pub mod AcceptedLogs
