@@ -1,17 +1,16 @@
--- Events after which no change is integrated or completed that wasn't: what the rules ask of deltas and candidates stays.
-use Rattle.std.proofs.Common.{◌≡◌, ℕ, refl, sym, ◌∙◌, ap, subst, List, map, Option, Some, None, Bool, true, false, cond, nat_eq, eqb-true, ◌||◌}
-use Rattle.std.specs.Prelude.{IfSome, length}
+-- Events after which no change is integrated or completed that wasn't: what the rules ask of candidates stays too.
+use Rattle.std.proofs.Common.{◌≡◌, ℕ, refl, sym, ◌∙◌, ap, subst, List, map, Some, Bool, true, false, ◌||◌}
+use Rattle.std.specs.Prelude.{length}
 use Rattle.ae_types.specs.declared.change.Change.{Change}
-use Rattle.ae_types.specs.declared.project.DeltaRow.{DeltaRow}
 use Rattle.ae_types.specs.Observation.{Observation}
-use Rattle.ae_types.specs.Found.{change_in, delta_in}
+use Rattle.ae_types.specs.Found.{change_in}
 use Rattle.ae_types.specs.Phases.{is_integrating, is_completed}
 use Rattle.ae_types.specs.Clashes.{NoneClash}
 use Rattle.ae_types.specs.Trees.{tree_at, overlaid, paths_of}
-use Rattle.ae_types.specs.Sound.{Sound, AreDeltas, IsIntegrating, IsDelta, EachChange}
-use Rattle.ae_types.proofs.Ordered.{some-is}
+use Rattle.ae_types.specs.Sound.{Sound, IsIntegrating, EachChange}
 use Rattle.ae_log.specs.After.{where_number}
-use Rattle.ae_log.proofs.OneChange.{Keeps, was, own-there}
+use Rattle.ae_log.proofs.Steady.{Steady, related}
+use Rattle.ae_log.proofs.OneChange.{Keeps}
 
 pub record Calm (x y : Change) : Type 0 where
   pub integrating : is_integrating y.phase ≡ is_integrating x.phase
@@ -25,16 +24,8 @@ or-right : (a b : Bool) → b ≡ true → (a || b) ≡ true
 or-right true b e = refl
 or-right false b e = e
 
--- a change after the event is related to what it was, where the event's change is so to what it was, and each to itself
-pub related : (R : Change → Change → Type 0) → ((z : Change) → R z z) → (xs : List Change) (c : ℕ) (h : Change → Change) (keeps : Keeps h) (x : Change) → change_in xs c ≡ Some x → R x (h x)
-    → (n : ℕ) (y : Change) → change_in (map (where_number c h) xs) n ≡ Some y → (z : Change) × (change_in xs n ≡ Some z) × R z y
-related R self xs c h keeps x at_c own n y e = let w = was c h keeps xs n y e in (w.old, w.there, go (nat_eq c n) refl w.old w.there w.now)
-  where
-    go : (b : Bool) → nat_eq c n ≡ b → (z : Change) → change_in xs n ≡ Some z → y ≡ cond (nat_eq c n) (h z) z → R z y
-    go true is z f same =
-        let zx : z ≡ x = some-is z x (sym f ∙ ap (change_in xs) (sym (eqb-true c n is)) ∙ at_c) in
-        subst (λ v. R v y) (sym zx) (subst (R x) (sym (same ∙ ap (λ b. cond b (h z) z) is ∙ ap h zx)) own)
-    go false is z f same = subst (R z) (sym (same ∙ ap (λ b. cond b (h z) z) is)) (self z)
+pub steady-of : (x y : Change) → Calm x y → Steady x y
+steady-of x y calm = record { completed = calm.completed; files = λ e. calm.files (or-right (is_integrating x.phase) (is_completed x.phase) e) }
 
 module _ (o : Observation) (s : Sound o) (c : ℕ) (h : Change → Change) (keeps : Keeps h) (x : Change) (at_c : change_in o.changes c ≡ Some x) (calm : Calm x (h x)) where
   abbrev pub later : List Change
@@ -48,27 +39,6 @@ module _ (o : Observation) (s : Sound o) (c : ℕ) (h : Change → Change) (keep
     one = λ m n y z ey ez iy iz. let b = before m y ey in let d = before n z ez in s.integrating.one m n b.0 d.0 b.1 d.1 (sym b.2.integrating ∙ iy) (sym d.2.integrating ∙ iz);
     room = λ n y e i. let b = before n y e in s.integrating.room n b.0 b.1 (sym b.2.integrating ∙ i);
   }
-
-  finished : (d : ℕ) → IfSome (change_in o.changes d) (λ (z : Change). is_completed z.phase ≡ true) → (y : Option Change) → change_in later d ≡ y → IfSome y (λ (z : Change). is_completed z.phase ≡ true)
-  finished d i (Some y) e = let b = before d y e in b.2.completed ∙ subst (λ v. IfSome v (λ (z : Change). is_completed z.phase ≡ true)) b.1 i
-  finished d i None e = tt
-
-  pub calm-deltas : AreDeltas o.project.deltas o.numbers later
-  calm-deltas = record {
-    numbered = s.deltas.numbered;
-    completed = λ n d e. finished d.change (s.deltas.completed n d e) (change_in later d.change) refl;
-    once = λ m n d e ed ee same there. s.deltas.once m n d e ed ee same (sym (own-there c h keeps o.changes d.change) ∙ there);
-    named = λ n y e i. let b = before n y e in s.deltas.named n b.0 b.1 (sym b.2.completed ∙ i);
-  }
-
-  pub calm-entries : (n : ℕ) (d : DeltaRow) → delta_in o.project.deltas n ≡ Some d → (y : Change) → change_in later d.change ≡ Some y → IsDelta o.files n y
-  calm-entries n d e y ey =
-      let b = before d.change y ey in
-      let done : is_completed b.0.phase ≡ true = subst (λ v. IfSome v (λ (z : Change). is_completed z.phase ≡ true)) b.1 (s.deltas.completed n d e) in
-      moved b.0 (b.2.files (or-right (is_integrating b.0.phase) (is_completed b.0.phase) done)) (s.entries n d e b.0 b.1)
-    where
-      moved : (z : Change) → y.files ≡ z.files → IsDelta o.files n z → IsDelta o.files n y
-      moved z same i = let again : IsDelta o.files n (record y { files = z.files }) = record { entered = i.entered; no_other = i.no_other } in subst (λ fs. IsDelta o.files n (record y { files = fs })) (sym same) again
 
   pub calm-candidate : EachChange later (λ n y. is_integrating y.phase ≡ true → NoneClash (paths_of (overlaid (tree_at (length o.project.deltas) o.files) y)))
   calm-candidate n y e i =

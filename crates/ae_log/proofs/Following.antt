@@ -24,8 +24,8 @@ use Rattle.ae_log.specs.Applies.{AppliesBy}
 use Rattle.ae_log.specs.Laws.{Follows}
 use Rattle.ae_log.proofs.Listed.{own_lock, unlisted-file, at-files}
 use Rattle.ae_log.proofs.Steps.{of_change}
-use Rattle.ae_log.proofs.ProjectSteps.{project-by, out-of-phase}
-use Rattle.ae_log.proofs.MakingSteps.{making-by}
+use Rattle.ae_log.proofs.ProjectSteps.{after-attributes, after-role_add, after-role_drop, out-of-phase}
+use Rattle.ae_log.proofs.MakingSteps.{after-new, undo-found, settings-found}
 use Rattle.ae_log.proofs.DevelopmentSteps.{begin-found, begin_undo-found, file-found, unfile-found, with-run}
 use Rattle.ae_log.proofs.ReviewSteps.{review_begin-found, review_begin_undo-found, review_pass-found, review_pass_undo-found, integrate_begin-found, integrate_begin_undo-found}
 use Rattle.ae_log.proofs.LockSteps.{OneHolder, one-holder}
@@ -54,7 +54,7 @@ free-is log a c p has e = go (member by_text p (paths log)) refl (sym (at-filter
 end-found : (log : Log) (o : Observation) (who : List ℕ) (when c : ℕ) (tree : Rows) (to : Phase) (places : List ℕ) (a : Attributes) → Finds log o a c (on.End tree to places)
     → observation_with (of_change who when c (on.End tree to places) ∷ log) a ≡ after (observation_with log a) (of_change who when c (on.End tree to places))
 end-found log o who when c tree to places a f =
-    with-end log who when c tree to places f.is_of.numbered (ap (λ (v : Option ChangeAttributes). is_some v) f.is_of.has) (ap holds_locks (developed-is _ f.comes)) f.suits.to_review
+    with-end log who when c tree to places f.is_of.numbered (ap (λ (v : Option ChangeAttributes). is_some v) f.is_of.has) (ap holds_locks (developed-is _ f.comes)) f.suits.fits.to_review
     (λ p has. free-is log a c p has (ap (λ (q : Observation). lock_in q.locks p) f.stands ∙ held p (file (course log c) p) refl has)) a f.is_of.given f.is_of.has
   where
     held : (p : List ℕ) (fact : Option FileFact) → file (course log c) p ≡ fact → is_some fact ≡ true → lock_in o.locks p ≡ None
@@ -77,12 +77,12 @@ one-found log o a c kind s f = one-holder log a (subst Sound (sym f.stands) s)
 
 follows-by : (log : Log) (who : List ℕ) (when : ℕ) (c : Option ℕ) (kind : EventKind) (o : Observation) → observation log ≡ Some o → Sound o → AppliesBy o c kind
     → observation (record { who = who; when = when; change = c; what = kind } ∷ log) ≡ Some (after o (record { who = who; when = when; change = c; what = kind }))
-follows-by log who when None (on.Attributes b) o stood s m = project-by log who when None (on.Attributes b) o tt stood m
-follows-by log who when None (on.RoleAdd role user) o stood s m = project-by log who when None (on.RoleAdd role user) o tt stood m
-follows-by log who when None (on.RoleDrop role user) o stood s m = project-by log who when None (on.RoleDrop role user) o tt stood m
-follows-by log who when (Some c) (on.New b) o stood s m = making-by log who when (Some c) (on.New b) o tt stood m
-follows-by log who when (Some c) on.NewUndo o stood s m = making-by log who when (Some c) on.NewUndo o tt stood m
-follows-by log who when (Some c) (on.ChangeAttributes b) o stood s m = making-by log who when (Some c) (on.ChangeAttributes b) o tt stood m
+follows-by log who when None (on.Attributes b) o stood s m = after-attributes log who when b o stood
+follows-by log who when None (on.RoleAdd role user) o stood s m = after-role_add log who when role user o stood
+follows-by log who when None (on.RoleDrop role user) o stood s m = after-role_drop log who when role user o stood
+follows-by log who when (Some c) (on.New b) o stood s m = after-new log who when c b o stood m.0 m.1
+follows-by log who when (Some c) on.NewUndo o stood s m = after-found log who when c on.NewUndo o refl stood m (undo-found log o who when c)
+follows-by log who when (Some c) (on.ChangeAttributes b) o stood s m = after-found log who when c (on.ChangeAttributes b) o refl stood m (settings-found log o who when c b)
 follows-by log who when (Some c) on.Begin o stood s m = after-found log who when c on.Begin o refl stood m (begin-found log o who when c)
 follows-by log who when (Some c) on.BeginUndo o stood s m = after-found log who when c on.BeginUndo o refl stood m (begin_undo-found log o who when c)
 follows-by log who when (Some c) (on.File p action usage origin) o stood s m = after-found log who when c (on.File p action usage origin) o refl stood m (file-found log o who when c p action usage origin)

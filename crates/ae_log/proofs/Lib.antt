@@ -3,8 +3,9 @@ pub mod Ascending
 pub mod Listed
 pub mod Steps
 pub mod ProjectSteps
-pub mod MakingSteps
 pub mod OneChange
+pub mod Steady
+pub mod Still
 pub mod Calm
 pub mod Quiet
 pub mod SoundProject
@@ -12,6 +13,7 @@ pub mod SoundMaking
 pub mod RunSteps
 pub mod FileSteps
 pub mod ChangeSteps
+pub mod MakingSteps
 pub mod DevelopmentSteps
 pub mod ReviewSteps
 pub mod LockSteps
@@ -19,3 +21,16 @@ pub mod ReturnSteps
 pub mod PassSteps
 pub mod EndSteps
 pub mod Following
+pub mod SoundQuiet
+pub mod Gone
+pub mod SoundReturn
+pub mod SoundIntegration
+pub mod PassedTree
+pub mod OneMore
+pub mod SoundPass
+pub mod Numbered
+pub mod SoundEnd
+pub mod Keeping
+pub mod InPlace
+pub mod AppliedSteps
+pub mod TreesStand

@@ -1,17 +1,14 @@
 -- What stands after a change is made, after it is taken away, and after its settings are changed.
 use Rattle.std.proofs.Common.{◌≡◌, ℕ, refl, sym, ◌∙◌, ap, List, ◌∷◌, Option, Some, None, Bool, true, false, cond, nat_eq, eqb-true, ◌&&◌, not}
-use Rattle.std.specs.Prelude.{is_some, filter, IsSomeAnd}
+use Rattle.std.specs.Prelude.{is_some, filter}
 use Rattle.std.specs.List.{filter_map, find}
 use Rattle.std.specs.Option.{option_map}
-use Rattle.ae_base.specs.declared.words.Phase.{Phase}
-use Rattle.ae_base.specs.declared.words.Phase.TheVariants as phase
 use Rattle.ae_types.specs.declared.project.Attributes.{Attributes}
-use Rattle.ae_types.specs.declared.change.Change.{Change}
 use Rattle.ae_types.specs.declared.change.ChangeAttributes.{ChangeAttributes}
 use Rattle.ae_types.specs.Observation.{Observation}
 use Rattle.ae_types.specs.Ordered.{itself}
-use Rattle.ae_types.specs.Found.{number_of_change, change_at, has_number}
-use Rattle.ae_types.specs.Phases.{holds_locks, is_awaiting_development}
+use Rattle.ae_types.specs.Found.{number_of_change, has_number}
+use Rattle.ae_types.specs.Phases.{holds_locks}
 use Rattle.ae_types.proofs.Keys.{by_number}
 use Rattle.ae_types.proofs.Ordered.{member, at-filter_map, listed-put, listed-without, some-is, none-some}
 use Rattle.ae_log.specs.declared.event.EventKind.{EventKind}
@@ -22,13 +19,13 @@ use Rattle.ae_log.specs.Settings.{is_there, change_attributes, change_numbers, n
 use Rattle.ae_log.specs.Files.{file, paths, next_version}
 use Rattle.ae_log.specs.Baseline.{holds}
 use Rattle.ae_log.specs.Observed.{observation, observation_with, change, change_with}
+use Rattle.ae_log.specs.Applies.{IsChangeNumber}
 use Rattle.ae_log.specs.After.{after, new_change, change_after}
-use Rattle.ae_log.specs.Applies.{AppliesBy, comes_in, Suits}
-use Rattle.ae_log.specs.Laws.{IsOfMaking}
 use Rattle.ae_log.proofs.Lists.{filter_map-same, filter-filter_map, if_passes}
 use Rattle.ae_log.proofs.Ascending.{change_numbers-ascend, is-change_number}
 use Rattle.ae_log.proofs.Listed.{own_change}
-use Rattle.ae_log.proofs.Steps.{of_change, happens, same-parts, its-fact, other-fact, changes-step, numbers-stay, locks-stay, no_hold, IsOf, found-is, stands-after}
+use Rattle.ae_log.proofs.ChangeSteps.{Finds, awaits-is}
+use Rattle.ae_log.proofs.Steps.{of_change, happens, same-parts, its-fact, other-fact, changes-step, numbers-stay, locks-stay, no_hold, stands-after}
 
 -- ---- numbers that are there
 
@@ -79,7 +76,7 @@ with-new log who when c a b is none = same-parts _ _ refl
     refl
     (filter_map-same _ _ (locks-stay log who when c (on.New a) (absent-holds log c none)) (paths log))
     (listed-put by_number number_of_change (λ n. change n (course log n)) (λ n. change n (course (of_change who when c (on.New a) ∷ log) n)) (own_change log) (own_change (of_change who when c (on.New a) ∷ log))
-    c (new_change (of_change who when c (on.New a)) c a) change_numbers change_numbers change_numbers-ascend change_numbers-ascend (among c is)
+    c (new_change who when c a) change_numbers change_numbers change_numbers-ascend change_numbers-ascend (among c is)
     (its-fact (change c) log who when c (on.New a)) (λ q apart. other-fact (change q) log who when c (on.New a) q apart))
 
 -- ---- a change is taken away
@@ -114,39 +111,15 @@ with-change_attributes log who when c a b there = same-parts _ _ refl
     moved n (Some x) e = refl
     moved n None e = cc
 
--- ---- all three
+-- ---- what each finds suffices
 
--- what is found in what stands with the attributes
-here-is : (log : Log) (o : Observation) (b : Attributes) (c : ℕ) (x : Change) → observation_with log b ≡ o → change_at o c ≡ Some x → IsOf log c x
-here-is log o b c x is e = found-is log b c x (ap (λ q. change_at q c) is ∙ e)
+pub after-new : (log : Log) (who : List ℕ) (when c : ℕ) (a : ChangeAttributes) (o : Observation) → observation log ≡ Some o → IsChangeNumber c → has_number o.numbers c ≡ false → observation (of_change who when c (on.New a) ∷ log) ≡ Some (after o (of_change who when c (on.New a)))
+after-new log who when c a o stood is fresh = stands-after log (of_change who when c (on.New a)) o refl stood (λ b stands.
+    with-new log who when c a b (is-change_number c is) (absent log c (is-change_number c is) (ap (λ (q : Observation). has_number q.numbers c) stands ∙ fresh)))
 
--- a change that awaits development holds no file
-awaits-holds : (x : Phase) → is_awaiting_development x ≡ true → holds_locks x ≡ false
-awaits-holds phase.AwaitingDevelopment e = refl
-awaits-holds _ e = cc
+pub undo-found : (log : Log) (o : Observation) (who : List ℕ) (when c : ℕ) (b : Attributes) → Finds log o b c on.NewUndo → observation_with (of_change who when c on.NewUndo ∷ log) b ≡ after (observation_with log b) (of_change who when c on.NewUndo)
+undo-found log o who when c b f = with-new_undo log who when c b (ap holds_locks (awaits-is _ f.comes))
 
-undo-by : (log : Log) (who : List ℕ) (when c : ℕ) (o : Observation) → observation log ≡ Some o → (x : Option Change) → change_at o c ≡ x
-    → IsSomeAnd x (λ (change : Change). (comes_in on.NewUndo change.phase ≡ true) × Suits o change on.NewUndo) → observation (of_change who when c on.NewUndo ∷ log) ≡ Some (after o (of_change who when c on.NewUndo))
-undo-by log who when c o stood (Some x) e m = stands-after log (of_change who when c on.NewUndo) o refl stood (λ b is.
-    let i = here-is log o b c x is e in
-    with-new_undo log who when c b (ap (λ (y : Change). holds_locks y.phase) (sym i.is) ∙ awaits-holds x.phase m.0))
-undo-by log who when c o stood None e m = absurd m
-
-settings-by : (log : Log) (who : List ℕ) (when c : ℕ) (a : ChangeAttributes) (o : Observation) → observation log ≡ Some o → (x : Option Change) → change_at o c ≡ x
-    → IsSomeAnd x (λ (change : Change). (comes_in (on.ChangeAttributes a) change.phase ≡ true) × Suits o change (on.ChangeAttributes a))
-    → observation (of_change who when c (on.ChangeAttributes a) ∷ log) ≡ Some (after o (of_change who when c (on.ChangeAttributes a)))
-settings-by log who when c a o stood (Some x) e m = stands-after log (of_change who when c (on.ChangeAttributes a)) o refl stood (λ b is.
-    let i = here-is log o b c x is e in
-    with-change_attributes log who when c a b (ap (λ (v : Option ChangeAttributes). is_some v) i.has))
-settings-by log who when c a o stood None e m = absurd m
-
-pub making-by : (log : Log) (who : List ℕ) (when : ℕ) (c : Option ℕ) (kind : EventKind) (o : Observation) → IsOfMaking kind → observation log ≡ Some o → AppliesBy o c kind
-    → observation (record { who = who; when = when; change = c; what = kind } ∷ log) ≡ Some (after o (record { who = who; when = when; change = c; what = kind }))
-making-by log who when (Some c) (on.New a) o h stood m = stands-after log (of_change who when c (on.New a)) o refl stood (λ b is.
-    with-new log who when c a b (is-change_number c m.0) (absent log c (is-change_number c m.0) (ap (λ (q : Observation). has_number q.numbers c) is ∙ m.1)))
-making-by log who when (Some c) on.NewUndo o h stood m = undo-by log who when c o stood (change_at o c) refl m
-making-by log who when (Some c) (on.ChangeAttributes a) o h stood m = settings-by log who when c a o stood (change_at o c) refl m
-making-by log who when None (on.New a) o h stood m = absurd m
-making-by log who when None on.NewUndo o h stood m = absurd m
-making-by log who when None (on.ChangeAttributes a) o h stood m = absurd m
-making-by log who when c kind o h stood m = absurd h
+pub settings-found : (log : Log) (o : Observation) (who : List ℕ) (when c : ℕ) (a : ChangeAttributes) (b : Attributes) → Finds log o b c (on.ChangeAttributes a)
+    → observation_with (of_change who when c (on.ChangeAttributes a) ∷ log) b ≡ after (observation_with log b) (of_change who when c (on.ChangeAttributes a))
+settings-found log o who when c a b f = with-change_attributes log who when c a b (ap (λ (v : Option ChangeAttributes). is_some v) f.is_of.has)

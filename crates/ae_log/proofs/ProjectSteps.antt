@@ -7,15 +7,14 @@ use Rattle.ae_base.specs.declared.words.Role.TheVariants.{Administrator, Develop
 use Rattle.ae_types.specs.declared.project.Attributes.{Attributes}
 use Rattle.ae_types.specs.declared.change.Change.{Change}
 use Rattle.ae_types.specs.Observation.{Observation}
-use Rattle.ae_types.specs.Found.{change_at}
 use Rattle.ae_log.specs.declared.event.EventKind.{EventKind}
 use Rattle.ae_log.specs.declared.event.EventKind.TheVariants as on
 use Rattle.ae_log.specs.Log.{Log}
 use Rattle.ae_log.specs.Settings.{change_numbers}
 use Rattle.ae_log.specs.Observed.{observation, observation_with}
 use Rattle.ae_log.specs.After.{after, started, new_observation}
-use Rattle.ae_log.specs.Applies.{AppliesTo, AppliesBy, comes_in, Suits, IsProject}
-use Rattle.ae_log.specs.Laws.{Begins, IsOfProject}
+use Rattle.ae_log.specs.Applies.{comes_in, Suits, IsProject}
+use Rattle.ae_log.specs.Laws.{Begins}
 use Rattle.ae_log.proofs.Lists.{filter_map-none, filter-none}
 use Rattle.ae_log.proofs.Steps.{of_none, same-parts, attributes-of, stands-after}
 
@@ -50,10 +49,16 @@ with-role_drop log who when Developer user a = refl
 with-role_drop log who when Reviewer user a = refl
 with-role_drop log who when Integrator user a = refl
 
-after-attributes : (log : Log) (who : List ℕ) (when : ℕ) (b : Attributes) (o : Observation) → observation log ≡ Some o → observation (of_none who when (on.Attributes b) ∷ log) ≡ Some (after o (of_none who when (on.Attributes b)))
+pub after-attributes : (log : Log) (who : List ℕ) (when : ℕ) (b : Attributes) (o : Observation) → observation log ≡ Some o → observation (of_none who when (on.Attributes b) ∷ log) ≡ Some (after o (of_none who when (on.Attributes b)))
 after-attributes log who when b o stood =
     let w = attributes-of log o stood in
     ap (λ q. Some (after q (of_none who when (on.Attributes b)))) w.2
+
+pub after-role_add : (log : Log) (who : List ℕ) (when : ℕ) (role : Role) (user : List ℕ) (o : Observation) → observation log ≡ Some o → observation (of_none who when (on.RoleAdd role user) ∷ log) ≡ Some (after o (of_none who when (on.RoleAdd role user)))
+after-role_add log who when role user o stood = stands-after log (of_none who when (on.RoleAdd role user)) o refl stood (λ a is. with-role_add log who when role user a)
+
+pub after-role_drop : (log : Log) (who : List ℕ) (when : ℕ) (role : Role) (user : List ℕ) (o : Observation) → observation log ≡ Some o → observation (of_none who when (on.RoleDrop role user) ∷ log) ≡ Some (after o (of_none who when (on.RoleDrop role user)))
+after-role_drop log who when role user o stood = stands-after log (of_none who when (on.RoleDrop role user)) o refl stood (λ a is. with-role_drop log who when role user a)
 
 -- an event that comes in no phase is none of a change
 pub out-of-phase : (o : Observation) (kind : EventKind) (x : Option Change) → ((phase : Phase) → comes_in kind phase ≡ false) → IsSomeAnd x (λ (change : Change). (comes_in kind change.phase ≡ true) × Suits o change kind) → ⊥
@@ -62,17 +67,3 @@ out-of-phase o kind (Some x) never_in h = never (sym (never_in x.phase) ∙ h.0)
     never : false ≡ true → ⊥
     never e = cc
 out-of-phase o kind None never_in h = h
-
-pub no-change : (o : Observation) (c : ℕ) (kind : EventKind) → IsOfProject kind → AppliesTo o c kind → ⊥
-no-change o c (on.Attributes b) h m = out-of-phase o (on.Attributes b) (change_at o c) (λ _. refl) m
-no-change o c (on.RoleAdd role user) h m = out-of-phase o (on.RoleAdd role user) (change_at o c) (λ _. refl) m
-no-change o c (on.RoleDrop role user) h m = out-of-phase o (on.RoleDrop role user) (change_at o c) (λ _. refl) m
-no-change o c kind h m = absurd h
-
-pub project-by : (log : Log) (who : List ℕ) (when : ℕ) (c : Option ℕ) (kind : EventKind) (o : Observation) → IsOfProject kind → observation log ≡ Some o → AppliesBy o c kind
-    → observation (record { who = who; when = when; change = c; what = kind } ∷ log) ≡ Some (after o (record { who = who; when = when; change = c; what = kind }))
-project-by log who when None (on.Attributes b) o h stood m = after-attributes log who when b o stood
-project-by log who when None (on.RoleAdd role user) o h stood m = stands-after log (of_none who when (on.RoleAdd role user)) o refl stood (λ a is. with-role_add log who when role user a)
-project-by log who when None (on.RoleDrop role user) o h stood m = stands-after log (of_none who when (on.RoleDrop role user)) o refl stood (λ a is. with-role_drop log who when role user a)
-project-by log who when (Some c) kind o h stood m = absurd (no-change o c kind h m)
-project-by log who when None kind o h stood m = absurd h

@@ -1,6 +1,6 @@
 -- A change is made, or taken away, or gets other settings: the rules are kept.
 use Rattle.std.proofs.Common.{◌≡◌, ℕ, refl, sym, ◌∙◌, ap, subst, List, [], Option, Some, None, Bool, true, false, cond, nat_eq, eqb-true, not, arith}
-use Rattle.std.specs.Prelude.{is_some, filter, IfSome, IsSomeAnd}
+use Rattle.std.specs.Prelude.{is_some, filter, IfSome}
 use Rattle.std.specs.List.{find}
 use Rattle.std.specs.Option.{option_map}
 use Rattle.std.specs.Ordering.{nat_cmp}
@@ -15,26 +15,24 @@ use Rattle.ae_types.specs.declared.file_table.Lock.{Lock}
 use Rattle.ae_types.specs.declared.version.VersionRef.{VersionRef}
 use Rattle.ae_types.specs.Observation.{Observation}
 use Rattle.ae_types.specs.Ordered.{itself, put_by}
-use Rattle.ae_types.specs.Found.{number_of_change, change_in, change_at, lock_in, delta_in, delta_of, has_number, has_file}
+use Rattle.ae_types.specs.Found.{number_of_change, change_in, lock_in, delta_in, delta_of, has_number, has_file}
 use Rattle.ae_types.specs.Phases.{is_awaiting_development, is_integrating, is_completed, holds_locks}
 use Rattle.ae_types.specs.Versions.{Place, in_table, in_change, version_at}
 use Rattle.ae_types.specs.Sound.{Sound, IsMoment, IsGoodChange, EachChange}
 use Rattle.ae_types.proofs.Keys.{by_number}
 use Rattle.ae_types.proofs.Ordered.{at-put, put-ascends, at-filter, filter-ascends, if_so, found-key, member-with_key, some-is, none-some}
-use Rattle.ae_log.specs.declared.event.EventKind.{EventKind}
 use Rattle.ae_log.specs.declared.event.EventKind.TheVariants as on
 use Rattle.ae_log.specs.After.{after, new_change, change_after}
-use Rattle.ae_log.specs.Applies.{AppliesBy, comes_in, Suits}
-use Rattle.ae_log.specs.Laws.{KeepsRules, IsOfMaking}
 use Rattle.ae_log.proofs.Steps.{of_change}
 use Rattle.ae_log.proofs.OneChange.{never}
-use Rattle.ae_log.proofs.Quiet.{quiet-keeps, version_in}
+use Rattle.ae_log.proofs.Still.{version_in}
+use Rattle.ae_log.proofs.Quiet.{quiet-keeps}
 
 -- ---- a change is made
 
 module _ (o : Observation) (s : Sound o) (who : List ℕ) (when c : ℕ) (a : ChangeAttributes) (moment : IsMoment when) (fresh : has_number o.numbers c ≡ false) where
   abbrev pub made : Change
-  made = new_change (of_change who when c (on.New a)) c a
+  made = new_change who when c a
 
   abbrev pub with_made : List Change
   with_made = put_by nat_cmp number_of_change made o.changes
@@ -260,7 +258,7 @@ module _ (o : Observation) (s : Sound o) (who : List ℕ) (when c : ℕ) (x : Ch
 
 -- ---- its settings
 
-sound-settings : (o : Observation) → Sound o → (who : List ℕ) (when c : ℕ) (a : ChangeAttributes) (x : Change) → change_in o.changes c ≡ Some x → Sound (after o (of_change who when c (on.ChangeAttributes a)))
+pub sound-settings : (o : Observation) → Sound o → (who : List ℕ) (when c : ℕ) (a : ChangeAttributes) (x : Change) → change_in o.changes c ≡ Some x → Sound (after o (of_change who when c (on.ChangeAttributes a)))
 sound-settings o s who when c a x at_c =
     let good = s.changes.good c x at_c in
     quiet-keeps o s c (change_after o.project.next_version (of_change who when c (on.ChangeAttributes a))) (λ _. refl) x at_c
@@ -271,26 +269,3 @@ sound-settings o s who when c a x at_c =
       runs = good.runs;
       history = good.history;
     })
-
--- ---- all three
-
-undo-by : (o : Observation) → Sound o → (who : List ℕ) (when c : ℕ) (x : Option Change) → change_at o c ≡ x → IsSomeAnd x (λ (change : Change). (comes_in on.NewUndo change.phase ≡ true) × Suits o change on.NewUndo) → Sound (after o (of_change who when c on.NewUndo))
-undo-by o s who when c (Some x) e m = sound-undo o s who when c x e m.0
-undo-by o s who when c None e m = absurd m
-
-settings-by : (o : Observation) → Sound o → (who : List ℕ) (when c : ℕ) (a : ChangeAttributes) (x : Option Change) → change_at o c ≡ x
-    → IsSomeAnd x (λ (change : Change). (comes_in (on.ChangeAttributes a) change.phase ≡ true) × Suits o change (on.ChangeAttributes a)) → Sound (after o (of_change who when c (on.ChangeAttributes a)))
-settings-by o s who when c a (Some x) e m = sound-settings o s who when c a x e
-settings-by o s who when c a None e m = absurd m
-
-making-keeps-by : (o : Observation) (who : List ℕ) (when : ℕ) (c : Option ℕ) (kind : EventKind) → IsOfMaking kind → Sound o → IsMoment when → AppliesBy o c kind → Sound (after o (record { who = who; when = when; change = c; what = kind }))
-making-keeps-by o who when (Some c) (on.New a) h s t m = sound-new o s who when c a t m.1
-making-keeps-by o who when (Some c) on.NewUndo h s t m = undo-by o s who when c (change_at o c) refl m
-making-keeps-by o who when (Some c) (on.ChangeAttributes a) h s t m = settings-by o s who when c a (change_at o c) refl m
-making-keeps-by o who when None (on.New a) h s t m = absurd m
-making-keeps-by o who when None on.NewUndo h s t m = absurd m
-making-keeps-by o who when None (on.ChangeAttributes a) h s t m = absurd m
-making-keeps-by o who when c kind h s t m = absurd h
-
-pub making-keeps : KeepsRules IsOfMaking
-making-keeps o event h s m = making-keeps-by o event.who event.when event.change event.what h s m.moment m.comes

@@ -20,10 +20,9 @@ use Rattle.ae_types.specs.Versions.{Place, in_table, in_change, version_at}
 use Rattle.ae_types.proofs.Ordered.{none-some}
 use Rattle.ae_log.specs.declared.event.EventKind.{EventKind}
 use Rattle.ae_log.specs.declared.event.EventKind.TheVariants as on
-use Rattle.ae_log.specs.After.{after, started, new_observation}
-use Rattle.ae_log.specs.Applies.{AppliesBy, IsProject}
-use Rattle.ae_log.specs.Laws.{BeginsSound, KeepsRules, IsOfProject}
-use Rattle.ae_log.proofs.ProjectSteps.{no-change}
+use Rattle.ae_log.specs.After.{started, new_observation}
+use Rattle.ae_log.specs.Applies.{IsProject}
+use Rattle.ae_log.specs.Laws.{BeginsSound}
 
 -- ---- users of a role
 
@@ -129,13 +128,13 @@ roles-sound o s name attributes admins devs revs ints ga gd gr gi some = record 
     roles Integrator = gi
 
 module _ (o : Observation) (s : Sound o) where
-  abbrev its : (role : Role) → IsGoodRole (users_of role o.project)
+  abbrev pub its : (role : Role) → IsGoodRole (users_of role o.project)
   its = s.project.roles
 
-  sound-attributes : (a : Attributes) → Sound (record o { project = record o.project { attributes = a } })
+  pub sound-attributes : (a : Attributes) → Sound (record o { project = record o.project { attributes = a } })
   sound-attributes a = roles-sound o s o.project.name a o.project.administrators o.project.developers o.project.reviewers o.project.integrators (its Administrator) (its Developer) (its Reviewer) (its Integrator) s.project.administrator
 
-  sound-add : (role : Role) (user : List ℕ) → refuses_adding (users_of role o.project) user ≡ None → Sound (record o { project = with_users role (users_of role o.project ++ user ∷ []) o.project })
+  pub sound-add : (role : Role) (user : List ℕ) → refuses_adding (users_of role o.project) user ≡ None → Sound (record o { project = with_users role (users_of role o.project ++ user ∷ []) o.project })
   sound-add Administrator user e = roles-sound o s o.project.name o.project.attributes (o.project.administrators ++ user ∷ []) o.project.developers o.project.reviewers o.project.integrators
       (added-good o.project.administrators user (its Administrator) e) (its Developer) (its Reviewer) (its Integrator) (omega (arith, length-append o.project.administrators (user ∷ [])))
   sound-add Developer user e = roles-sound o s o.project.name o.project.attributes o.project.administrators (o.project.developers ++ user ∷ []) o.project.reviewers o.project.integrators
@@ -145,7 +144,7 @@ module _ (o : Observation) (s : Sound o) where
   sound-add Integrator user e = roles-sound o s o.project.name o.project.attributes o.project.administrators o.project.developers o.project.reviewers (o.project.integrators ++ user ∷ [])
       (its Administrator) (its Developer) (its Reviewer) (added-good o.project.integrators user (its Integrator) e) s.project.administrator
 
-  sound-drop : (role : Role) (user : List ℕ) → refuses_dropping role (users_of role o.project) user ≡ None → Sound (record o { project = with_users role (without user (users_of role o.project)) o.project })
+  pub sound-drop : (role : Role) (user : List ℕ) → refuses_dropping role (users_of role o.project) user ≡ None → Sound (record o { project = with_users role (without user (users_of role o.project)) o.project })
   sound-drop Administrator user e =
       let m = may-drop Administrator o.project.administrators user e in
       roles-sound o s o.project.name o.project.attributes (without user o.project.administrators) o.project.developers o.project.reviewers o.project.integrators
@@ -158,19 +157,9 @@ module _ (o : Observation) (s : Sound o) where
   sound-drop Integrator user e = roles-sound o s o.project.name o.project.attributes o.project.administrators o.project.developers o.project.reviewers (without user o.project.integrators)
       (its Administrator) (its Developer) (its Reviewer) (dropped-good Integrator o.project.integrators user (its Integrator) e) s.project.administrator
 
-project-keeps-by : (o : Observation) (who : List ℕ) (when : ℕ) (c : Option ℕ) (kind : EventKind) → IsOfProject kind → Sound o → AppliesBy o c kind → Sound (after o (record { who = who; when = when; change = c; what = kind }))
-project-keeps-by o who when None (on.Attributes a) h s m = sound-attributes o s a
-project-keeps-by o who when None (on.RoleAdd role user) h s m = sound-add o s role user m
-project-keeps-by o who when None (on.RoleDrop role user) h s m = sound-drop o s role user m
-project-keeps-by o who when (Some c) kind h s m = absurd (no-change o c kind h m)
-project-keeps-by o who when None kind h s m = absurd h
-
-pub project-keeps : KeepsRules IsOfProject
-project-keeps o event h s m = project-keeps-by o event.who event.when event.change event.what h s m.comes
-
 -- ---- the first event
 
-sound-start : (who name : List ℕ) (attributes : Attributes) → Sound (new_observation who name attributes)
+pub sound-start : (who name : List ℕ) (attributes : Attributes) → Sound (new_observation who name attributes)
 sound-start who name attributes = record {
   project = record { roles = roles; administrator = omega arith; numbers_ascend = tt; numbered = refl; moments = λ n d e. none-some d e; next = (omega arith, omega arith) };
   rows = record { ascend = tt; good = λ p r e. none-some r e; clash = λ folder path e f g. absurd (never e) };

@@ -12,14 +12,14 @@ use Rattle.ae_types.specs.Found.{change_at, file_in, lock_in, has_number}
 use Rattle.ae_types.specs.Phases.{is_awaiting_development, is_integrating, is_completed, is_remove}
 use Rattle.ae_types.specs.Roles.{users_of, refuses_adding, refuses_dropping}
 use Rattle.ae_types.specs.Clashes.{NoneClash}
-use Rattle.ae_types.specs.Sound.{IsMoment, EachChange}
+use Rattle.ae_types.specs.Sound.{Sound, IsMoment, EachChange}
 use Rattle.ae_types.specs.Trees.{last_delta, candidate_of, paths_of}
 use Rattle.ae_types.specs.Versions.{Place, version_at, has_units, end_of, meet}
 use Rattle.ae_log.specs.declared.event.Event.{Event}
 use Rattle.ae_log.specs.declared.event.EventKind.{EventKind}
 use Rattle.ae_log.specs.declared.event.EventKind.TheVariants as on
 use Rattle.ae_log.specs.Files.{numbered, frozen_file, version_of, ref_of, present}
-use Rattle.ae_log.specs.After.{new_file, with_file}
+use Rattle.ae_log.specs.After.{new_file, with_file, after}
 
 -- ---- phases
 
@@ -87,12 +87,16 @@ pub record AreInSpace (o : Observation) (tree : Rows) (places : List ℕ) : Type
   pub apart : (path other : List ℕ) (one two : VersionRef) → made_version o.project.next_version tree places path ≡ Some one → made_version o.project.next_version tree places other ≡ Some two → meet one two ≡ true → path ≡ other
   pub free : (path : List ℕ) (place : Place) (one two : VersionRef) → made_version o.project.next_version tree places path ≡ Some one → version_at o.files o.changes place ≡ Some two → meet one two ≡ true → ⊥
 
--- what the end of a development asks: a phase that may follow it; a tree of just the change's files, with bytes of all but
--- those that it removes; a place for each of these; files that nobody holds; and room for the versions
-pub record MayEnd (o : Observation) (change : Change) (tree : Rows) (to : Phase) (places : List ℕ) : Type 0 where
+-- an End fits its change: a phase that may follow, a tree of just the change's files, with bytes of all but those that the
+-- change removes, and a place for each of these
+pub record EndFits (change : Change) (tree : Rows) (to : Phase) (places : List ℕ) : Type 0 where
   pub to_review : ends_in to ≡ true
   pub shape : tree_shape tree ≡ files_shape change.files
   pub placed : length places ≡ length (present tree)
+
+-- it may come: nobody holds the files, and there is room for the versions
+pub record MayEnd (o : Observation) (change : Change) (tree : Rows) (to : Phase) (places : List ℕ) : Type 0 where
+  pub fits : EndFits change tree to places
   pub free : (path : List ℕ) (file : ChangeFile) → file_in change.files path ≡ Some file → lock_in o.locks path ≡ None
   pub numbers : o.project.next_version < 4611686018427387904
   pub space : AreInSpace o tree places
@@ -138,6 +142,32 @@ AppliesBy o None kind = AppliesAlone o kind
 pub record Applies (o : Observation) (event : Event) : Type 0 where
   pub moment : IsMoment event.when
   pub comes : AppliesBy o event.change event.what
+
+-- ---- what applying an event asks
+
+abbrev pub Fits : Change → EventKind → Type 0
+Fits change (on.End tree to places) = EndFits change tree to places
+Fits change _ = Unit {0}
+
+-- a New names a change that isn't there, and every other event of a change one that is, in a right phase, and that it fits
+abbrev pub NamesOne : Observation → ℕ → EventKind → Type 0
+NamesOne o number (on.New attributes) = has_number o.numbers number ≡ false
+NamesOne o number kind = IsSomeAnd (change_at o number) (λ (change : Change). (comes_in kind change.phase ≡ true) × Fits change kind)
+
+abbrev pub NamesNone : EventKind → Type 0
+NamesNone (on.Attributes attributes) = Unit {0}
+NamesNone (on.RoleAdd role user) = Unit {0}
+NamesNone (on.RoleDrop role user) = Unit {0}
+NamesNone _ = ⊥
+
+abbrev pub Names : Observation → Option ℕ → EventKind → Type 0
+Names o (Some number) kind = NamesOne o number kind
+Names o None kind = NamesNone kind
+
+-- the event names what it is to name, and what stands after it keeps the rules
+pub record MayApply (o : Observation) (event : Event) : Type 0 where
+  pub names : Names o event.change event.what
+  pub sound : Sound (after o event)
 
 -- ---- the first event
 

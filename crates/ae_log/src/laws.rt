@@ -1,5 +1,5 @@
 // What holds of one more event.
-ghost use Rattle.ae_log.specs.Laws.{Begins, BeginsSound, Follows, KeepsRules, IsOfProject, IsOfMaking};
+ghost use Rattle.ae_log.specs.Laws.{Begins, BeginsSound, Follows, KeepsRules, MayBeApplied, TreesStand};
 
 /// What stands after the first event is the project that it makes.
 pub fn first_event_follows()
@@ -16,12 +16,17 @@ pub fn observation_follows()
     ensures { Follows }
 {}
 
-/// An event of the project's settings and roles keeps the rules.
-pub fn project_events_keep_rules()
-    ensures { KeepsRules IsOfProject }
+/// An event keeps the rules of the records.
+pub fn rules_kept()
+    ensures { KeepsRules }
 {}
 
-/// The rules are kept where a change is made or taken away, or gets other settings.
-pub fn making_events_keep_rules()
-    ensures { KeepsRules IsOfMaking }
+/// So an event that may come may be applied.
+pub fn event_may_be_applied()
+    ensures { MayBeApplied }
+{}
+
+/// The files at a delta, of what stands after a log, are those of the log.
+pub fn trees_stand()
+    ensures { TreesStand }
 {}
