@@ -1,5 +1,4 @@
 pub mod Members
 pub mod Options
 pub mod Places
-pub mod Saying
-pub mod Answering
+pub mod Texts

@@ -1,5 +1,5 @@
 -- The first place of a list that passes a test, where the list is seen by a function, and what stands at a place.
-use Rattle.std.proofs.Common.{◌≡◌, ◌+◌, ℕ, suc, Bool, true, false, cond, nat_lt, not, List, [], ◌∷◌, map, length, Option, Some, None, refl, sym, ap, ◌<◌, ◌≤◌, Bor, get_or}
+use Rattle.std.proofs.Common.{◌≡◌, ◌+◌, ℕ, suc, Bool, cond, not, List, [], ◌∷◌, map, length, Option, Some, None, refl, sym, ap, ◌<◌, ◌≤◌, Bor, get_or}
 use Rattle.std.specs.Prelude.{position, slice_get, IfSome, MatchOption, option_copied}
 use Rattle.std.specs.List.{position_or_len, HoldsAt}
 use Rattle.std.proofs.lemmas.Option.{slice_get_past, slice_get_read}

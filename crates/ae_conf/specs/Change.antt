@@ -1,15 +1,14 @@
 -- What a file of a change's attributes says.
 use Rattle.std.specs.Prelude.{ℕ, List, [], ◌∷◌, codes, Result}
-use Rattle.ae_text.specs.Tree.{Node}
 use Rattle.ae_types.specs.declared.change.ChangeAttributes.{ChangeAttributes}
-use Rattle.ae_conf.specs.declared.kind.FieldKind.{FieldKind}
 use Rattle.ae_conf.specs.declared.kind.FieldKind.TheVariants.{Text, Flag, Cause}
+use Rattle.ae_conf.specs.Kinds.{Kinds}
 use Rattle.ae_conf.specs.Values.{text_in, flag_in, cause_in}
-use Rattle.ae_conf.specs.Fields.{given}
-use Rattle.ae_conf.specs.Said.{right_fields, making}
+use Rattle.ae_conf.specs.Fields.{Fields, given}
+use Rattle.ae_conf.specs.RightFields.{right_fields, making}
 
 -- the fields that it may have, each with its kind
-abbrev pub change_kinds : List (List ℕ × FieldKind)
+abbrev pub change_kinds : Kinds
 change_kinds =
     (codes "brief_description", Text)
     ∷ (codes "description", Text)
@@ -20,7 +19,7 @@ change_kinds =
     ∷ []
 
 -- the attributes that the fields give, and else the old ones
-abbrev pub given_change : List (List ℕ × Node) → ChangeAttributes → ChangeAttributes
+abbrev pub given_change : Fields → ChangeAttributes → ChangeAttributes
 given_change fields old = record {
   brief = given text_in (codes "brief_description") fields old.brief;
   description = given text_in (codes "description") fields old.description;

@@ -4,5 +4,5 @@ pub mod Fields
 pub mod Kinds
 pub mod Project
 pub mod Reading
-pub mod Said
+pub mod RightFields
 pub mod Values

@@ -1,15 +1,14 @@
 -- What a file of a project's attributes says.
 use Rattle.std.specs.Prelude.{ℕ, List, [], ◌∷◌, codes, Result}
-use Rattle.ae_text.specs.Tree.{Node}
 use Rattle.ae_types.specs.declared.project.Attributes.{Attributes}
-use Rattle.ae_conf.specs.declared.kind.FieldKind.{FieldKind}
 use Rattle.ae_conf.specs.declared.kind.FieldKind.TheVariants.{Text, Flag, EndAction}
+use Rattle.ae_conf.specs.Kinds.{Kinds}
 use Rattle.ae_conf.specs.Values.{text_in, flag_in, end_action_in}
-use Rattle.ae_conf.specs.Fields.{given}
-use Rattle.ae_conf.specs.Said.{right_fields, making}
+use Rattle.ae_conf.specs.Fields.{Fields, given}
+use Rattle.ae_conf.specs.RightFields.{right_fields, making}
 
 -- the fields that it may have, each with its kind
-abbrev pub project_kinds : List (List ℕ × FieldKind)
+abbrev pub project_kinds : Kinds
 project_kinds =
     (codes "description", Text)
     ∷ (codes "developer_may_review", Flag)
@@ -21,7 +20,7 @@ project_kinds =
     ∷ []
 
 -- the attributes that the fields give, and else the old ones
-abbrev pub given_project : List (List ℕ × Node) → Attributes → Attributes
+abbrev pub given_project : Fields → Attributes → Attributes
 given_project fields old = record {
   description = given text_in (codes "description") fields old.description;
   developer_may_review = given flag_in (codes "developer_may_review") fields old.developer_may_review;

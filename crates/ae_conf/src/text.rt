@@ -5,7 +5,7 @@ ghost use Rattle.ae_text.specs.Grammar.{Reads};
 ghost use Rattle.ae_text.specs.Wrong.{IsError};
 ghost use Rattle.ae_text.specs.View.{node, fields_seen, members_seen};
 ghost use Rattle.ae_conf.specs.Fields.{fields_in, kinds_seen};
-ghost use Rattle.ae_conf.specs.Said.{right_fields};
+ghost use Rattle.ae_conf.specs.RightFields.{right_fields};
 
 use crate::ConfError;
 use crate::fields::{Kinds, first_wrong};

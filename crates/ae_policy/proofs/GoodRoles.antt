@@ -1,14 +1,12 @@
 -- The rules of a project's roles are kept by each change that isn't refused.
-use Rattle.std.proofs.Common.{◌≡◌, ℕ, ◌+◌, ◌<◌, ◌≤◌, Bool, true, false, cond, ◌&&◌, ◌||◌, List, [], ◌∷◌, ◌++◌, length, length-append, Option, Some, None, inl, inr, refl, sym, ◌∙◌, arith}
+use Rattle.std.proofs.Common.{◌≡◌, ℕ, ◌<◌, Bool, true, false, cond, ◌&&◌, ◌||◌, List, [], ◌∷◌, ◌++◌, length, length-append, Some, None, inl, inr, refl, sym, ◌∙◌, arith}
 use Rattle.std.specs.Prelude.{nat_le}
-use Rattle.std.specs.List.{IsDistinct, AllByRecursion, list_any}
-use Rattle.std.specs.Set.{remove_key}
+use Rattle.std.specs.List.{IsDistinct, AllByRecursion}
 use Rattle.std.specs.Str.{bytes_eq}
 use Rattle.std.specs.Cmp.Lexicographic.{nat_list_eq_equiv}
 use Rattle.std.proofs.lemmas.Bool.{cases_lt}
 use Rattle.std.proofs.lemmas.Map.Made.{length-remove_key}
 use Rattle.ae_base.specs.Users.{AllDiffer, without}
-use Rattle.ae_base.specs.declared.refusal.Refusal.{Refusal}
 use Rattle.ae_base.specs.declared.refusal.Refusal.TheVariants.{UserThere, UserNotThere, LastAdministrator, Limit}
 use Rattle.ae_base.specs.declared.words.Which.TheVariants.{RoleUsers}
 use Rattle.ae_base.specs.declared.words.Role.{Role}
@@ -32,6 +30,7 @@ AllDiffer-append (u ∷ us) user d none = (all us d.0, AllDiffer-append us user 
   where
     apart : (bytes_eq user u ≡ false) × (has_user us user ≡ false)
     apart = neither (bytes_eq user u) (has_user us user) none
+
     all : (vs : List (List ℕ)) → AllByRecursion (λ y. bytes_eq u y ≡ false) vs → AllByRecursion (λ y. bytes_eq u y ≡ false) (vs ++ user ∷ [])
     all [] h = (nat_list_eq_equiv.symm u user ∙ apart.0, tt)
     all (v ∷ vs) h = (h.0, all vs h.1)

@@ -9,7 +9,7 @@ use thiserror::Error;
 /// Why a role isn't changed: it is refused, or memory is wanting.
 #[derive(Debug, Drop, Error)]
 pub enum PolicyError {
-    #[error("refused")]
+    #[error("{0}")]
     Refused(Refusal),
     #[error("out of memory")]
     Memory,

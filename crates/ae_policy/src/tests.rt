@@ -69,8 +69,14 @@ fn twice(alloc: Global, project: &mut Project, role: Role) -> Result<[u8; 4], Fa
 fn roles_are_given_and_taken(rt: HostRuntime) -> Result<(), Fail> {
     let alloc = rt.alloc();
     let mut project = project(alloc)?;
-    assert_eq!(rt; twice(alloc, &mut project, Role::Developer)?, [0, 16, 0, 17]);
-    assert_eq!(rt; twice(alloc, &mut project, Role::Administrator)?, [0, 16, 18, 18]);
+    assert_eq!(rt;
+        twice(alloc, &mut project, Role::Developer)?,
+        [0, 16, 0, 17]
+    );
+    assert_eq!(rt;
+        twice(alloc, &mut project, Role::Administrator)?,
+        [0, 16, 18, 18]
+    );
     note_roles_stay_good();
     Ok(())
 }
@@ -83,7 +89,10 @@ fn who_may_make_changes(rt: HostRuntime) -> Result<(), Fail> {
     assert_eq!(rt; refused(may_create(&project, &bob)), 6);
     project.attributes.developers_may_create_changes = true;
     assert_eq!(rt; refused(may_create(&project, &bob)), 7);
-    assert_eq!(rt; number_of(add_user(&mut project, Role::Developer, user(alloc, b"bob")?)), 0);
+    assert_eq!(rt;
+        number_of(add_user(&mut project, Role::Developer, user(alloc, b"bob")?)),
+        0
+    );
     assert_eq!(rt; refused(may_create(&project, &bob)), 0);
     assert!(rt; has_role(&project, Role::Developer, &bob));
     Ok(())

@@ -1,16 +1,15 @@
 use Rattle.std.proofs.Common.{◌≡◌, ℕ, List, Option, Result, Ok, Err, ap, ◌∙◌}
 use Rattle.std.specs.Option.{option_map_or}
-use Rattle.ae_text.specs.Tree.{Node}
 use Rattle.ae_types.specs.declared.change.ChangeAttributes.{ChangeAttributes}
-use Rattle.ae_conf.specs.Fields.{fields_in}
-use Rattle.ae_conf.specs.Said.{right_fields, making}
+use Rattle.ae_conf.specs.Fields.{Fields, fields_in}
+use Rattle.ae_conf.specs.RightFields.{right_fields, making}
 use Rattle.ae_conf.specs.Change.{change_kinds, given_change, change_attributes}
-use Rattle.ae_conf.proofs.Saying.{text_fields, error_line}
+use Rattle.ae_conf.proofs.Texts.{text_fields, error_line}
 use Rattle.ae_conf.proofs.laws.note_change_attributes.Goals as goal
 
 -- the attributes of the fields that are right
-attributes_of : (bytes : List ℕ) (old : ChangeAttributes) (read : Result (List (List ℕ × Node)) ℕ) → right_fields change_kinds bytes ≡ read → change_attributes bytes old ≡ making (λ fields. given_change fields old) read
-attributes_of bytes old read e = ap (λ (r : Result (List (List ℕ × Node)) ℕ). making (λ fields. given_change fields old) r) e
+attributes_of : (bytes : List ℕ) (old : ChangeAttributes) (read : Result Fields ℕ) → right_fields change_kinds bytes ≡ read → change_attributes bytes old ≡ making (λ fields. given_change fields old) read
+attributes_of bytes old read e = ap (λ (r : Result Fields ℕ). making (λ fields. given_change fields old) r) e
 
 pub returns-clause-given : goal.returns-clause-given
 returns-clause-given c bytes old tree lines reads none =

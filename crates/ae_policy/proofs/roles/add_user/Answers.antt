@@ -1,5 +1,4 @@
 use Rattle.std.proofs.Common.{sym, ◌∙◌}
-use Rattle.ae_base.specs.declared.words.Role.TheVariants.{Administrator, Developer, Reviewer, Integrator}
 use Rattle.ae_policy.proofs.HasUser.{not_there}
 use Rattle.ae_policy.proofs.roles.add_user.Goals as goal
 

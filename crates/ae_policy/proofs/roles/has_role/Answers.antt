@@ -1,4 +1,3 @@
-use Rattle.std.proofs.Common.{◌≡◌, ap, ◌∙◌, subst, List, ℕ}
 use Rattle.ae_policy.proofs.HasUser.{has_user_is}
 use Rattle.ae_policy.proofs.roles.has_role.Goals as goal
 
