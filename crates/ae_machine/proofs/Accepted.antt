@@ -248,51 +248,51 @@ module _ (o : Observation) (bytes : ℕ → List ℕ) (c : Command) (who : List 
       let p = passes function.Build e in
       let given = is_given function.Build in
       these-apply _ p.these (runs-apply o (run_event given) who when c.change view.runs (runs given) m (λ change. refl)
-          (in-phase o c.change (λ phase. is_being_developed phase || is_integrating phase) (change-there (with_function function.Build c) formed.whole refl) p.before.1.0 p.before.1.1.0))
+      (in-phase o c.change (λ phase. is_being_developed phase || is_integrating phase) (change-there (with_function function.Build c) formed.whole refl) p.before.1.0 p.before.1.1.0))
   by-function function.Test s formed there e =
       let p = passes function.Test e in
       let given = is_given function.Test in
       these-apply _ p.these (runs-apply o (run_event given) who when c.change view.runs (runs given) m (λ change. refl)
-          (in-phase o c.change (λ phase. is_being_developed phase || is_integrating phase) (change-there (with_function function.Test c) formed.whole refl) p.before.1.0 p.before.1.1.0))
+      (in-phase o c.change (λ phase. is_being_developed phase || is_integrating phase) (change-there (with_function function.Test c) formed.whole refl) p.before.1.0 p.before.1.1.0))
   by-function function.CopyFile s formed there e =
       let p = passes function.CopyFile e in
       these-apply _ p.these (paths-apply (is_given function.CopyFile).call (λ path. refl) (λ path files h. room-last 1000 _ (passed-path (asked_of_path function.CopyFile) (is_given function.CopyFile).call files path h).1.1.1.0) who when c.change c.paths m
-          (in-phase o c.change is_being_developed (change-there (with_function function.CopyFile c) formed.whole refl) p.before.1.0 p.before.1.1.0) p.before.1.1.1.1.1.0)
+      (in-phase o c.change is_being_developed (change-there (with_function function.CopyFile c) formed.whole refl) p.before.1.0 p.before.1.1.0) p.before.1.1.1.1.1.0)
   by-function function.NewFile s formed there e =
       let p = passes function.NewFile e in
       these-apply _ p.these (paths-apply (is_given function.NewFile).call (λ path. refl) (λ path files h. room-last 1000 _ (passed-path (asked_of_path function.NewFile) (is_given function.NewFile).call files path h).1.1.1.0) who when c.change c.paths m
-          (in-phase o c.change is_being_developed (change-there (with_function function.NewFile c) formed.whole refl) p.before.1.0 p.before.1.1.0) p.before.1.1.1.1.0)
+      (in-phase o c.change is_being_developed (change-there (with_function function.NewFile c) formed.whole refl) p.before.1.0 p.before.1.1.0) p.before.1.1.1.1.0)
   by-function function.NewTest s formed there e =
       let p = passes function.NewTest e in
       these-apply _ p.these (paths-apply (is_given function.NewTest).call (λ path. refl) (λ path files h. room-last 1000 _ (passed-path (asked_of_path function.NewTest) (is_given function.NewTest).call files path h).1.1.1.0) who when c.change c.paths m
-          (in-phase o c.change is_being_developed (change-there (with_function function.NewTest c) formed.whole refl) p.before.1.0 p.before.1.1.0) p.before.1.1.1.1.0)
+      (in-phase o c.change is_being_developed (change-there (with_function function.NewTest c) formed.whole refl) p.before.1.0 p.before.1.1.0) p.before.1.1.1.1.0)
   by-function function.RemoveFile s formed there e =
       let p = passes function.RemoveFile e in
       these-apply _ p.these (paths-apply (is_given function.RemoveFile).call (λ path. refl) (λ path files h. room-last 1000 _ (passed-path (asked_of_path function.RemoveFile) (is_given function.RemoveFile).call files path h).1.1.0) who when c.change c.paths m
-          (in-phase o c.change is_being_developed (change-there (with_function function.RemoveFile c) formed.whole refl) p.before.1.0 p.before.1.1.0) p.before.1.1.1.1.0)
+      (in-phase o c.change is_being_developed (change-there (with_function function.RemoveFile c) formed.whole refl) p.before.1.0 p.before.1.1.0) p.before.1.1.1.1.0)
   by-function function.CopyFileUndo s formed there e =
       let p = passes function.CopyFileUndo e in
       these-apply _ p.these (paths-apply (is_given function.CopyFileUndo).call (λ path. tt) (λ path files h. tt) who when c.change c.paths m
-          (in-phase o c.change is_being_developed (change-there (with_function function.CopyFileUndo c) formed.whole refl) p.before.1.0 p.before.1.1.0) p.before.1.1.1.1.0)
+      (in-phase o c.change is_being_developed (change-there (with_function function.CopyFileUndo c) formed.whole refl) p.before.1.0 p.before.1.1.0) p.before.1.1.1.1.0)
   by-function function.NewFileUndo s formed there e =
       let p = passes function.NewFileUndo e in
       these-apply _ p.these (paths-apply (is_given function.NewFileUndo).call (λ path. tt) (λ path files h. tt) who when c.change c.paths m
-          (in-phase o c.change is_being_developed (change-there (with_function function.NewFileUndo c) formed.whole refl) p.before.1.0 p.before.1.1.0) p.before.1.1.1.1.0)
+      (in-phase o c.change is_being_developed (change-there (with_function function.NewFileUndo c) formed.whole refl) p.before.1.0 p.before.1.1.0) p.before.1.1.1.1.0)
   by-function function.NewTestUndo s formed there e =
       let p = passes function.NewTestUndo e in
       these-apply _ p.these (paths-apply (is_given function.NewTestUndo).call (λ path. tt) (λ path files h. tt) who when c.change c.paths m
-          (in-phase o c.change is_being_developed (change-there (with_function function.NewTestUndo c) formed.whole refl) p.before.1.0 p.before.1.1.0) p.before.1.1.1.1.0)
+      (in-phase o c.change is_being_developed (change-there (with_function function.NewTestUndo c) formed.whole refl) p.before.1.0 p.before.1.1.0) p.before.1.1.1.1.0)
   by-function function.RemoveFileUndo s formed there e =
       let p = passes function.RemoveFileUndo e in
       these-apply _ p.these (paths-apply (is_given function.RemoveFileUndo).call (λ path. tt) (λ path files h. tt) who when c.change c.paths m
-          (in-phase o c.change is_being_developed (change-there (with_function function.RemoveFileUndo c) formed.whole refl) p.before.1.0 p.before.1.1.0) p.before.1.1.1.1.0)
+      (in-phase o c.change is_being_developed (change-there (with_function function.RemoveFileUndo c) formed.whole refl) p.before.1.0 p.before.1.1.0) p.before.1.1.1.1.0)
   by-function function.List s formed there e = these-apply [] (passes function.List e).these tt
   by-function function.IntegrateBegin s formed there e =
       let p = passes function.IntegrateBegin e in
       let behind = p.before.1.1.1.1.1.1 in
       these-apply _ p.these (one-applies o who when c.change on.IBegin m (integration-comes o s c.change
-          (in-phase o c.change is_awaiting_integration (change-there (with_function function.IntegrateBegin c) formed.whole refl) p.before.1.0 p.before.1.1.0)
-          behind.0 behind.1.0 (tested (nat_le (last_delta o + 1) 1990) (Limit Deltas 1990) behind.1.1.1.1.0)))
+      (in-phase o c.change is_awaiting_integration (change-there (with_function function.IntegrateBegin c) formed.whole refl) p.before.1.0 p.before.1.1.0)
+      behind.0 behind.1.0 (tested (nat_le (last_delta o + 1) 1990) (Limit Deltas 1990) behind.1.1.1.1.0)))
   by-function f s formed there e = never there
 
 pub accepted-apply : AcceptedApply

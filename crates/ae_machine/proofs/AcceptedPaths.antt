@@ -133,9 +133,10 @@ module _ (make : RunRow → RunEvent) (who : List ℕ) (when n : ℕ) (m : IsMom
   all-runs [] o x e right = tt
   all-runs (run ∷ runs) o x e right =
       let event = event_of who when (Some n) (on.Run (make run)) in
-      let later = change_after o.project.next_version event x in
-      (to-found o who when n (on.Run (make run)) m (subst (λ (y : Option Change). IsSomeAnd y (λ (change : Change). (comes_in (on.Run (make run)) change.phase ≡ true) × Unit {0})) (sym e) (right, tt)),
-       all-runs runs (after o event) later (changed-at o.changes n (change_after o.project.next_version event) (λ y. refl) x e) right)
+      let later = change_after o.project.next_version event x in (
+        to-found o who when n (on.Run (make run)) m (subst (λ (y : Option Change). IsSomeAnd y (λ (change : Change). (comes_in (on.Run (make run)) change.phase ≡ true) × Unit {0})) (sym e) (right, tt)),
+        all-runs runs (after o event) later (changed-at o.changes n (change_after o.project.next_version event) (λ y. refl) x e) right,
+      )
 
 -- the runs of a command apply, one after another
 pub runs-apply : (o : Observation) (make : Change → RunRow → RunEvent) (who : List ℕ) (when : ℕ) (number : Option ℕ) (rows : List RunRow) (kinds : Option Change → List EventKind) → IsMoment when
