@@ -52,13 +52,6 @@ places_of taken (bytes ∷ more) =
 abbrev pub packed : Placing
 packed o tree = places_of (extents o) (present tree)
 
-abbrev pub no_place : List ℕ → ℕ
-no_place bytes = 0
-
--- while each version is a file of its own, all places are 0
-abbrev pub unpacked : Placing
-unpacked o tree = Some (map no_place (present tree))
-
--- how this store places versions
-abbrev pub placing : Placing
-placing = unpacked
+-- how this store places versions: each at the lowest place that is free
+unfoldable pub placing : Placing
+placing = packed
