@@ -1,0 +1,4 @@
+pub mod Held
+pub mod Leaving
+pub mod Putting
+pub mod Stores

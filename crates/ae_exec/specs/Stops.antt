@@ -1,0 +1,14 @@
+-- What a call leaves, and what stops leave while it lasts.
+use Rattle.std.specs.Prelude.{ℕ, ◌≤◌, List}
+use Rattle.ae_outside.specs.Image.{Image}
+use Rattle.ae_outside.specs.State.{DiskState}
+use Rattle.ae_vault.specs.Kept.{StandsForOne, Holds}
+
+-- at each moment from base on, a stop leaves what stands for one of these
+abbrev pub Stops : {Log : Type 0} → (Image → Log → Type 0) → DiskState → DiskState → List Log → Type 0
+Stops Stands base disk logs = (u : ℕ) (f : Image) → base.moment ≤ u → u ≤ disk.moment → disk.image_at u f → StandsForOne Stands logs f
+
+-- so it is with each stop since base, and the disk holds one of these
+pub record Leaves {Log : Type 0} (Stands : Image → Log → Type 0) (base disk : DiskState) (logs : List Log) : Type 0 where
+  pub stops : Stops Stands base disk logs
+  pub holds : Holds Stands disk logs
