@@ -1,0 +1,4 @@
+mod Asked
+mod Behind
+mod Named
+mod Upward

@@ -1,5 +1,5 @@
 -- A command, and what it is decided by.
-use Rattle.std.specs.Prelude.{ℕ, Bool, true, false, List, [], ◌∷◌, Option, Some, None}
+use Rattle.std.specs.Prelude.{ℕ, Bool, true, false, List, [], ◌∷◌, Option, Some, None, Result, Ok, Err}
 use Rattle.std.specs.Option.{option_and_then, option_or}
 use Rattle.ae_base.specs.Rows.{Rows}
 use Rattle.ae_base.specs.declared.refusal.Refusal.{Refusal}
@@ -9,35 +9,39 @@ use Rattle.ae_types.specs.Observation.{Observation}
 use Rattle.ae_words.specs.declared.command.Command.{Command}
 use Rattle.ae_machine.specs.declared.view.View.{View}
 
--- a command to what stands, with who gives it, and when
+-- a command to what stands, with who gives it
 pub record Call : Type 0 where
   pub stands : Observation
   pub command : Command
   pub who : List ℕ
-  pub when : ℕ
 
 -- where the versions of a tree are put in the packed region, one place for each file that it doesn't remove; none where
 -- there is no room
 abbrev pub Placing : Type 0
 Placing = Observation → Rows → Option (List ℕ)
 
--- all that a command is decided by: the call, the bytes of each version, by its number, where new versions are put, and what
--- the command sees of the directories
+-- all that the answer is made of: the call, the bytes of each version, by its number, where new versions are put, the moment,
+-- and what the command sees of the directories
 pub record Given : Type 0 where
   pub call : Call
   pub bytes : ℕ → List ℕ
   pub places : Placing
+  pub when : ℕ
   pub view : View
 
-abbrev pub call_of : Observation → Command → List ℕ → ℕ → Call
-call_of o command who when = record { stands = o; command = command; who = who; when = when }
+abbrev pub call_of : Observation → Command → List ℕ → Call
+call_of o command who = record { stands = o; command = command; who = who }
 
 abbrev pub given_of : Placing → Observation → (ℕ → List ℕ) → Command → List ℕ → ℕ → View → Given
-given_of places o bytes command who when view = record { call = call_of o command who when; bytes = bytes; places = places; view = view }
+given_of places o bytes command who when view = record { call = call_of o command who; bytes = bytes; places = places; when = when; view = view }
 
--- the change that the command names, where it is there
+-- the change of the number that is named, where it is there
+abbrev pub change_named : Observation → Option ℕ → Option Change
+change_named o number = option_and_then (change_at o) number
+
+-- the change that the command names
 abbrev pub change_of : Call → Option Change
-change_of call = option_and_then (change_at call.stands) call.command.change
+change_of call = change_named call.stands call.command.change
 
 -- ---- conditions
 

@@ -1,13 +1,13 @@
 -- The laws of legal logs.
 use Rattle.std.specs.Prelude.{◌≡◌, ℕ, ◌⊎◌, Bool, true, false, ◌||◌, not, List, [], ◌∷◌, Option, Some, None, if◌then◌else◌, is_some}
 use Rattle.std.specs.List.{list_any, list_all}
-use Rattle.std.specs.Option.{is_none, option_and_then, option_map_or}
+use Rattle.std.specs.Option.{is_none, option_map_or}
 use Rattle.std.specs.Str.{bytes_eq}
 use Rattle.ae_base.specs.declared.refusal.Refusal.{Refusal}
 use Rattle.ae_base.specs.declared.refusal.Refusal.TheVariants.{PathClash}
 use Rattle.ae_types.specs.declared.change.Change.{Change}
 use Rattle.ae_types.specs.declared.change.ChangeFile.{ChangeFile}
-use Rattle.ae_types.specs.Found.{change_at, file_in}
+use Rattle.ae_types.specs.Found.{file_in}
 use Rattle.ae_types.specs.Observation.{Observation}
 use Rattle.ae_types.specs.Sound.{Sound}
 use Rattle.ae_log.specs.declared.event.Event.{Event}
@@ -17,6 +17,7 @@ use Rattle.ae_log.specs.Observed.{observation}
 use Rattle.ae_words.specs.declared.table.Function.{Function}
 use Rattle.ae_words.specs.declared.table.Function.TheVariants as function
 use Rattle.ae_machine.specs.declared.verdict.Verdict.TheVariants.{Accept, Refuse}
+use Rattle.ae_machine.specs.Call.{change_named}
 use Rattle.ae_machine.specs.Legal.{Legal, Occasion, MayCome, verdict_after}
 use Rattle.ae_machine.specs.Paths.{no_clash, paths_with}
 use Rattle.ae_machine.specs.Provenance.{Provenance}
@@ -79,7 +80,7 @@ is_removal _ = false
 
 -- the files of the change that is named
 abbrev pub files_named : Observation → Option ℕ → List ChangeFile
-files_named o number = option_map_or (λ (change : Change). change.files) (option_and_then (change_at o) number) []
+files_named o number = option_map_or (λ (change : Change). change.files) (change_named o number) []
 
 -- a copy finds none of its paths in the change
 abbrev pub copies_none_twice : Observation → Occasion → Bool

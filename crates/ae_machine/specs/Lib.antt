@@ -15,3 +15,4 @@ pub mod Provenance
 pub mod Same
 pub mod Replies
 pub mod Laws
+pub mod There

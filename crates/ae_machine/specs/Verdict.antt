@@ -26,7 +26,7 @@ use Rattle.ae_machine.specs.declared.verdict.Verdict.{Verdict}
 use Rattle.ae_machine.specs.declared.verdict.Verdict.TheVariants.{Accept, Refuse}
 use Rattle.ae_machine.specs.declared.view.View.{View}
 use Rattle.ae_machine.specs.Attributes.{first_attributes, first_change_attributes, file_gives}
-use Rattle.ae_machine.specs.Call.{Call, Given, Condition, SightCondition, Placing, call_of, given_of, change_of, first_of, refusal_in, given_in}
+use Rattle.ae_machine.specs.Call.{Call, Given, Condition, SightCondition, Placing, call_of, given_of, change_named, change_of, first_of, refusal_in, given_in}
 use Rattle.ae_machine.specs.Freezing.{change_has_files, files_may_end, leaves_no_clash, versions_have_room, right_files, frozen_bytes_have_room, develop_runs_suffice, integrate_runs_suffice, there_are_tests, configured, places_are_there, nobody_integrates, files_have_room, tests_have_room, deltas_have_room}
 use Rattle.ae_machine.specs.Paths.{right_paths, delta_is_there, path_event}
 use Rattle.ae_machine.specs.Permission.{right_project, right_change, right_phase, caller_is_administrator, caller_is_developer, caller_is_reviewer, caller_is_integrator, caller_may_make, caller_develops, caller_integrates, caller_works, nobody_else_reviews, caller_reviews, caller_passed, may_review, developer_may_integrate, reviewer_may_integrate, history_has_room, changes_have_room, may_be_added, may_be_dropped, name_or_empty}
@@ -35,16 +35,16 @@ use Rattle.ae_machine.specs.Sight.{change_tree}
 
 -- ---- attributes
 
--- the attributes that a file of a change's attributes begins from: those of the change, or of a new one
-abbrev pub old_change_attributes : Call → ChangeAttributes
-old_change_attributes call = option_map_or (λ (change : Change). change.attributes) (change_of call) (first_change_attributes call.stands.project.attributes)
+-- the attributes that a file of a change's attributes begins from: those of the change that is named, or of a new one
+abbrev pub old_change_attributes : Observation → Option ℕ → ChangeAttributes
+old_change_attributes o number = option_map_or (λ (change : Change). change.attributes) (change_named o number) (first_change_attributes o.project.attributes)
 
 -- what the file of a project's attributes gives, and that of a change's
 abbrev pub project_file : Given → Result Attributes Refusal
 project_file given = file_gives project_attributes given.call.stands.project.attributes given.call.command.attributes given.view.attributes
 
 abbrev pub change_file : Given → Result ChangeAttributes Refusal
-change_file given = file_gives change_attributes (old_change_attributes given.call) given.call.command.attributes given.view.attributes
+change_file given = file_gives change_attributes (old_change_attributes given.call.stands given.call.command.change) given.call.command.attributes given.view.attributes
 
 -- the file is there, not too long, and each line is good
 abbrev pub project_file_is_good : SightCondition
@@ -115,9 +115,12 @@ refusal given = option_or (refusal_before given.call) (first_of (asked_of_sight 
 
 -- ---- the events of each function
 
+abbrev pub is_unused : List ℕ → ℕ → Bool
+is_unused numbers number = not (has_number numbers number)
+
 -- the least number that no change has
 abbrev pub free_number : Observation → Option ℕ
-free_number o = find (λ number. not (has_number o.numbers number)) change_numbers
+free_number o = find (is_unused o.numbers) change_numbers
 
 -- by the project's attributes a review begins at once, or is waited for
 abbrev pub phase_behind : EndAction → Phase
@@ -148,9 +151,9 @@ kinds_of function.RemoveDeveloper given = map (on.RoleDrop Developer) given.call
 kinds_of function.RemoveReviewer given = map (on.RoleDrop Reviewer) given.call.command.users
 kinds_of function.RemoveIntegrator given = map (on.RoleDrop Integrator) given.call.command.users
 kinds_of function.ProjectAttributes given = on.Attributes (given_in (project_file given) given.call.stands.project.attributes) ∷ []
-kinds_of function.NewChange given = on.New (given_in (change_file given) (old_change_attributes given.call)) ∷ []
+kinds_of function.NewChange given = on.New (given_in (change_file given) (old_change_attributes given.call.stands given.call.command.change)) ∷ []
 kinds_of function.NewChangeUndo given = on.NewUndo ∷ []
-kinds_of function.ChangeAttributes given = on.ChangeAttributes (given_in (change_file given) (old_change_attributes given.call)) ∷ []
+kinds_of function.ChangeAttributes given = on.ChangeAttributes (given_in (change_file given) (old_change_attributes given.call.stands given.call.command.change)) ∷ []
 kinds_of function.DevelopBegin given = on.Begin ∷ []
 kinds_of function.DevelopBeginUndo given = on.BeginUndo ∷ []
 kinds_of function.CopyFile given = map (path_event given.call) given.call.command.paths
@@ -187,7 +190,7 @@ event_of who when change kind = record { who = who; when = when; change = change
 
 -- they are made by the caller, at the moment of the call
 abbrev pub events_of : Given → List Event
-events_of given = map (event_of given.call.who given.call.when (change_of_events given.call.command.function given.call)) (kinds_of given.call.command.function given)
+events_of given = map (event_of given.call.who given.when (change_of_events given.call.command.function given.call)) (kinds_of given.call.command.function given)
 
 -- ---- the verdict
 
@@ -216,9 +219,9 @@ abbrev pub new_project : Command → List ℕ → ℕ → View → Verdict
 new_project command who when view = answer (refusal_in (new_project_file command view)) (new_project_event command who when (new_project_file command view) ∷ [])
 
 -- the refusal that the conditions without reading give first, also where no project stands
-abbrev pub refused_before : Option Observation → Command → List ℕ → ℕ → Option Refusal
-refused_before None command who when = if is_new_project command.function then None else Some NoProject
-refused_before (Some o) command who when = if is_new_project command.function then Some ProjectExists else refusal_before (call_of o command who when)
+abbrev pub refused_before : Option Observation → Command → List ℕ → Option Refusal
+refused_before None command who = if is_new_project command.function then None else Some NoProject
+refused_before (Some o) command who = if is_new_project command.function then Some ProjectExists else refusal_before (call_of o command who)
 
 -- the answer to a command: where no project stands only a new one is made, and where one stands none is
 abbrev pub verdict : Placing → Option Observation → (ℕ → List ℕ) → Command → List ℕ → ℕ → View → Verdict

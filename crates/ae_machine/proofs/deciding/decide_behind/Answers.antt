@@ -1,0 +1,18 @@
+-- The file of attributes is the one condition that is left, and gives the one event.
+use Rattle.std.proofs.Common.{◌≡◌, Option, Some, None, refl}
+use Rattle.std.specs.Option.{option_or}
+use Rattle.ae_base.specs.declared.refusal.Refusal.{Refusal}
+use Rattle.ae_machine.proofs.deciding.decide_behind.Goals as goal
+
+alone : (refusal : Option Refusal) → option_or refusal None ≡ refusal
+alone None = refl
+alone (Some refusal) = refl
+
+pub returns-in-ProjectAttributes : goal.returns-in-ProjectAttributes
+returns-in-ProjectAttributes c = λ places bytes. rw (c.in-ProjectAttributes.is, alone) c.set_project_attributes.ensures
+
+pub returns-in-NewChange : goal.returns-in-NewChange
+returns-in-NewChange c = λ places bytes. rw (c.in-NewChange.is, alone) c.make_change.ensures
+
+pub returns-in-ChangeAttributes : goal.returns-in-ChangeAttributes
+returns-in-ChangeAttributes c = λ places bytes. rw (c.in-ChangeAttributes.is, alone) c.set_change_attributes.ensures
