@@ -1,16 +1,14 @@
 -- What stands after the events of a command.
-use Rattle.std.specs.Prelude.{ℕ, ◌≡◌, List, [], ◌∷◌, map, Option, Some, None}
+use Rattle.std.specs.Prelude.{ℕ, ◌≡◌, List, [], ◌∷◌, map, Option, Some, None, All, true}
 use Rattle.ae_types.specs.Found.{number_of_change}
 use Rattle.ae_types.specs.Observation.{Observation}
-use Rattle.ae_types.specs.Sound.{Sound}
 use Rattle.ae_log.specs.declared.event.Event.{Event}
-use Rattle.ae_log.specs.declared.event.EventKind.{EventKind}
-use Rattle.ae_log.specs.declared.event.EventKind.TheVariants as on
-use Rattle.ae_log.specs.After.{after_all, after, started}
-use Rattle.ae_log.specs.Applied.{IsApplied}
-use Rattle.ae_log.specs.Applies.{Applies, IsProject}
+use Rattle.ae_log.specs.After.{after_all, started}
+use Rattle.ae_log.specs.Applies.{Starts}
 use Rattle.ae_machine.specs.declared.verdict.Verdict.{Verdict}
 use Rattle.ae_machine.specs.declared.verdict.Verdict.TheVariants.{Accept, Refuse}
+use Rattle.ae_machine.specs.Accepted.{AppliesAll}
+use Rattle.ae_exec.specs.Said.{is_made}
 
 -- where nothing stands, one event makes a project; else the events are applied one after another
 abbrev pub next_of : Option Observation → List Event → Option Observation
@@ -19,21 +17,20 @@ next_of None (event ∷ []) = started event
 next_of None (event ∷ other ∷ events) = None
 next_of (Some o) events = Some (after_all o events)
 
--- each event may come after those before it, and is of a kind that is applied
-abbrev pub MayComeAll : Observation → List Event → Type 0
-MayComeAll o [] = Unit {0}
-MayComeAll o (event ∷ events) = Applies o event × IsApplied event.what × MayComeAll (after o event) events
-
 -- where nothing stands there is one event, and it makes a project
 abbrev pub MayBegin : List Event → Type 0
 MayBegin [] = ⊥
-MayBegin (event ∷ []) = IsProject event.what
+MayBegin (event ∷ []) = Starts event
 MayBegin (event ∷ other ∷ events) = ⊥
 
--- the events may come where this stands
+-- the events may come where this stands, each after those before it
 abbrev pub MayFollow : Option Observation → List Event → Type 0
 MayFollow None events = MayBegin events
-MayFollow (Some o) events = MayComeAll o events
+MayFollow (Some o) events = AppliesAll o events
+
+-- each is of a kind that commands make so far
+abbrev pub AreMade : List Event → Type 0
+AreMade events = All (λ (event : Event). is_made event.what ≡ true) events
 
 -- what is so of the events, where the command is accepted
 abbrev pub IfAccepted : Verdict → (List Event → Type 0) → Type 0

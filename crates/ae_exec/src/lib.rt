@@ -4,11 +4,11 @@
 mod load;
 mod next;
 mod open;
-mod perform;
+mod performing;
 mod plan;
 mod reply;
 mod sight;
 mod stop;
 
-pub use perform::{Performed, perform};
+pub use performing::{Performed, perform};
 

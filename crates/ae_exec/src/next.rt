@@ -1,8 +1,8 @@
 // The state after the events of a command.
-ghost use Rattle.std.specs.Prelude.{◌≡◌, Some, IfOk, option_copied};
-ghost use Rattle.ae_log.specs.After.{after_all, started};
-ghost use Rattle.ae_types.specs.Sound.{Sound};
-ghost use Rattle.ae_exec.specs.Next.{next_of, MayBegin, MayComeAll, MayFollow};
+ghost use Rattle.std.specs.Prelude.{◌≡◌, Some, None, IfOk, option_copied};
+ghost use Rattle.ae_log.specs.After.{after_all};
+ghost use Rattle.ae_machine.specs.Accepted.{AppliesAll};
+ghost use Rattle.ae_exec.specs.Next.{next_of, MayBegin, MayFollow, AreMade};
 
 use ae_log::{EventList, apply, start};
 use ae_types::State;
@@ -21,7 +21,8 @@ fn started(alloc: Global, events: &EventList) -> Result<State, AllocError>
 
 // The state after events, one after another.
 fn applied(alloc: Global, state: State, events: EventList) -> Result<State, AllocError>
-    requires come { MayComeAll state events }
+    requires come { AppliesAll state events }
+    requires made { AreMade events }
     ensures { IfOk result (λ next. next ≡ after_all state events) }
 {
     let mut state = state;
@@ -38,6 +39,7 @@ pub(crate) fn next_state(
     events: EventList,
 ) -> Result<State, AllocError>
     requires follow { MayFollow (option_copied old) events }
+    requires made { AreMade events }
     ensures { IfOk result (λ next. next_of (option_copied old.entry) events ≡ Some next) }
 {
     match old {

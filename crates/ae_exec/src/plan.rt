@@ -1,19 +1,17 @@
 // What is put and what is said of a command, made ready before anything is changed.
-ghost use Rattle.std.specs.Prelude.{◌≡◌, ◌≤◌, ℕ, true, List, Option, Some, All, IfOk, IfErr, option_copied};
+ghost use Rattle.std.specs.Prelude.{◌≡◌, ◌≤◌, true, Option, Some, IfOk, IfErr, option_copied};
 ghost use Rattle.ae_outside.specs.Causes.{HasRisen};
 ghost use Rattle.ae_outside.specs.Image.{IsSame};
 ghost use Rattle.ae_outside.specs.State.{reads, GoesOn};
 ghost use Rattle.ae_store.specs.Records.{Stands};
 ghost use Rattle.ae_types.specs.Observation.{Observation};
 ghost use Rattle.ae_vault.specs.Commit.{IsClean};
-ghost use Rattle.ae_log.specs.declared.event.Event.{Event};
 ghost use Rattle.ae_words.specs.Formed.{IsFormed};
 ghost use Rattle.ae_machine.specs.declared.verdict.Verdict.TheVariants.{Refuse};
 ghost use Rattle.ae_machine.specs.There.{is_there_yet};
 ghost use Rattle.ae_exec.specs.Endings.{EndsAs, IsDamagedAt, outcome_of_stop};
-ghost use Rattle.ae_exec.specs.Next.{MayFollow, IfAccepted, next_of};
+ghost use Rattle.ae_exec.specs.Next.{MayFollow, AreMade, IfAccepted, next_of};
 ghost use Rattle.ae_exec.specs.Plan.{IsStep, IsMade, IsPlanned, IsAnsweredAt};
-ghost use Rattle.ae_exec.specs.Said.{is_made};
 ghost use Rattle.ae_exec.specs.Seen.{IsAnswer, occasion_at, occasion_of};
 
 use crate::load::load_state;
@@ -45,6 +43,7 @@ fn next_batch(
     events: EventList,
 ) -> Result<Batch, AllocError>
     requires follow { MayFollow (option_copied old) events }
+    requires made { AreMade events }
     ensures { IfOk result (λ batch. (next : Observation) × (next_of (option_copied old.entry) events ≡ Some next) × IsStep (option_copied old.entry) next batch) }
 {
     let new = next_state(alloc, old, events)?;
@@ -59,7 +58,7 @@ fn prepare(
     status_line: bool,
 ) -> Result<Plan, AllocError>
     requires follow { MayFollow (option_copied old) events }
-    requires made { All (λ (event : Event). is_made event.what ≡ true) events }
+    requires made { AreMade events }
     ensures { IfOk result (λ plan. IsMade (option_copied old.entry) status_line events plan.batch plan.reply) }
 {
     let reply = reply(alloc, old, &events, status_line)?;
@@ -81,7 +80,7 @@ fn answer(
     requires moment { now ≤ 4102444799 }
     ensures is { IfOk result (λ answer. IsAnswer (option_copied old.entry) (occasion_of command.now who.now now view.now) answer) }
     ensures follow { IfOk result (λ answer. IfAccepted answer (MayFollow (option_copied old.entry))) }
-    ensures made { IfOk result (λ answer. IfAccepted answer (All (λ (event : Event). is_made event.what ≡ true))) }
+    ensures made { IfOk result (λ answer. IfAccepted answer AreMade) }
 {
     decide(alloc, old, command, who, now, view)
 }
@@ -115,7 +114,7 @@ fn plan_on<S: Site>(
 }
 
 /// What is put and said of the command, where the files of a clean disk stand.
-pub(crate) fn plan<D: Disk, S: Site>(
+pub(crate) fn make_plan<D: Disk, S: Site>(
     alloc: Global,
     disk: &mut D,
     site: &mut S,

@@ -1,10 +1,11 @@
 // The reply to a command that is accepted.
-ghost use Rattle.std.specs.Prelude.{◌≡◌, ◌++◌, ◌∷◌, [], ℕ, List, codes, true, map, All, IfOk, OnOk, option_copied, IsTrue};
+ghost use Rattle.std.specs.Prelude.{◌≡◌, ◌++◌, ℕ, codes, true, map, IfOk, OnOk, option_copied};
+ghost use Rattle.std.specs.List.{concat};
 ghost use Rattle.ae_base.specs.Words.{role_word};
-ghost use Rattle.ae_log.specs.declared.event.Event.{Event};
 ghost use Rattle.ae_machine.specs.declared.verdict.Verdict.TheVariants.{Accept};
 ghost use Rattle.ae_machine.specs.Replies.{quoted, change_text, event_line, event_text, name_of, reply};
-ghost use Rattle.ae_exec.specs.Said.{is_made, reply_text, status_text};
+ghost use Rattle.ae_exec.specs.Next.{AreMade};
+ghost use Rattle.ae_exec.specs.Said.{is_made, reply_text};
 
 use ae_base::{ChangeNo, Role, Text, User};
 use ae_log::{Event, EventKind, EventList};
@@ -86,7 +87,8 @@ fn put_line(
     text.extend_from_slice(b"\": ")?;
     text.extend_from_slice(change_text(alloc, event.change)?.as_slice())?;
     text.extend_from_slice(event_text(alloc, &event.what)?.as_slice())?;
-    text.push(b'\n')
+    text.push(b'\n')?;
+    Ok(())
 }
 
 // The lines of the events, one after another.
@@ -95,7 +97,7 @@ fn lines(
     old: Option<&State>,
     events: &[Event],
 ) -> Result<Vec<u8>, AllocError>
-    requires made { All (λ (event : Event). is_made event.what ≡ true) events.now }
+    requires made { AreMade events.now }
     ensures { IfOk result (λ text. text.items ≡ concat (map (event_line (option_copied old.entry)) events.now)) }
 {
     let mut text = Vec::new(alloc);
@@ -112,7 +114,7 @@ pub(crate) fn reply(
     events: &EventList,
     status_line: bool,
 ) -> Result<Text, AllocError>
-    requires made { All (λ (event : Event). is_made event.what ≡ true) events.now }
+    requires made { AreMade events.now }
     ensures { IfOk result (λ text. text ≡ reply_text status_line (reply (option_copied old.entry) (Accept events.now))) }
 {
     let mut text = lines(alloc, old, events.as_slice())?;

@@ -24,7 +24,7 @@ ghost use Rattle.ae_exec.specs.Seen.{occasion_at};
 ghost use Rattle.ae_exec.specs.Stops.{Leaves};
 
 use crate::open::open_store;
-use crate::plan::{Plan, plan};
+use crate::plan::{Plan, make_plan};
 use crate::stop::Stop;
 use ae_base::{Outcome, Text, User};
 use ae_outside::{Disk, Failed, Site};
@@ -81,13 +81,13 @@ fn attempt<D: Disk, S: Site>(
     ensures site_faults { S.faults site.old ≤ S.faults site.new }
 {
     open_store(alloc, disk)?;
-    let Plan { batch, reply } = plan(alloc, disk, site, command, who, now, status_line)?;
+    let Plan { batch, reply } = make_plan(alloc, disk, site, command, who, now, status_line)?;
     put_batch(disk, batch)?;
     Ok(reply)
 }
 
 // The outcome of an attempt.
-fn performed(alloc: Global, attempt: Result<Text, Stop>) -> Performed
+fn ended(alloc: Global, attempt: Result<Text, Stop>) -> Performed
     ensures outcome { result.outcome ≡ outcome_of attempt }
     ensures reply { result.reply ≡ said_of attempt }
     ensures listing { result.listing ≡ false }
@@ -153,5 +153,5 @@ pub fn perform<D: Disk, S: Site>(
     ensures no_listing { result.listing ≡ false }
 {
     let attempt = attempt(alloc, disk, site, command, who, now, status_line);
-    performed(alloc, attempt)
+    ended(alloc, attempt)
 }
