@@ -1,14 +1,11 @@
 -- The verdict, by what the conditions without reading answer.
-use Rattle.std.proofs.Common.{◌≡◌, ℕ, Bool, true, false, if◌then◌else◌, List, Option, Some, None, refl, sym, ap, ◌∙◌, subst, is_some}
+use Rattle.std.proofs.Common.{◌≡◌, ℕ, Bool, true, false, if◌then◌else◌, List, Option, Some, None, refl}
 use Rattle.std.specs.Option.{option_or}
 use Rattle.ae_base.specs.declared.refusal.Refusal.{Refusal}
 use Rattle.ae_base.specs.declared.refusal.Refusal.TheVariants.{NoProject, ProjectExists}
 use Rattle.ae_types.specs.Observation.{Observation}
 use Rattle.ae_words.specs.declared.command.Command.{Command}
-use Rattle.ae_words.specs.declared.table.Function.{Function}
-use Rattle.ae_words.specs.declared.table.Function.TheVariants.{NewProject}
-use Rattle.ae_machine.specs.declared.verdict.Verdict.{Verdict}
-use Rattle.ae_machine.specs.declared.verdict.Verdict.TheVariants.{Accept, Refuse}
+use Rattle.ae_machine.specs.declared.verdict.Verdict.TheVariants.{Refuse}
 use Rattle.ae_machine.specs.declared.view.View.{View}
 use Rattle.ae_machine.specs.Call.{Placing, call_of, given_of, first_of}
 use Rattle.ae_machine.specs.Verdict.{asked_of_sight, events_of, answer, is_new_project, refusal_before, refused_before, new_project, verdict}
@@ -44,7 +41,7 @@ behind-is places o bytes command who when view h = go (is_new_project command.fu
   go : (b : Bool) (r : Option Refusal) → (if b then Some ProjectExists else r) ≡ None
       → (b ≡ false)
       × (answer (first_of (asked_of_sight command.function) (given_of places o bytes command who when view)) (events_of (given_of places o bytes command who when view))
-        ≡ (if b then Refuse ProjectExists else answer (option_or r (first_of (asked_of_sight command.function) (given_of places o bytes command who when view))) (events_of (given_of places o bytes command who when view))))
+      ≡ (if b then Refuse ProjectExists else answer (option_or r (first_of (asked_of_sight command.function) (given_of places o bytes command who when view))) (events_of (given_of places o bytes command who when view))))
   go true r e = absurd cc
   go false None e = (refl, refl)
   go false (Some other) e = absurd cc

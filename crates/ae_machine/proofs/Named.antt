@@ -1,5 +1,5 @@
 -- A new project has a name.
-use Rattle.std.proofs.Common.{◌≡◌, Bool, true, false, ◌&&◌, is_some, refl, sym, ap, ◌∙◌, subst}
+use Rattle.std.proofs.Common.{◌≡◌, Bool, true, false, ◌&&◌, is_some, refl, subst}
 use Rattle.ae_words.specs.declared.command.Command.{Command}
 use Rattle.ae_words.specs.declared.table.Function.{Function}
 use Rattle.ae_words.specs.declared.table.Function.TheVariants.{NewProject}

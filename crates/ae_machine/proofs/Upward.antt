@@ -1,5 +1,5 @@
 -- The least number that isn't among others.
-use Rattle.std.proofs.Common.{◌≡◌, ℕ, suc, ◌+◌, ◌-◌, ◌<◌, ◌≤◌, Bool, true, false, not, if◌then◌else◌, List, [], ◌∷◌, Option, Some, None, find, refl, sym, ap, ◌∙◌, subst, arith}
+use Rattle.std.proofs.Common.{◌≡◌, ℕ, suc, ◌+◌, ◌-◌, ◌<◌, ◌≤◌, Bool, true, false, not, if◌then◌else◌, List, [], ◌∷◌, Some, None, find, refl, sym, ap, ◌∙◌, subst, arith}
 use Rattle.ae_types.specs.Found.{has_number}
 use Rattle.ae_log.specs.Settings.{upward, change_numbers}
 use Rattle.ae_machine.specs.Verdict.{is_unused}

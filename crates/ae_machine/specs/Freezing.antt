@@ -1,5 +1,5 @@
 -- Conditions of the end of a development, of builds and tests, and of an integration.
-use Rattle.std.specs.Prelude.{ℕ, ◌+◌, Bool, false, ◌||◌, not, List, [], ◌∷◌, map, Option, Some, None, if◌then◌else◌, is_some, length, nat_eq, nat_lt, filter, find, sum, Result, Ok, Err}
+use Rattle.std.specs.Prelude.{ℕ, ◌+◌, Bool, false, ◌||◌, not, List, [], ◌∷◌, map, Option, Some, None, if◌then◌else◌, is_some, length, nat_eq, nat_lt, filter, find, sum}
 use Rattle.std.specs.Option.{option_map, option_map_or, option_or}
 use Rattle.std.specs.Str.{bytes_eq}
 use Rattle.ae_base.specs.Rows.{Row}

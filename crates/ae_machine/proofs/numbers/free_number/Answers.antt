@@ -1,5 +1,5 @@
 -- The loop goes over the numbers of changes, and stops at the first that is free.
-use Rattle.std.proofs.Common.{sym, ◌∙◌, arith}
+use Rattle.std.proofs.Common.{◌∙◌, arith}
 use Rattle.ae_machine.proofs.Upward.{found-free, not-free, none-free, all-numbers}
 use Rattle.ae_machine.proofs.numbers.free_number.Goals as goal
 
