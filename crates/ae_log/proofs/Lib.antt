@@ -31,3 +31,5 @@ pub mod SoundPass
 pub mod Numbered
 pub mod SoundEnd
 pub mod Keeping
+pub mod InPlace
+pub mod AppliedSteps

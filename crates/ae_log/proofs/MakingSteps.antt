@@ -76,7 +76,7 @@ with-new log who when c a b is none = same-parts _ _ refl
     refl
     (filter_map-same _ _ (locks-stay log who when c (on.New a) (absent-holds log c none)) (paths log))
     (listed-put by_number number_of_change (λ n. change n (course log n)) (λ n. change n (course (of_change who when c (on.New a) ∷ log) n)) (own_change log) (own_change (of_change who when c (on.New a) ∷ log))
-    c (new_change (of_change who when c (on.New a)) c a) change_numbers change_numbers change_numbers-ascend change_numbers-ascend (among c is)
+    c (new_change who when c a) change_numbers change_numbers change_numbers-ascend change_numbers-ascend (among c is)
     (its-fact (change c) log who when c (on.New a)) (λ q apart. other-fact (change q) log who when c (on.New a) q apart))
 
 -- ---- a change is taken away

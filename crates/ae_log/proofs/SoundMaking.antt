@@ -32,7 +32,7 @@ use Rattle.ae_log.proofs.Quiet.{quiet-keeps}
 
 module _ (o : Observation) (s : Sound o) (who : List ℕ) (when c : ℕ) (a : ChangeAttributes) (moment : IsMoment when) (fresh : has_number o.numbers c ≡ false) where
   abbrev pub made : Change
-  made = new_change (of_change who when c (on.New a)) c a
+  made = new_change who when c a
 
   abbrev pub with_made : List Change
   with_made = put_by nat_cmp number_of_change made o.changes

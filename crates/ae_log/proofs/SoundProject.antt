@@ -159,7 +159,7 @@ module _ (o : Observation) (s : Sound o) where
 
 -- ---- the first event
 
-sound-start : (who name : List ℕ) (attributes : Attributes) → Sound (new_observation who name attributes)
+pub sound-start : (who name : List ℕ) (attributes : Attributes) → Sound (new_observation who name attributes)
 sound-start who name attributes = record {
   project = record { roles = roles; administrator = omega arith; numbers_ascend = tt; numbered = refl; moments = λ n d e. none-some d e; next = (omega arith, omega arith) };
   rows = record { ascend = tt; good = λ p r e. none-some r e; clash = λ folder path e f g. absurd (never e) };

@@ -60,11 +60,14 @@ with_evidence row rows = put_by run_cmp run_of row rows
 abbrev pub without_runs : Ground → List Evidence → List Evidence
 without_runs during rows = filter (λ (row : Evidence). not (same_during during row.during)) rows
 
+abbrev pub with_settings : ChangeAttributes → Change → Change
+with_settings attributes change = record change { attributes = attributes }
+
 -- ---- the change of the event
 
 -- the change after the event, but for its phase and history; next is the number of the next version
 abbrev pub changed : ℕ → Event → EventKind → Change → Change
-changed next event (on.ChangeAttributes attributes) change = record change { attributes = attributes }
+changed next event (on.ChangeAttributes attributes) change = with_settings attributes change
 changed next event on.Begin change = record change { developer = Some event.who; files = []; evidence = without_runs part.Develop change.evidence }
 changed next event on.BeginUndo change = record change { developer = None; files = []; evidence = without_runs part.Develop change.evidence }
 changed next event (on.File path action usage origin) change = record change { files = with_file (new_file path action usage origin) change.files }
@@ -94,8 +97,8 @@ change_after next event change =
     record later { phase = moved (phase_after event.what) change.phase; history = with_row (word_of event.what) event.who event.when change.history }
 
 -- what a New makes
-abbrev pub new_change : Event → ℕ → ChangeAttributes → Change
-new_change event number attributes = record {
+abbrev pub new_change : List ℕ → ℕ → ℕ → ChangeAttributes → Change
+new_change who when number attributes = record {
   number = number;
   attributes = attributes;
   phase = phase.AwaitingDevelopment;
@@ -105,7 +108,7 @@ new_change event number attributes = record {
   integrator = None;
   files = [];
   evidence = [];
-  history = with_row (word_of (on.New attributes)) event.who event.when [];
+  history = with_row (word_of (on.New attributes)) who when [];
 }
 
 -- ---- the changes
@@ -115,7 +118,7 @@ abbrev pub where_number : ℕ → (Change → Change) → Change → Change
 where_number number make change = if nat_eq number (number_of_change change) then make change else change
 
 abbrev pub changes_after : ℕ → Event → ℕ → EventKind → List Change → List Change
-changes_after next event number (on.New attributes) changes = put_by nat_cmp number_of_change (new_change event number attributes) changes
+changes_after next event number (on.New attributes) changes = put_by nat_cmp number_of_change (new_change event.who event.when number attributes) changes
 changes_after next event number on.NewUndo changes = filter (λ change. not (nat_eq number (number_of_change change))) changes
 changes_after next event number _ changes = map (where_number number (change_after next event)) changes
 

@@ -9,3 +9,4 @@ pub mod Observed
 pub mod After
 pub mod Applies
 pub mod Laws
+pub mod Applied

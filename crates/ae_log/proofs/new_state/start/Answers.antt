@@ -1,0 +1,5 @@
+use Rattle.ae_log.proofs.SoundProject.{sound-start}
+use Rattle.ae_log.proofs.new_state.start.Goals as goal
+
+pub of-requires : goal.of-requires
+of-requires c = rw (c.in_ok-made_project.ensures, c.new.ensures, c.new-2.ensures, c.new-3.ensures, c.new-4.ensures) (sound-start _ _ _)
