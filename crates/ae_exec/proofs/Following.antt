@@ -1,17 +1,20 @@
 -- What follows of an answer to a command.
-use Rattle.std.specs.Prelude.{◌≡◌, ◌⊎◌, ℕ, true, false, Bool, List, [], ◌∷◌, map, Option, Some, None, All, IfSome, IsSome, is_some, if◌then◌else◌}
+use Rattle.std.specs.Prelude.{◌≡◌, ◌⊎◌, ℕ, true, false, Bool, List, [], ◌∷◌, map, Option, Some, None, All, IfSome, IsSome, IsSomeAnd, is_some, if◌then◌else◌, Result, Ok, Err, IfOk}
 use Rattle.std.proofs.Common.{inl, inr, refl, sym, ap, subst, ◌∙◌}
-use Rattle.std.proofs.lemmas.List.Elements.{All-nil, All-cons, All-map, All-same}
+use Rattle.std.proofs.lemmas.List.Elements.{All-nil, All-cons, All-map, All-same, All-tail}
 use Rattle.ae_base.specs.declared.refusal.Refusal.{Refusal}
 use Rattle.ae_outside.specs.Image.{Image}
-use Rattle.ae_vault.specs.Vault.{effective}
+use Rattle.ae_vault.specs.Vault.{effective, content_of, put}
 use Rattle.ae_vault.specs.Batch.{BatchRecord}
 use Rattle.ae_store.specs.Records.{Stands, StandsFor, nothing, records}
+use Rattle.ae_store.specs.Changed.{entry_for}
 use Rattle.ae_types.specs.Observation.{Observation}
 use Rattle.ae_types.specs.Sound.{Sound}
 use Rattle.ae_log.specs.declared.event.Event.{Event}
 use Rattle.ae_log.specs.declared.event.EventKind.{EventKind}
-use Rattle.ae_log.specs.After.{started, after_all}
+use Rattle.ae_log.specs.After.{started, after, after_all}
+use Rattle.ae_log.specs.Applies.{MayApply}
+use Rattle.ae_log.proofs.Keeping.{keeps, may-be-applied}
 use Rattle.ae_log.specs.Files.{version_bytes}
 use Rattle.ae_log.specs.Log.{Log, followed}
 use Rattle.ae_log.specs.Observed.{observation}
@@ -24,7 +27,7 @@ use Rattle.ae_machine.specs.Space.{placing}
 use Rattle.ae_machine.specs.There.{is_there_yet}
 use Rattle.ae_machine.specs.Verdict.{verdict, verdict_on, answer, refusal, events_of, event_of, kinds_of, is_new_project, change_of_events}
 use Rattle.ae_exec.specs.Next.{next_of, MayBegin, MayFollow, AreMade, IfAccepted, IsComplete}
-use Rattle.ae_exec.specs.Plan.{IsPlanned, IsAnsweredAt}
+use Rattle.ae_exec.specs.Plan.{IsPlanned, IsStep}
 use Rattle.ae_exec.specs.Seen.{IsAnswer}
 use Rattle.ae_exec.specs.Said.{is_made}
 use Rattle.ae_exec.proofs.Accepting.{accepted-apply, accepted-starts, accepted-follow, first-follow, legal-stands}
@@ -73,6 +76,37 @@ all-made (Some o) occasion (Accept events) is answers =
     All-same (λ (event : Event). is_made event.what ≡ true) events (events_of given) (behind (is_new_project occasion.command.function) given events _ (answers no_bytes))
     (events-made given is.there)
 all-made o occasion (Refuse refusal) is answers = tt
+
+-- ---- from the answers of calls
+
+pub if_answered : {E : Type 0} (result : Result Verdict E) (f : (ℕ → List ℕ) → Verdict) → ((bytes : ℕ → List ℕ) → IfOk result (λ v. v ≡ f bytes)) → IfOk result (λ v. (bytes : ℕ → List ℕ) → f bytes ≡ v)
+if_answered (Ok v) f is = λ bytes. sym (is bytes)
+if_answered (Err error) f is = tt
+
+-- one event more is applied
+pub one_more : (o next : Observation) (events rest : List Event) (event : Event) (end : Observation) → events ≡ event ∷ rest → next ≡ after o event
+    → (after_all o events ≡ end) × AppliesAll o events × AreMade events × Sound o → (after_all next rest ≡ end) × AppliesAll next rest × AreMade rest × Sound next
+one_more o next events rest event end is made so_far =
+    let applies : AppliesAll o (event ∷ rest) = subst (λ (es : List Event). AppliesAll o es) is so_far.1 in
+    let all : after_all o (event ∷ rest) ≡ end = subst (λ (es : List Event). after_all o es ≡ end) is so_far.0 in
+    let are : AreMade (event ∷ rest) = subst AreMade is so_far.2 in
+    (subst (λ (n : Observation). after_all n rest ≡ end) (sym made) all,
+    subst (λ (n : Observation). AppliesAll n rest) (sym made) applies.1,
+    All-tail (λ (e : Event). is_made e.what ≡ true) event rest are,
+    subst Sound (sym made) (keeps o event so_far.3 applies.0))
+
+-- the first of these events may be applied
+pub may_apply : (o : Observation) (events rest : List Event) (event : Event) → events ≡ event ∷ rest → AppliesAll o events → Sound o → MayApply o event
+may_apply o events rest event is applies sound =
+    let here : AppliesAll o (event ∷ rest) = subst (λ (es : List Event). AppliesAll o es) is applies in
+    may-be-applied o event sound here.0
+
+pub step_made : {E : Type 0} (result : Result BatchRecord E) (old : Option Observation) (events : List Event) (next : Observation) → next_of old events ≡ Some next → IfOk result (λ batch. batch.pieces ≡ [])
+    → IfOk result (λ batch. (name : List ℕ) → content_of batch.entries name ≡ entry_for old next name)
+    → IfOk result (λ batch. (files : Image) → IsComplete next → StandsFor files old → StandsFor (put batch.entries files) (Some next))
+    → IfOk result (λ batch. (x : Observation) × (next_of old events ≡ Some x) × IsStep old x batch)
+step_made (Ok batch) old events next is pieces entries stands = (next, is, record { pieces = pieces; entries = entries; stands = stands })
+step_made (Err error) old events next is pieces entries stands = tt
 
 -- ---- what stands after a log
 

@@ -8,3 +8,4 @@ pub mod Numbered
 pub mod Following
 pub mod Endings
 pub mod Attempting
+pub mod Lines

@@ -1,6 +1,6 @@
 -- What the files of a disk stand for, joined over the vault's calls.
 use Rattle.std.specs.Prelude.{◌≡◌, ◌≢◌, ◌⊎◌, ℕ, Bool, true, false, List, [], ◌∷◌, ◌++◌, Option, Some, None, IsSomeAnd, Contains, Result, Ok, Err, OnOk, IfOk}
-use Rattle.std.proofs.Common.{inl, inr, refl, sym, subst, ◌∙◌, arith}
+use Rattle.std.proofs.Common.{inl, inr, refl, sym, ap, subst, ◌∙◌, arith}
 use Rattle.std.proofs.lemmas.List.Elements.{Contains-append_left, Contains-append_right, Contains-append_cases}
 use Rattle.std.specs.Str.{bytes_eq}
 use Rattle.std.specs.Cmp.Lexicographic.{bytes_decides}
@@ -161,3 +161,11 @@ all_put base mid disk held o p holds read first time second =
 -- what is read after the opening is what was read before it
 pub read_before : (base disk : DiskState) (o : Option Observation) → effective (reads disk) ≡ effective (reads base) → Stands (reads disk) o → Stands (reads base) o
 read_before base disk o same stands = by_files (reads disk) (reads base) o same stands
+
+-- a call that changes no file
+pub same_files : (base disk : DiskState) → GoesOn IsSame base disk → effective (reads disk) ≡ effective (reads base)
+same_files base disk goes = ap effective (goes.reads_since disk.moment goes.time.later (omega arith))
+
+-- and then one that changes state files
+pub others_then : (a b c : Option Image) → b ≡ a → OthersSame b c → OthersSame a c
+others_then a b c same others = subst (λ (o : Option Image). OthersSame o c) same others

@@ -1,5 +1,5 @@
 // What is put and what is said of a command, made ready before anything is changed.
-ghost use Rattle.std.specs.Prelude.{◌≡◌, ◌≤◌, true, Option, Some, IfOk, IfErr, option_copied};
+ghost use Rattle.std.specs.Prelude.{◌≡◌, ◌≤◌, true, Option, Some, None, IfOk, IfErr, option_copied};
 ghost use Rattle.ae_outside.specs.Causes.{HasRisen};
 ghost use Rattle.ae_outside.specs.Image.{IsSame};
 ghost use Rattle.ae_outside.specs.State.{reads, GoesOn};
@@ -66,6 +66,44 @@ fn prepare(
     Ok(Plan { batch, reply })
 }
 
+// The answer to the command with this view, where a project stands.
+fn answer_on(
+    alloc: Global,
+    state: &State,
+    command: &Command,
+    who: &User,
+    now: u64,
+    view: &View,
+) -> Result<Verdict, AllocError>
+    requires formed { IsFormed command.now }
+    requires there { is_there_yet command.now.function ≡ true }
+    requires moment { now ≤ 4102444799 }
+    ensures is { IfOk result (λ answer. IsAnswer (Some state.now) (occasion_of command.now who.now now view.now) answer) }
+    ensures follow { IfOk result (λ answer. IfAccepted answer (MayFollow (Some state.now))) }
+    ensures made { IfOk result (λ answer. IfAccepted answer AreMade) }
+{
+    let _project = state.project();
+    decide(alloc, Some(state), command, who, now, view)
+}
+
+// The same, where none stands.
+fn first_answer(
+    alloc: Global,
+    command: &Command,
+    who: &User,
+    now: u64,
+    view: &View,
+) -> Result<Verdict, AllocError>
+    requires formed { IsFormed command.now }
+    requires there { is_there_yet command.now.function ≡ true }
+    requires moment { now ≤ 4102444799 }
+    ensures is { IfOk result (λ answer. IsAnswer None (occasion_of command.now who.now now view.now) answer) }
+    ensures follow { IfOk result (λ answer. IfAccepted answer (MayFollow None)) }
+    ensures made { IfOk result (λ answer. IfAccepted answer AreMade) }
+{
+    decide(alloc, None, command, who, now, view)
+}
+
 // The answer to the command with this view.
 fn answer(
     alloc: Global,
@@ -82,7 +120,10 @@ fn answer(
     ensures follow { IfOk result (λ answer. IfAccepted answer (MayFollow (option_copied old.entry))) }
     ensures made { IfOk result (λ answer. IfAccepted answer AreMade) }
 {
-    decide(alloc, old, command, who, now, view)
+    match old {
+        Some(state) => answer_on(alloc, state, command, who, now, view),
+        None => first_answer(alloc, command, who, now, view),
+    }
 }
 
 // What is put and said of the command, where this stands.
