@@ -112,8 +112,8 @@ step_made (Err error) old events next is pieces entries stands = tt
 
 -- an observation that files stand for keeps the rules
 sound-for : (files : Image) (o : Option Observation) → StandsFor files o → IfSome o Sound
-sound-for files None stands = tt
-sound-for files (Some o) (records o are sound) = sound
+sound-for files _ (nothing is) = tt
+sound-for files _ (records o are sound) = sound
 
 sound-of : (a : Option Image) (o : Option Observation) → IsSomeAnd a (λ files. StandsFor files o) → IfSome o Sound
 sound-of (Some files) o stands = sound-for files o stands
@@ -129,7 +129,7 @@ follow-nothing log occasion events next none (inl empty) accepted follows =
     let first = first-follow (version_bytes []) occasion events (subst (λ (l : Log). verdict_after l occasion ≡ Accept events) empty accepted) in
     let started_is : started first.start.event ≡ next_of None events = sym (ap (λ (made : List Event). next_of None made) first.start.only) in
     ap (λ (l : Log). observation (followed l events)) empty ∙ (first.stands ∙ (started_is ∙ follows))
-follow-nothing log occasion events next none (inr there) accepted follows = absurd (let both : is_some {Observation} None ≡ true = subst (λ (x : Option Observation). is_some x ≡ true) none there in cc)
+follow-nothing log occasion events next none (inr there) accepted follows = absurd (let both : true ≡ false = sym there ∙ ap (λ (x : Option Observation). is_some x) none in cc)
 
 follow-by : (x : Option Observation) (log : Log) (occasion : Occasion) (events : List Event) (next : Observation) → observation log ≡ x → IfSome x Sound → Legal log → IsDecided occasion
     → verdict_after log occasion ≡ Accept events → next_of x events ≡ Some next → observation (followed log events) ≡ Some next

@@ -13,7 +13,7 @@ use Rattle.ae_log.specs.declared.event.Event.{Event}
 use Rattle.ae_log.specs.declared.event.EventKind.{EventKind}
 use Rattle.ae_log.specs.declared.event.EventKind.TheVariants as on
 use Rattle.ae_log.specs.Applied.{IsApplied}
-use Rattle.ae_log.specs.Applies.{Applies, AppliesBy, AppliesTo, IsProject}
+use Rattle.ae_log.specs.Applies.{Applies, AppliesBy, Suits, IsProject}
 use Rattle.ae_machine.specs.Call.{Given}
 use Rattle.ae_machine.specs.There.{is_there_yet}
 use Rattle.ae_machine.specs.Verdict.{kinds_of}
@@ -50,13 +50,13 @@ project-made on.IPass is = absurd is
 project-made on.IFail is = absurd is
 
 -- no project is made of a change
-none-of-change : (x : Option Change) {Q : Change → Type 0} {P : Type 0} → IsSomeAnd x (λ (change : Change). (false ≡ true) × Q change) → P
-none-of-change (Some change) is = never is.0
-none-of-change None is = absurd is
+none-of-change : (o : Observation) (kind : EventKind) (P : Type 0) (x : Option Change) → IsSomeAnd x (λ (change : Change). (false ≡ true) × Suits o change kind) → P
+none-of-change o kind P (Some change) is = never is.0
+none-of-change o kind P None is = absurd is
 
 applied-by : (o : Observation) (change : Option ℕ) (kind : EventKind) → AppliesBy o change kind → is_made kind ≡ true → IsApplied kind
 applied-by o None (on.Project name attributes) comes is = absurd comes
-applied-by o (Some number) (on.Project name attributes) comes is = none-of-change (change_at o number) comes
+applied-by o (Some number) (on.Project name attributes) comes is = none-of-change o (on.Project name attributes) _ (change_at o number) comes
 applied-by o change (on.Attributes attributes) comes is = tt
 applied-by o change (on.RoleAdd role user) comes is = tt
 applied-by o change (on.RoleDrop role user) comes is = tt

@@ -17,7 +17,7 @@ pub returns-clause-follow : goal.returns-clause-follow
 returns-clause-follow c =
     let occasion : Occasion = occasion_of c.args.command.now c.args.who.now c.args.now c.args.view.now in
     let is : IsDecided occasion = record { formed = c.requires.formed; moment = c.requires.moment; there = c.requires.there } in
-    if_ok _ _ c.decide.result (returns-clause-is c) (λ v answers. may-follow (Some c.args.state.now) occasion v c.project.ensures.sound is answers)
+    if_ok _ _ c.decide.result (returns-clause-is c) (λ v answers. may-follow (Some c.args.state.now) occasion v c.project-project.ensures.sound is answers)
 
 pub returns-clause-made : goal.returns-clause-made
 returns-clause-made c =
