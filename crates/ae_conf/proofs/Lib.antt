@@ -2,4 +2,3 @@ pub mod Members
 pub mod Options
 pub mod Places
 pub mod Texts
-pub mod Answering

@@ -17,10 +17,12 @@ abbrev pub word_in : {A : Type 0} → (A → List ℕ) → List A → Node → O
 word_in word_of all (word w) = find (λ x. bytes_eq (word_of x) w) all
 word_in word_of all _ = None
 
+-- how a flag is written
 abbrev pub flag_word : Bool → List ℕ
 flag_word true = codes "true"
 flag_word false = codes "false"
 
+-- both flags
 abbrev pub flags : List Bool
 flags = true ∷ false ∷ []
 
@@ -28,10 +30,12 @@ flags = true ∷ false ∷ []
 abbrev pub flag_in : Node → Option Bool
 flag_in = word_in flag_word flags
 
+-- the word of what follows the end of development
 abbrev pub end_action_word : EndAction → List ℕ
 end_action_word BeingReviewed = codes "goto_being_reviewed"
 end_action_word AwaitingReview = codes "goto_awaiting_review"
 
+-- both of these
 abbrev pub end_actions : List EndAction
 end_actions = BeingReviewed ∷ AwaitingReview ∷ []
 

@@ -33,3 +33,4 @@ pub mod SoundEnd
 pub mod Keeping
 pub mod InPlace
 pub mod AppliedSteps
+pub mod TreesStand

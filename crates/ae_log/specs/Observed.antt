@@ -14,12 +14,13 @@ use Rattle.ae_types.specs.declared.file_table.Lock.{Lock}
 use Rattle.ae_types.specs.declared.version.VersionRef.{VersionRef}
 use Rattle.ae_types.specs.Observation.{Observation}
 use Rattle.ae_types.specs.Phases.{holds_locks}
+use Rattle.ae_types.specs.Trees.{TreeRow}
 use Rattle.ae_log.specs.Log.{Log, Course, course}
 use Rattle.ae_log.specs.Phases.{phase_of, history}
 use Rattle.ae_log.specs.People.{developer, reviewing, reviewer, integrator}
 use Rattle.ae_log.specs.Settings.{project_name, attributes, role_users, change_attributes, change_numbers, numbers}
 use Rattle.ae_log.specs.Files.{FileFact, file, paths, course_paths, ref_of, next_version, frozen, frozen_file, version_of}
-use Rattle.ae_log.specs.Baseline.{deltas, Entry, past, locked}
+use Rattle.ae_log.specs.Baseline.{deltas, Entry, past, TreeFile, locked}
 use Rattle.ae_log.specs.Runs.{evidence}
 
 -- ---- a change
@@ -98,3 +99,7 @@ observation_with log attributes = record {
 -- what stands after a log, but for the bytes of the versions; nothing before the project is made
 abbrev pub observation : Log → Option Observation
 observation log = option_map (observation_with log) (attributes log)
+
+-- a file at a delta, as the records have it
+abbrev pub tree_row_of : TreeFile → TreeRow
+tree_row_of file = record { path = file.path; usage = file.usage; version = ref_of file.version }

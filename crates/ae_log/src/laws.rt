@@ -1,5 +1,5 @@
 // What holds of one more event.
-ghost use Rattle.ae_log.specs.Laws.{Begins, BeginsSound, Follows, KeepsRules, MayBeApplied};
+ghost use Rattle.ae_log.specs.Laws.{Begins, BeginsSound, Follows, KeepsRules, MayBeApplied, TreesStand};
 
 /// What stands after the first event is the project that it makes.
 pub fn first_event_follows()
@@ -24,4 +24,9 @@ pub fn rules_kept()
 /// So an event that may come may be applied.
 pub fn event_may_be_applied()
     ensures { MayBeApplied }
+{}
+
+/// The files at a delta, of what stands after a log, are those of the log.
+pub fn trees_stand()
+    ensures { TreesStand }
 {}

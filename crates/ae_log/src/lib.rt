@@ -11,7 +11,7 @@ mod roles;
 pub use event::{Event, EventKind, EventList, PlaceList, RunEvent};
 pub use laws::{
     event_may_be_applied, first_event_follows, first_event_is_sound, observation_follows,
-    rules_kept,
+    rules_kept, trees_stand,
 };
 pub use new_state::start;
 pub use next_state::apply;

@@ -1,5 +1,5 @@
 -- The verdict, by what the conditions without reading answer.
-use Rattle.std.proofs.Common.{◌≡◌, ℕ, Bool, true, false, if◌then◌else◌, List, Option, Some, None, refl}
+use Rattle.std.proofs.Common.{◌≡◌, ℕ, Bool, true, false, if◌then◌else◌, List, Option, Some, None}
 use Rattle.std.specs.Option.{option_or}
 use Rattle.ae_base.specs.declared.refusal.Refusal.{Refusal}
 use Rattle.ae_base.specs.declared.refusal.Refusal.TheVariants.{NoProject, ProjectExists}
@@ -23,25 +23,3 @@ refused-is places (Some o) bytes command who when view refusal h = go (is_new_pr
   go true r e = cc
   go false None e = absurd cc
   go false (Some other) e = cc
-
--- where they let a new project pass
-pub new-is : (places : Placing) (bytes : ℕ → List ℕ) (command : Command) (who : List ℕ) (when : ℕ) (view : View)
-    → refused_before None command who ≡ None → (is_new_project command.function ≡ true) × (new_project command who when view ≡ verdict places None bytes command who when view)
-new-is places bytes command who when view h = go (is_new_project command.function) h where
-  go : (b : Bool) → (if b then None else Some NoProject) ≡ None → (b ≡ true) × (new_project command who when view ≡ (if b then new_project command who when view else Refuse NoProject))
-  go true e = (refl, refl)
-  go false e = absurd cc
-
--- where they let a command to a project pass
-pub behind-is : (places : Placing) (o : Observation) (bytes : ℕ → List ℕ) (command : Command) (who : List ℕ) (when : ℕ) (view : View)
-    → refused_before (Some o) command who ≡ None
-    → (is_new_project command.function ≡ false)
-    × (answer (first_of (asked_of_sight command.function) (given_of places o bytes command who when view)) (events_of (given_of places o bytes command who when view)) ≡ verdict places (Some o) bytes command who when view)
-behind-is places o bytes command who when view h = go (is_new_project command.function) (refusal_before (call_of o command who)) h where
-  go : (b : Bool) (r : Option Refusal) → (if b then Some ProjectExists else r) ≡ None
-      → (b ≡ false)
-      × (answer (first_of (asked_of_sight command.function) (given_of places o bytes command who when view)) (events_of (given_of places o bytes command who when view))
-      ≡ (if b then Refuse ProjectExists else answer (option_or r (first_of (asked_of_sight command.function) (given_of places o bytes command who when view))) (events_of (given_of places o bytes command who when view))))
-  go true r e = absurd cc
-  go false None e = (refl, refl)
-  go false (Some other) e = absurd cc

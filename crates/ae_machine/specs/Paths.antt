@@ -1,5 +1,5 @@
 -- The files that a command adds to its change or takes away, path by path, each as if those before it were done.
-use Rattle.std.specs.Prelude.{ℕ, Bool, false, ◌&&◌, ◌||◌, not, List, [], ◌∷◌, map, Option, Some, None, if◌then◌else◌, is_some, length, nat_le, filter, find}
+use Rattle.std.specs.Prelude.{ℕ, Bool, false, ◌&&◌, ◌||◌, not, List, [], ◌∷◌, Option, Some, None, if◌then◌else◌, is_some, length, nat_le, filter, find}
 use Rattle.std.specs.List.{list_any}
 use Rattle.std.specs.Option.{is_none, option_map, option_or}
 use Rattle.ae_base.specs.declared.words.Action.TheVariants as action
@@ -12,7 +12,7 @@ use Rattle.ae_types.specs.declared.change.Change.{Change}
 use Rattle.ae_types.specs.declared.change.ChangeFile.{ChangeFile}
 use Rattle.ae_types.specs.declared.file_table.FileVersion.{FileVersion}
 use Rattle.ae_types.specs.Clashes.{folders_of, has_path}
-use Rattle.ae_types.specs.Found.{file_path, file_in, there_and, if_there}
+use Rattle.ae_types.specs.Found.{file_in, there_and, if_there}
 use Rattle.ae_types.specs.Observation.{Observation}
 use Rattle.ae_types.specs.Ordered.{put_by, itself}
 use Rattle.ae_types.specs.Phases.{is_create, is_modify, is_remove, is_test}
@@ -25,6 +25,7 @@ use Rattle.ae_words.specs.declared.table.Function.{Function}
 use Rattle.ae_words.specs.declared.table.Function.TheVariants as function
 use Rattle.ae_machine.specs.Call.{Call, Condition, unless, on_change}
 use Rattle.ae_machine.specs.Permission.{within}
+pub use Rattle.ae_machine.specs.Sight.{kept}
 use Rattle.ae_machine.specs.Sight.{row_at}
 
 -- ---- what the project has
@@ -89,10 +90,6 @@ path_event call path = kind_made path (file_made call.command.function call path
 abbrev pub with_paths : List (List ℕ) → List (List ℕ) → List (List ℕ)
 with_paths [] paths = paths
 with_paths (path ∷ more) paths = put_by text_cmp itself path (with_paths more paths)
-
--- the paths of files that aren't removed
-abbrev pub kept : List ChangeFile → List (List ℕ)
-kept files = map file_path (filter (λ (file : ChangeFile). not (is_remove file.action)) files)
 
 -- the paths that the project would have with these files of a change: the baseline's that aren't among them, and those that
 -- they don't remove, ascending

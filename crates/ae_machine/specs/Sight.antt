@@ -30,9 +30,13 @@ config_path = codes "aegis.conf"
 
 -- ---- what is read
 
--- the paths of the change's files but for those that it removes
+-- the paths of files that aren't removed
+abbrev pub kept : List ChangeFile → List (List ℕ)
+kept files = map file_path (filter (λ (file : ChangeFile). not (is_remove file.action)) files)
+
+-- those of the change's files
 abbrev pub kept_paths : Change → List (List ℕ)
-kept_paths change = map file_path (filter (λ (file : ChangeFile). not (is_remove file.action)) change.files)
+kept_paths change = kept change.files
 
 -- the paths whose files are read: those that the change keeps, and in integration those of its candidate
 abbrev pub paths_read : Call → Change → List (List ℕ)
