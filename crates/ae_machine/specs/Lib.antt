@@ -16,3 +16,4 @@ pub mod Same
 pub mod Replies
 pub mod Laws
 pub mod There
+pub mod Accepted

@@ -13,7 +13,9 @@ mod verdict;
 mod view;
 
 pub use deciding::decide;
-pub use laws::note_refused_before;
+pub use laws::{
+    accepted_events_apply, accepted_events_follow, legal_logs_are_sound, note_refused_before,
+};
 pub use refusing::before;
 pub use there::is_there_yet;
 pub use verdict::Verdict;
