@@ -12,3 +12,6 @@ mod stop;
 
 pub use performing::{Performed, perform};
 
+
+#[cfg(test)]
+mod tests;

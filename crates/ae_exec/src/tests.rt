@@ -1,8 +1,12 @@
 // Commands are performed, one after another.
+ghost use Rattle.std.specs.Prelude.{IfOk, IfSome};
+ghost use Rattle.ae_words.specs.Formed.{IsFormed};
+
 use super::*;
 use ae_base::{Path, Text, User};
-use ae_outside::{Dir, Disk, Failed, MemDisk, MemRunList, MemSite, Site};
-use ae_words::{Command, Function, WordsError, read_words};
+use ae_machine::is_there_yet;
+use ae_outside::{Dir, Disk, MemDisk, MemRunList, MemSite, Site};
+use ae_words::{Command, WordsError, read_words};
 use std::alloc::{AllocError, Global};
 use std::process::Abort;
 use std::test::Fail;
@@ -73,5 +77,62 @@ fn is_told(
     };
     assert_eq!(rt; said.bytes(), reply);
     assert_eq!(rt; got, status);
+    Ok(())
+}
+
+// A file of the caller's directory.
+fn write_here(alloc: Global, site: &mut MemSite, name: &[u8], bytes: &[u8]) -> Result<bool, AllocError> {
+    let Some(path) = Path::read(alloc, name)? else {
+        return Ok(false);
+    };
+    Ok(site.write(Dir::Here, &path, bytes).is_ok())
+}
+
+static ATTRIBUTES: &[u8] = b"brief_description = \"first\"; cause = internal_enhancement;";
+
+#[test]
+fn each_command_stands_on_those_before_it(rt: HostRuntime) -> Result<(), Fail> {
+    let alloc = rt.alloc();
+    let mut world = make_world(alloc, &[])?;
+    let made = b"aegis: project \"demo\": created\n";
+    is_told(&rt, alloc, &mut world, "-npr demo", 0, made)?;
+    let again = b"";
+    is_told(&rt, alloc, &mut world, "-npr demo", 1, again)?;
+    let added = b"aegis: project \"demo\": developer \"bob\" added\naegis: project \"demo\": developer \"eve\" added\n";
+    is_told(&rt, alloc, &mut world, "-nd bob eve", 0, added)?;
+    assert!(rt; write_here(alloc, &mut world.site, b"c.attr", ATTRIBUTES)?);
+    let change = b"aegis: project \"demo\": change 10: created\n";
+    is_told(&rt, alloc, &mut world, "-nc -f c.attr", 0, change)?;
+    Ok(())
+}
+
+#[test]
+fn a_directory_that_fails_is_a_fault(rt: HostRuntime) -> Result<(), Fail> {
+    let alloc = rt.alloc();
+    let mut world = make_world(alloc, &[1])?;
+    let made = b"aegis: project \"demo\": created\n";
+    is_told(&rt, alloc, &mut world, "-npr demo", 0, made)?;
+    is_told(&rt, alloc, &mut world, "-nc -f c.attr", 4, b"")?;
+    Ok(())
+}
+
+#[test]
+fn a_refused_command_leaves_the_disk(rt: HostRuntime) -> Result<(), Fail> {
+    let alloc = rt.alloc();
+    let mut world = make_world(alloc, &[])?;
+    is_told(&rt, alloc, &mut world, "-nd bob", 1, b"")?;
+    assert_eq!(rt; world.disk.read_at(alloc, "project", 0, 1000)?.len(), 0);
+    Ok(())
+}
+
+#[test]
+fn the_status_stands_behind_the_reply(rt: HostRuntime) -> Result<(), Fail> {
+    let alloc = rt.alloc();
+    let mut world = make_world(alloc, &[])?;
+    let Some((_, said)) = performed(alloc, &mut world, "-npr demo", true)? else {
+        assert!(rt; false);
+        return Ok(());
+    };
+    assert_eq!(rt; said.bytes(), b"aegis: project \"demo\": created\n= 0\n".as_slice());
     Ok(())
 }
