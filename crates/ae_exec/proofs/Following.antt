@@ -21,14 +21,18 @@ use Rattle.ae_log.specs.Observed.{observation}
 use Rattle.ae_machine.specs.declared.verdict.Verdict.{Verdict}
 use Rattle.ae_machine.specs.declared.verdict.Verdict.TheVariants.{Accept, Refuse}
 use Rattle.ae_machine.specs.Accepted.{AppliesAll, AreStart, IsDecided, decided}
-use Rattle.ae_machine.specs.Call.{Given, given_of}
+use Rattle.ae_machine.specs.Call.{Given, given_of, first_of}
 use Rattle.ae_machine.specs.Legal.{Legal, Occasion, verdict_after}
 use Rattle.ae_machine.specs.Space.{placing}
 use Rattle.ae_machine.specs.There.{is_there_yet}
-use Rattle.ae_machine.specs.Verdict.{verdict, verdict_on, answer, refusal, events_of, event_of, kinds_of, is_new_project, change_of_events}
+use Rattle.std.specs.Option.{option_or}
+use Rattle.ae_base.specs.declared.refusal.Refusal.TheVariants.{NoProject, ProjectExists}
+use Rattle.ae_words.specs.declared.command.Command.{Command}
+use Rattle.ae_machine.specs.declared.view.View.{View}
+use Rattle.ae_machine.specs.Verdict.{verdict_on, answer, refusal, refusal_before, refused_before, asked_of_sight, new_project, events_of, event_of, kinds_of, is_new_project, change_of_events}
 use Rattle.ae_exec.specs.Next.{next_of, MayBegin, MayFollow, AreMade, IfAccepted, IsComplete}
 use Rattle.ae_exec.specs.Plan.{IsPlanned, IsStep}
-use Rattle.ae_exec.specs.Seen.{IsAnswer}
+use Rattle.ae_exec.specs.Seen.{IsAnswer, occasion_of}
 use Rattle.ae_exec.specs.Said.{is_made}
 use Rattle.ae_exec.proofs.Accepting.{accepted-apply, accepted-starts, accepted-follow, first-follow, legal-stands}
 use Rattle.ae_exec.proofs.MadeKinds.{Made, project-made, kinds-made}
@@ -77,7 +81,26 @@ all-made (Some o) occasion (Accept events) is answers =
     (events-made given is.there)
 all-made o occasion (Refuse refusal) is answers = tt
 
+-- ---- the refusal that comes before reading
+
+first_on : (b : Bool) (given : Given) (refusal : Refusal) → (if b then Some ProjectExists else refusal_before given.call) ≡ Some refusal → (if b then Refuse ProjectExists else verdict_on given) ≡ Refuse refusal
+first_on true given refusal is = cc
+first_on false given refusal is = ap (λ (why : Option Refusal). answer (option_or why (first_of (asked_of_sight given.call.command.function) given)) (events_of given)) is
+
+first_on_none : (b : Bool) (v : Verdict) (refusal : Refusal) → (if b then None else Some NoProject) ≡ Some refusal → (if b then v else Refuse NoProject) ≡ Refuse refusal
+first_on_none true v refusal is = cc
+first_on_none false v refusal is = cc
+
+pub refused_first : (o : Option Observation) (occasion : Occasion) (refusal : Refusal) → refused_before o occasion.command occasion.who ≡ Some refusal → IsAnswer o occasion (Refuse refusal)
+refused_first None occasion refusal is bytes = first_on_none (is_new_project occasion.command.function) (new_project occasion.command occasion.who occasion.when occasion.view) refusal is
+refused_first (Some o) occasion refusal is bytes = first_on (is_new_project occasion.command.function) (given_of placing o bytes occasion.command occasion.who occasion.when occasion.view) refusal is
+
 -- ---- from the answers of calls
+
+-- the answer with an equal view
+pub same_answer : (o : Option Observation) (command : Command) (who : List ℕ) (when : ℕ) (view other : View) (v w : Verdict) → view ≡ other → v ≡ w → IsAnswer o (occasion_of command who when view) v → IsAnswer o (occasion_of command who when other) w
+same_answer o command who when view other v w same_view same_v answers =
+    subst (λ (x : Verdict). IsAnswer o (occasion_of command who when other) x) same_v (subst (λ (x : View). IsAnswer o (occasion_of command who when x) v) same_view answers)
 
 pub if_answered : {E : Type 0} (result : Result Verdict E) (f : (ℕ → List ℕ) → Verdict) → ((bytes : ℕ → List ℕ) → IfOk result (λ v. v ≡ f bytes)) → IfOk result (λ v. (bytes : ℕ → List ℕ) → f bytes ≡ v)
 if_answered (Ok v) f is = λ bytes. sym (is bytes)

@@ -9,3 +9,4 @@ pub mod Following
 pub mod Endings
 pub mod Attempting
 pub mod Lines
+pub mod Legally

@@ -5,3 +5,4 @@ pub mod Next
 pub mod Stopping
 pub mod Endings
 pub mod Plan
+pub mod Legally
