@@ -42,21 +42,22 @@ start-by false c who when view why events unless e = unless events e
 pub accepted-starts : AcceptedStarts
 accepted-starts bytes occasion events e = start-by (is_new_project occasion.command.function) occasion.command occasion.who occasion.when occasion.view _ events (λ other refused. cc) e
 
--- what is there, with what holds of it
-there-with : {A : Type 0} (P : A → Type 0) (x : Option A) → IsSomeAnd x P → IsSome x × IfSome x P
-there-with P (Some a) h = (refl, h)
-there-with P None h = absurd h
+is-there : {A : Type 0} (P : A → Type 0) (x : Option A) → IsSomeAnd x P → IsSome x
+is-there P (Some a) h = refl
+is-there P None h = absurd h
+
+if-there : {A : Type 0} (P : A → Type 0) (x : Option A) → IsSomeAnd x P → IfSome x P
+if-there P (Some a) h = h
+if-there P None h = absurd h
 
 pub first-follow : FirstFollow
 first-follow bytes occasion events e =
     let start = accepted-starts bytes occasion events e in
     let stands : observation (followed [] events) ≡ started start.event = ap (λ (made : List Event). observation (followed [] made)) start.only ∙ begins start.event start.starts in
-    let both = there-with Sound (started start.event) (begins-sound start.event start.starts) in
     record {
       start = start;
       stands = stands;
-      there = subst (λ (x : Option Observation). IsSome x) (sym stands) both.0;
-      sound = subst (λ (x : Option Observation). IfSome x Sound) (sym stands) both.1;
+      sound = subst (λ (x : Option Observation). IsSomeAnd x Sound) (sym stands) (begins-sound start.event start.starts);
     }
 
 -- ---- every other command
@@ -97,7 +98,7 @@ legal-stands log (more before next occasion events legal may accepted is) = go (
     go : (before ≡ []) ⊎ IsSome (observation before) → (next ≡ []) ⊎ IsSome (observation next)
     go (inl empty) =
         let first = first-follow (version_bytes []) occasion events (subst (λ (l : Log). verdict_after l occasion ≡ Accept events) empty accepted) in
-        inr (subst (λ (l : Log). IsSome (observation l)) (sym (is ∙ ap (λ (l : Log). followed l events) empty)) first.there)
+        inr (subst (λ (l : Log). IsSome (observation l)) (sym (is ∙ ap (λ (l : Log). followed l events) empty)) (is-there Sound (observation (followed [] events)) first.sound))
     go (inr there) = inr (subst (λ (l : Log). IsSome (observation l)) (sym is) (stands-stays before events there))
 
 sound-by : (log : Log) (legal : Legal log) → AreDecided log legal → IfSome (observation log) Sound
@@ -107,7 +108,7 @@ sound-by log (more before next occasion events legal may accepted is) d = subst 
     empty-first : before ≡ [] → IfSome (observation (followed before events)) Sound
     empty-first empty =
         let first = first-follow (version_bytes []) occasion events (subst (λ (l : Log). verdict_after l occasion ≡ Accept events) empty accepted) in
-        subst (λ (l : Log). IfSome (observation (followed l events)) Sound) (sym empty) first.sound
+        subst (λ (l : Log). IfSome (observation (followed l events)) Sound) (sym empty) (if-there Sound (observation (followed [] events)) first.sound)
 
     go : (x : Option Observation) → observation before ≡ x → IfSome x Sound → (before ≡ []) ⊎ IsSome (observation before) → IfSome (observation (followed before events)) Sound
     go (Some o) e s stands =

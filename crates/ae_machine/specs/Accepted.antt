@@ -1,5 +1,5 @@
 -- The events of an accepted command apply, and legal logs keep the rules of the records.
-use Rattle.std.specs.Prelude.{◌≡◌, ℕ, ◌⊎◌, true, List, [], ◌∷◌, Option, Some, None, IsSome, IfSome}
+use Rattle.std.specs.Prelude.{◌≡◌, ℕ, ◌⊎◌, true, List, [], ◌∷◌, Option, Some, None, IsSome, IfSome, IsSomeAnd}
 use Rattle.ae_types.specs.Observation.{Observation}
 use Rattle.ae_types.specs.Rules.{blamed}
 use Rattle.ae_types.specs.Sound.{Sound, IsMoment}
@@ -62,8 +62,7 @@ AcceptedFollow = (log : Log) (o : Observation) (bytes : ℕ → List ℕ) (occas
 pub record FollowFirst (events : List Event) : Type 0 where
   pub start : AreStart events
   pub stands : observation (followed [] events) ≡ started start.event
-  pub there : IsSome (observation (followed [] events))
-  pub sound : IfSome (observation (followed [] events)) Sound
+  pub sound : IsSomeAnd (observation (followed [] events)) Sound
 
 abbrev pub FirstFollow : Type 0
 FirstFollow = (bytes : ℕ → List ℕ) (occasion : Occasion) (events : List Event) → decided None bytes occasion ≡ Accept events → FollowFirst events
