@@ -1,20 +1,30 @@
 -- How a call ends, once its message was told or not.
-use Rattle.std.proofs.Common.{◌≡◌, ◌≢◌, ◌⊎◌, inl, inr, ℕ, List, Some, refl, sym, ◌∙◌, subst}
+use Rattle.std.proofs.Common.{◌≡◌, ◌≢◌, ◌⊎◌, inl, inr, ℕ, List, ◌++◌, Option, refl, sym, ◌∙◌, subst}
 use Rattle.ae_base.specs.declared.outcome.Outcome.{Outcome}
 use Rattle.ae_base.specs.declared.outcome.Outcome.TheVariants.{Done, RunFailed, Refused, BadWords, BadScript, DiskFault, SiteFault, SinkFault, SourceFault, Damaged, Memory}
+use Rattle.std.proofs.lemmas.List.Elements.{Contains-append_left}
 use Rattle.ae_outside.specs.Image.{Image}
+use Rattle.ae_outside.specs.State.{DiskState}
 use Rattle.ae_types.specs.Observation.{Observation}
+use Rattle.ae_vault.specs.Kept.{Holds}
+use Rattle.ae_log.specs.declared.event.Event.{Event}
+use Rattle.ae_log.specs.Log.{Log}
+use Rattle.ae_log.specs.Observed.{observation}
+use Rattle.ae_machine.specs.declared.verdict.Verdict.{Verdict}
+use Rattle.ae_machine.specs.declared.verdict.Verdict.TheVariants.{Accept, Refuse}
+use Rattle.ae_machine.specs.Legal.{Occasion, verdict_after}
 use Rattle.ae_store.specs.Records.{Stands}
-use Rattle.ae_session.specs.Answers.{EndsAs, bad_words, exists, created, damaged, disk_fault, sink_fault, memory, unless_told, IsMessage, ChangesNothing}
+use Rattle.ae_exec.specs.Endings as performed
+use Rattle.ae_exec.specs.Stops.{Leaves}
+use Rattle.ae_exec.proofs.Leaving.{leaves_more, leaves_still}
+use Rattle.ae_exec.proofs.Stores.{by_files, one}
+use Rattle.ae_session.specs.Answers.{EndsAs, bad_words, performs_so, sink_fault, memory, Performs, MayEnd, ChangesNothing, unless_told, IsMessage}
 
-pub ends_on : (bad : ℕ → Type 0) (asks told : Type 0) (image : Image) (disk_rose rose : Type 0) (o : Outcome) → EndsAs bad asks told image disk_rose ⊥ o → EndsAs bad asks told image disk_rose rose o
-ends_on bad asks told image disk_rose rose _ (bad_words place is) = bad_words place is
-ends_on bad asks told image disk_rose rose _ (exists asked there) = exists asked there
-ends_on bad asks told image disk_rose rose _ (created asked absent) = created asked absent
-ends_on bad asks told image disk_rose rose _ (damaged name asked is) = damaged name asked is
-ends_on bad asks told image disk_rose rose _ (disk_fault asked risen) = disk_fault asked risen
-ends_on bad asks told image disk_rose rose _ (sink_fault no_rise) = absurd no_rise
-ends_on bad asks told image disk_rose rose _ memory = memory
+pub ends_on : (bad : ℕ → Type 0) (performs : Outcome → Type 0) (rose : Type 0) (o : Outcome) → EndsAs bad performs ⊥ o → EndsAs bad performs rose o
+ends_on bad performs rose _ (bad_words place is) = bad_words place is
+ends_on bad performs rose _ (performs_so outcome is) = performs_so outcome is
+ends_on bad performs rose _ (sink_fault no_rise) = absurd no_rise
+ends_on bad performs rose _ memory = memory
 
 -- an outcome that isn't told is a sink's fault, or stays
 pub untold_is : (o : Outcome) → (unless_told o ≡ o) ⊎ (unless_told o ≡ SinkFault)
@@ -36,52 +46,109 @@ told_is o r rose told = elim told [
   | inr untold ↦ elim (untold_is o) [ inl stays ↦ inl (untold.0 ∙ stays) | inr fault ↦ inr (untold.0 ∙ fault, untold.1) ]
 ]
 
-pub ends_told : (bad : ℕ → Type 0) (asks told : Type 0) (image : Image) (disk_rose rose : Type 0) (o r : Outcome) → EndsAs bad asks told image disk_rose ⊥ o → (r ≡ o) ⊎ ((r ≡ unless_told o) × rose) → EndsAs bad asks told image disk_rose rose r
-ends_told bad asks told image disk_rose rose o r ends how = elim (told_is o r rose how) [
-  | inl is ↦ subst (λ (x : Outcome). EndsAs bad asks told image disk_rose rose x) (sym is) (ends_on bad asks told image disk_rose rose o ends)
-  | inr fault ↦ subst (λ (x : Outcome). EndsAs bad asks told image disk_rose rose x) (sym fault.0) (sink_fault fault.1)
+pub ends_told : (bad : ℕ → Type 0) (performs : Outcome → Type 0) (rose : Type 0) (o r : Outcome) → EndsAs bad performs ⊥ o → (r ≡ o) ⊎ ((r ≡ unless_told o) × rose) → EndsAs bad performs rose r
+ends_told bad performs rose o r ends how = elim (told_is o r rose how) [
+  | inl is ↦ subst (λ (x : Outcome). EndsAs bad performs rose x) (sym is) (ends_on bad performs rose o ends)
+  | inr fault ↦ subst (λ (x : Outcome). EndsAs bad performs rose x) (sym fault.0) (sink_fault fault.1)
 ]
 
 -- an outcome that is neither a sink's fault nor changed by one
 pub told_same : (o r : Outcome) (rose : Type 0) → r ≢ SinkFault → (r ≡ o) ⊎ ((r ≡ unless_told o) × rose) → o ≡ r
 told_same o r rose other told = elim (told_is o r rose told) [ inl is ↦ sym is | inr fault ↦ absurd (other fault.0) ]
 
--- after a sink's fault, where the words are good and there was no project, it was made
-pub meant_done : (bad : ℕ → Type 0) (asks told : Type 0) (image : Image) (disk_rose rose : Type 0) (o r : Outcome) → EndsAs bad asks told image disk_rose ⊥ o → ((place : ℕ) → bad place → ⊥) → told
-    → ((p : Observation) → Stands image (Some p) → ⊥) → (r ≡ o) ⊎ ((r ≡ unless_told o) × rose) → r ≡ SinkFault → o ≡ Done
-meant_done bad asks told image disk_rose rose _ r (bad_words place is) good known none how fault = absurd (good place is)
-meant_done bad asks told image disk_rose rose _ r (exists is there) good known none how fault = absurd (let some = there known in none some.0 some.1)
-meant_done bad asks told image disk_rose rose _ r (created is was) good known none how fault = refl
-meant_done bad asks told image disk_rose rose _ r (damaged name is at) good known none how fault = absurd (elim how [ inl same ↦ cc | inr untold ↦ let same = untold.0 in cc ])
-meant_done bad asks told image disk_rose rose _ r (disk_fault is risen) good known none how fault = absurd (elim how [ inl same ↦ cc | inr untold ↦ let same = untold.0 in cc ])
-meant_done bad asks told image disk_rose rose _ r (sink_fault no_rise) good known none how fault = absurd no_rise
-meant_done bad asks told image disk_rose rose _ r memory good known none how fault = absurd (elim how [ inl same ↦ cc | inr untold ↦ let same = untold.0 in cc ])
-
--- what a request's call ends as, where the call asks for it
-pub ends_for : (bad : ℕ → Type 0) (asks told : Type 0) (image : Image) (disk_rose : Type 0) (o : Outcome) → asks → EndsAs (λ place. ⊥) (Unit {0}) told image disk_rose ⊥ o → EndsAs bad asks told image disk_rose ⊥ o
-ends_for bad asks told image disk_rose _ asked (bad_words place is) = absurd is
-ends_for bad asks told image disk_rose _ asked (exists good there) = exists asked there
-ends_for bad asks told image disk_rose _ asked (created good absent) = created asked absent
-ends_for bad asks told image disk_rose _ asked (damaged name good is) = damaged name asked is
-ends_for bad asks told image disk_rose _ asked (disk_fault good risen) = disk_fault asked risen
-ends_for bad asks told image disk_rose _ asked (sink_fault no_rise) = absurd no_rise
-ends_for bad asks told image disk_rose _ asked memory = memory
-
--- a message stays one where more projects may be meant
-pub message_on : (p q : List ℕ → Type 0) (o : Outcome) (text : List ℕ) → ((name : List ℕ) → p name → q name) → IsMessage p o text → IsMessage q o text
-message_on p q Done text more m = (m.0, more m.0 m.1, m.2)
-message_on p q (Refused refusal) text more m = m
-message_on p q (BadWords place) text more m = m
-message_on p q DiskFault text more m = m
-message_on p q Memory text more m = m
-message_on p q RunFailed text more m = m
-message_on p q (BadScript line) text more m = m
-message_on p q SiteFault text more m = m
-message_on p q SinkFault text more m = m
-message_on p q SourceFault text more m = m
-message_on p q (Damaged file) text more m = m
-
 -- a call that changes nothing meant to change nothing
 pub changed_nothing : (o r : Outcome) (rose : Type 0) → (r ≡ o) ⊎ ((r ≡ unless_told o) × rose) → ChangesNothing r → ChangesNothing o
 changed_nothing o r rose told nothing =
     subst ChangesNothing (sym (told_same o r rose (λ fault. subst ChangesNothing fault nothing) told)) nothing
+
+-- ---- what a command that is performed ends as
+
+-- where its message finds no memory
+pub performs_told : (tells settled shown : Type 0) (image : Image) (occasion : Occasion) (disk_rose site_rose : Type 0) (o r : Outcome) → Performs tells settled shown image occasion disk_rose site_rose o
+    → (r ≡ o) ⊎ ((r ≡ Memory) × ChangesNothing o) → Performs tells settled shown image occasion disk_rose site_rose r
+performs_told tells settled shown image occasion disk_rose site_rose o r ends how = elim how [
+  | inl is ↦ subst (λ (x : Outcome). Performs tells settled shown image occasion disk_rose site_rose x) (sym is) ends
+  | inr wanting ↦ subst (λ (x : Outcome). Performs tells settled shown image occasion disk_rose site_rose x) (sym wanting.0) performed.memory
+]
+
+pub done_told : (o r : Outcome) → (r ≡ o) ⊎ ((r ≡ Memory) × ChangesNothing o) → r ≡ Done → o ≡ Done
+done_told o r (inl is) done = sym is ∙ done
+done_told o r (inr wanting) done = absurd (let both : Memory ≡ Done = sym wanting.0 ∙ done in cc)
+
+pub nothing_told : (o r : Outcome) → (r ≡ o) ⊎ ((r ≡ Memory) × ChangesNothing o) → ChangesNothing r → ChangesNothing o
+nothing_told o r (inl is) nothing = subst ChangesNothing is nothing
+nothing_told o r (inr wanting) nothing = wanting.1
+
+-- it is one of the outcomes that a command may have
+pub may_end : (tells settled shown : Type 0) (image : Image) (occasion : Occasion) (disk_rose site_rose : Type 0) (o : Outcome) → Performs tells settled shown image occasion disk_rose site_rose o → MayEnd o
+may_end tells settled shown image occasion disk_rose site_rose _ (performed.done is) = tt
+may_end tells settled shown image occasion disk_rose site_rose _ (performed.refused refusal is) = tt
+may_end tells settled shown image occasion disk_rose site_rose _ (performed.damaged name is) = tt
+may_end tells settled shown image occasion disk_rose site_rose _ (performed.disk_fault risen) = tt
+may_end tells settled shown image occasion disk_rose site_rose _ (performed.site_fault risen) = tt
+may_end tells settled shown image occasion disk_rose site_rose _ performed.memory = tt
+
+-- it changes nothing in the one sense as in the other
+pub nothing_performed : (tells settled shown : Type 0) (image : Image) (occasion : Occasion) (disk_rose site_rose : Type 0) (o : Outcome) → Performs tells settled shown image occasion disk_rose site_rose o
+    → ChangesNothing o → performed.ChangesNothing o
+nothing_performed tells settled shown image occasion disk_rose site_rose _ (performed.done is) nothing = absurd nothing
+nothing_performed tells settled shown image occasion disk_rose site_rose _ (performed.refused refusal is) nothing = tt
+nothing_performed tells settled shown image occasion disk_rose site_rose _ (performed.damaged name is) nothing = tt
+nothing_performed tells settled shown image occasion disk_rose site_rose _ (performed.disk_fault risen) nothing = absurd nothing
+nothing_performed tells settled shown image occasion disk_rose site_rose _ (performed.site_fault risen) nothing = tt
+nothing_performed tells settled shown image occasion disk_rose site_rose _ performed.memory nothing = tt
+
+-- where the command is accepted after a log that the files stand for, it was done where its outcome could become a sink's fault
+pub accepted_done : (tells settled shown : Type 0) (image : Image) (occasion : Occasion) (disk_rose site_rose : Type 0) (o : Outcome) (log : Log) (events : List Event) → tells → settled → shown
+    → Stands image (observation log) → verdict_after log occasion ≡ Accept events → Performs tells settled shown image occasion disk_rose site_rose o → (o ≡ Done) ⊎ (unless_told o ≢ SinkFault) × (o ≢ SinkFault)
+accepted_done tells settled shown image occasion disk_rose site_rose _ log events told sure seen stands accepted (performed.done is) = inl refl
+accepted_done tells settled shown image occasion disk_rose site_rose _ log events told sure seen stands accepted (performed.refused refusal is) =
+    absurd (let both : ◌≡◌ {A = Verdict} (Refuse refusal) (Accept events) = sym ((is told sure seen).refused log stands) ∙ accepted in cc)
+accepted_done tells settled shown image occasion disk_rose site_rose _ log events told sure seen stands accepted (performed.damaged name is) = inr (λ both. cc, λ both. cc)
+accepted_done tells settled shown image occasion disk_rose site_rose _ log events told sure seen stands accepted (performed.disk_fault risen) = inr (λ both. cc, λ both. cc)
+accepted_done tells settled shown image occasion disk_rose site_rose _ log events told sure seen stands accepted (performed.site_fault risen) = inr (λ both. cc, λ both. cc)
+accepted_done tells settled shown image occasion disk_rose site_rose _ log events told sure seen stands accepted performed.memory = inr (λ both. cc, λ both. cc)
+
+-- so it was done, where the call ends as done or with a sink's fault
+pub meant_done : (bad : ℕ → Type 0) (performs : Outcome → Type 0) (rose : Type 0) (o r : Outcome) → EndsAs bad performs ⊥ o → ((place : ℕ) → bad place → ⊥)
+    → ((outcome : Outcome) → performs outcome → (outcome ≡ Done) ⊎ (unless_told outcome ≢ SinkFault) × (outcome ≢ SinkFault))
+    → (r ≡ o) ⊎ ((r ≡ unless_told o) × rose) → (r ≡ Done) ⊎ (r ≡ SinkFault) → o ≡ Done
+meant_done bad performs rose _ r (bad_words place is) good so how how_ended = absurd (good place is)
+meant_done bad performs rose _ r (performs_so outcome is) good so how ended = go (so outcome is) how ended
+  where
+    go : (outcome ≡ Done) ⊎ (unless_told outcome ≢ SinkFault) × (outcome ≢ SinkFault) → (r ≡ outcome) ⊎ ((r ≡ unless_told outcome) × rose) → (r ≡ Done) ⊎ (r ≡ SinkFault) → outcome ≡ Done
+    go (inl done) how ended = done
+    go (inr neither) (inl same) (inl done) = sym same ∙ done
+    go (inr neither) (inl same) (inr fault) = absurd (neither.1 (sym same ∙ fault))
+    go (inr neither) (inr untold) (inr fault) = absurd (neither.0 (sym untold.0 ∙ fault))
+    go (inr neither) (inr untold) (inl done) = elim (untold_is outcome) [
+      | inl stays ↦ sym stays ∙ sym untold.0 ∙ done
+      | inr fault ↦ absurd (neither.0 fault)
+    ]
+meant_done bad performs rose _ r (sink_fault no_rise) good so how ended = absurd no_rise
+meant_done bad performs rose _ r memory good so (inl same) (inl done) = absurd (let both : Memory ≡ Done = sym same ∙ done in cc)
+meant_done bad performs rose _ r memory good so (inl same) (inr fault) = absurd (let both : Memory ≡ SinkFault = sym same ∙ fault in cc)
+meant_done bad performs rose _ r memory good so (inr untold) (inl done) = absurd (let both : Memory ≡ Done = sym untold.0 ∙ done in cc)
+meant_done bad performs rose _ r memory good so (inr untold) (inr fault) = absurd (let both : Memory ≡ SinkFault = sym untold.0 ∙ fault in cc)
+
+-- a message stays one where more replies may be meant by it
+pub message_on : (p q : List ℕ → Type 0) (o : Outcome) (text : List ℕ) → (o ≡ Done → (text : List ℕ) → p text → q text) → IsMessage p o text → IsMessage q o text
+message_on p q Done text more m = more refl text m
+message_on p q (Refused refusal) text more m = m
+message_on p q (BadWords place) text more m = m
+message_on p q DiskFault text more m = m
+message_on p q SiteFault text more m = m
+message_on p q Memory text more m = m
+message_on p q (Damaged file) text more m = m
+message_on p q RunFailed text more m = m
+message_on p q (BadScript line) text more m = m
+message_on p q SinkFault text more m = m
+message_on p q SourceFault text more m = m
+
+-- no call leaves what was held, with a further log
+pub still : (disk : DiskState) (held more : List (Option Observation)) → Holds Stands disk held → Leaves Stands disk disk (held ++ more)
+still disk held more holds = leaves_more Stands by_files one disk disk held (held ++ more) (λ l is. Contains-append_left held more l is) (leaves_still Stands by_files one disk held holds)
+
+-- the outcome that was meant is that of the call, or became a sink's fault
+pub meant_is : (o r : Outcome) (rose : Type 0) → (r ≡ o) ⊎ ((r ≡ unless_told o) × rose) → (r ≡ o) ⊎ (r ≡ SinkFault)
+meant_is o r rose told = elim (told_is o r rose told) [ inl is ↦ inl is | inr fault ↦ inr fault.0 ]

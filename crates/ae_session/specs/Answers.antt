@@ -1,59 +1,74 @@
 -- How a call ends, and what is written of it.
-use Rattle.std.specs.Prelude.{◌≡◌, ◌≢◌, ◌⊎◌, ℕ, List, [], ◌∷◌, ◌++◌, codes, Option, Some, None}
+use Rattle.std.specs.Prelude.{◌≡◌, ◌⊎◌, ℕ, false, List, [], ◌∷◌, ◌++◌, codes}
 use Rattle.std.specs.Fmt.{decimal}
 use Rattle.ae_base.specs.declared.outcome.Outcome.{Outcome}
 use Rattle.ae_base.specs.declared.outcome.Outcome.TheVariants.{Done, RunFailed, Refused, BadWords, BadScript, DiskFault, SiteFault, SinkFault, SourceFault, Damaged, Memory}
-use Rattle.ae_base.specs.declared.refusal.Refusal.TheVariants.{ProjectExists}
 use Rattle.ae_base.specs.Refusals.{message_of}
 use Rattle.ae_outside.specs.Causes.{HasRisen}
 use Rattle.ae_outside.specs.Image.{Image}
 use Rattle.ae_outside.specs.Streams.{TakesPrefix}
-use Rattle.ae_types.specs.Observation.{Observation}
-use Rattle.ae_vault.specs.Vault.{effective}
-use Rattle.ae_store.specs.Names.{project_file, files_file}
+use Rattle.ae_log.specs.Log.{Log}
+use Rattle.ae_log.specs.Observed.{observation}
+use Rattle.ae_machine.specs.Legal.{Occasion, verdict_after}
+use Rattle.ae_machine.specs.Replies.{reply}
 use Rattle.ae_store.specs.Records.{Stands}
-use Rattle.ae_store.specs.Answers.{IsNamed}
+use Rattle.ae_exec.specs.Endings as performed
+use Rattle.ae_exec.specs.Said.{reply_text}
 
--- the store is damaged, and this is the file that is named: `body` where the gate is open and it isn't in its grammar, else
--- the state file that breaks a rule first
-pub data IsDamagedAt (image : Image) (name : List ℕ) : Type 0 where
-  body : effective image ≡ None → name ≡ codes "body" → IsDamagedAt image name
-  record_of : (files : Image) → effective image ≡ Some files → IsNamed files name → IsDamagedAt image name
+-- How a call may end: bad words at such a place; as the command may that is performed; with a sink's fault, where its count
+-- rose; or for want of memory.
+pub data EndsAs (bad : ℕ → Type 0) (performs : Outcome → Type 0) (sink_rose : Type 0) : Outcome → Type 0 where
+  bad_words : (place : ℕ) → bad place → EndsAs bad performs sink_rose (BadWords place)
+  performs_so : (outcome : Outcome) → performs outcome → EndsAs bad performs sink_rose outcome
+  sink_fault : sink_rose → EndsAs bad performs sink_rose SinkFault
+  memory : EndsAs bad performs sink_rose Memory
 
--- How a call may end, and the cause of each outcome: `bad` are the places at which the call is bad, `asks` that it asks
--- for a project, `image` is what the disk read where it is told, and the last two say that the disk's or the sink's count
--- of faults rose.
-pub data EndsAs (bad : ℕ → Type 0) (asks told : Type 0) (image : Image) (disk_rose sink_rose : Type 0) : Outcome → Type 0 where
-  bad_words : (place : ℕ) → bad place → EndsAs bad asks told image disk_rose sink_rose (BadWords place)
-  exists : asks → (told → (o : Observation) × Stands image (Some o)) → EndsAs bad asks told image disk_rose sink_rose (Refused ProjectExists)
-  created : asks → (told → Stands image None) → EndsAs bad asks told image disk_rose sink_rose Done
-  damaged : (name : List ℕ) → asks → (told → IsDamagedAt image name) → EndsAs bad asks told image disk_rose sink_rose (Damaged name)
-  disk_fault : asks → disk_rose → EndsAs bad asks told image disk_rose sink_rose DiskFault
-  sink_fault : sink_rose → EndsAs bad asks told image disk_rose sink_rose SinkFault
-  memory : EndsAs bad asks told image disk_rose sink_rose Memory
+-- How a command may end, where the disk tells and is settled and the directories are told: done where it is accepted, refused
+-- where it is refused, a damaged store where that file is damaged, and a fault where that count rose.
+abbrev pub Performs : (tells settled shown : Type 0) → Image → Occasion → (disk_rose site_rose : Type 0) → Outcome → Type 0
+Performs tells settled shown image occasion disk_rose site_rose =
+    performed.EndsAs (tells → settled → shown → performed.IsAccepted image occasion) (λ refusal. tells → settled → shown → performed.IsRefused image occasion refusal)
+    (λ name. tells → settled → performed.IsDamagedAt image name) disk_rose site_rose
+
+-- the lines of the command's reply, after each log that the files stand for
+abbrev pub IsReply : (tells settled shown : Type 0) → Image → Occasion → List ℕ → Type 0
+IsReply tells settled shown image occasion text =
+    tells → settled → shown → (log : Log) → Stands image (observation log) → text ≡ reply_text false (reply (observation log) (verdict_after log occasion))
+
+-- the outcomes that a command may have by itself
+abbrev pub MayEnd : Outcome → Type 0
+MayEnd Done = Unit {0}
+MayEnd (Refused refusal) = Unit {0}
+MayEnd (Damaged name) = Unit {0}
+MayEnd DiskFault = Unit {0}
+MayEnd SiteFault = Unit {0}
+MayEnd Memory = Unit {0}
+MayEnd _ = ⊥
 
 -- the outcomes of a call that changes nothing
 abbrev pub ChangesNothing : Outcome → Type 0
 ChangesNothing (Refused refusal) = Unit {0}
 ChangesNothing (BadWords place) = Unit {0}
 ChangesNothing (Damaged name) = Unit {0}
+ChangesNothing SiteFault = Unit {0}
 ChangesNothing Memory = Unit {0}
 ChangesNothing Done = ⊥
 ChangesNothing RunFailed = ⊥
 ChangesNothing (BadScript line) = ⊥
 ChangesNothing DiskFault = ⊥
-ChangesNothing SiteFault = ⊥
 ChangesNothing SinkFault = ⊥
 ChangesNothing SourceFault = ⊥
 
-abbrev pub created_text : List ℕ → List ℕ
-created_text name = codes "aegis: project \"" ++ (name ++ (codes "\": created" ++ 10 ∷ []))
+-- ---- messages
 
 abbrev pub bad_words_text : ℕ → List ℕ
 bad_words_text place = codes "aegis: word " ++ (decimal place ++ (codes " is not understood" ++ 10 ∷ []))
 
 abbrev pub disk_fault_text : List ℕ
 disk_fault_text = codes "aegis: disk fault" ++ 10 ∷ []
+
+abbrev pub site_fault_text : List ℕ
+site_fault_text = codes "aegis: directory fault" ++ 10 ∷ []
 
 -- a file of the store is named
 abbrev pub damaged_text : List ℕ → List ℕ
@@ -62,25 +77,19 @@ damaged_text name = codes "aegis: \"" ++ (name ++ (codes "\" is damaged" ++ 10 �
 abbrev pub memory_text : List ℕ
 memory_text = codes "aegis: out of memory" ++ 10 ∷ []
 
--- what is written of an outcome: of a project that was made by its name, which the words say
+-- what is written of an outcome; of a command that is done its reply
 abbrev pub IsMessage : (List ℕ → Type 0) → Outcome → List ℕ → Type 0
-IsMessage made Done text = (name : List ℕ) × made name × (text ≡ created_text name)
-IsMessage made (Refused refusal) text = text ≡ message_of refusal
-IsMessage made (BadWords place) text = text ≡ bad_words_text place
-IsMessage made DiskFault text = text ≡ disk_fault_text
-IsMessage made Memory text = text ≡ memory_text
-IsMessage made RunFailed text = text ≡ []
-IsMessage made (BadScript line) text = text ≡ []
-IsMessage made SiteFault text = text ≡ []
-IsMessage made SinkFault text = text ≡ []
-IsMessage made SourceFault text = text ≡ []
-IsMessage made (Damaged name) text = text ≡ damaged_text name
-
--- no file but the two of a new project is changed
-abbrev pub OthersSame : Option Image → Option Image → Type 0
-OthersSame None new = new ≡ None
-OthersSame (Some old) None = ⊥
-OthersSame (Some old) (Some new) = (name : List ℕ) → name ≢ project_file → name ≢ files_file → new name ≡ old name
+IsMessage said Done text = said text
+IsMessage said (Refused refusal) text = text ≡ message_of refusal
+IsMessage said (BadWords place) text = text ≡ bad_words_text place
+IsMessage said DiskFault text = text ≡ disk_fault_text
+IsMessage said SiteFault text = text ≡ site_fault_text
+IsMessage said Memory text = text ≡ memory_text
+IsMessage said (Damaged name) text = text ≡ damaged_text name
+IsMessage said RunFailed text = text ≡ []
+IsMessage said (BadScript line) text = text ≡ []
+IsMessage said SinkFault text = text ≡ []
+IsMessage said SourceFault text = text ≡ []
 
 -- some first bytes of the message were taken, and all of it unless the count of faults rose
 pub record IsTried (message old new : List ℕ) (faults faults_new : ℕ) : Type 0 where
@@ -116,9 +125,9 @@ IsSaid message (Damaged file) old new faults faults_new = IsTried message old ne
 IsSaid message Memory old new faults faults_new = IsTried message old new faults faults_new
 
 -- The outcome's own message is written, and at a sink's fault a part of the message of the outcome that was meant.
-pub record Says (made : List ℕ → Type 0) (result : Outcome) (old new : List ℕ) (faults faults_new : ℕ) : Type 0 where
+pub record Says (reply : List ℕ → Type 0) (result : Outcome) (old new : List ℕ) (faults faults_new : ℕ) : Type 0 where
   pub meant : Outcome
   pub is : (result ≡ meant) ⊎ (result ≡ SinkFault)
   pub text : List ℕ
-  pub message : IsMessage made meant text
+  pub message : IsMessage reply meant text
   pub said : IsSaid text result old new faults faults_new

@@ -1,11 +1,9 @@
 //! The top call: one command, from its words to the disk and the reply.
 #![tactic(auto)]
 
-mod make;
 mod reply;
 mod request;
 mod session;
-mod start;
 
 pub use request::asks_or_is_bad;
 pub use session::aegis;

@@ -3,21 +3,11 @@ ghost use Rattle.std.specs.Prelude.{◌≡◌, ◌≤◌, ◌⊎◌, ◌++◌, �
 ghost use Rattle.ae_base.specs.Refusals.{message_of};
 ghost use Rattle.ae_outside.specs.Causes.{HasRisen, HasCause};
 ghost use Rattle.ae_outside.specs.Streams.{TakesPrefix};
-ghost use Rattle.ae_session.specs.Answers.{IsMessage, bad_words_text, created_text, damaged_text, IsSaid};
+ghost use Rattle.ae_session.specs.Answers.{IsMessage, bad_words_text, damaged_text, IsSaid};
 
-use crate::request::Request;
 use ae_base::{Outcome, Refusal, Text};
 use ae_outside::{Failed, Sink};
 use std::alloc::{AllocError, Global};
-
-/// The reply to a project that was made.
-pub fn created(alloc: Global, request: &Request) -> Result<Vec<u8>, AllocError>
-    ensures { IfOk result (λ reply. reply.items ≡ created_text request.now.name) }
-{
-    let name = &request.name;
-    let reply = format!(in alloc; "aegis: project \"{name}\": created\n")?;
-    Ok(reply.into_bytes())
-}
 
 fn not_understood(alloc: Global, place: u32) -> Result<Vec<u8>, AllocError>
     ensures { IfOk result (λ reply. reply.items ≡ bad_words_text place) }
@@ -47,16 +37,16 @@ pub fn put_all<K: Sink>(sink: &mut K, bytes: &[u8]) -> Result<(), Failed>
 #[derive(Drop)]
 pub struct Reply {
     outcome: Outcome,
-    text: Vec<u8>,
+    text: Text,
 }
 
 ghost use Rattle.ae_base.specs.declared.outcome.Outcome.TheVariants.{Done, Refused, BadWords, SinkFault};
 ghost use Rattle.ae_session.specs.Answers.{unless_told};
-ghost use Rattle.ae_session.specs.Replies.{reply_text};
+ghost use Rattle.ae_session.specs.Replies.{message_text};
 
 impl Reply {
     /// An outcome with a message of its own making.
-    pub fn of(outcome: Outcome, text: Vec<u8>) -> Reply
+    pub fn of(outcome: Outcome, text: Text) -> Reply
         ensures outcome { result.outcome ≡ outcome }
         ensures text { result.text ≡ text }
     {
@@ -69,25 +59,26 @@ impl Reply {
     {
         Reply {
             outcome,
-            text: Vec::new(alloc),
+            text: Text::of(Vec::new(alloc)),
         }
     }
 
     /// What is written of it.
     fn bytes(&self) -> &[u8]
-        ensures { result.now ≡ reply_text self.now.outcome self.now.text.items }
+        ensures { result.now ≡ message_text self.now.outcome self.now.text }
     {
         match self.outcome {
             Outcome::DiskFault => b"aegis: disk fault\n",
+            Outcome::SiteFault => b"aegis: directory fault\n",
             Outcome::Memory => b"aegis: out of memory\n",
-            _ => self.text.as_slice(),
+            _ => self.text.bytes(),
         }
     }
 
     /// Writes the message. Where that fails, a fault or want of memory stays the outcome.
     pub fn tell<E: Sink>(self, err: &mut E) -> Outcome
         ensures outcome { (result ≡ self.outcome) ⊎ (result ≡ unless_told self.outcome) × HasRisen (E.faults err.old) (E.faults err.new) }
-        ensures said { E.tells → IsSaid (reply_text self.outcome self.text.items) result (E.taken err.old) (E.taken err.new) (E.faults err.old) (E.faults err.new) }
+        ensures said { E.tells → IsSaid (message_text self.outcome self.text) result (E.taken err.old) (E.taken err.new) (E.faults err.old) (E.faults err.new) }
         ensures later { E.faults err.old ≤ E.faults err.new }
     {
         match put_all(err, self.bytes()) {
@@ -113,10 +104,10 @@ fn untold(outcome: Outcome) -> Outcome
 /// The words are bad at this place.
 pub fn bad_words(alloc: Global, place: u32) -> Reply
     ensures outcome { (result.outcome ≡ Outcome.BadWords place) ⊎ (result.outcome ≡ Outcome.Memory) }
-    ensures text { IsMessage (λ name. ⊥) result.outcome (reply_text result.outcome result.text.items) }
+    ensures text { IsMessage (λ text. ⊥) result.outcome (message_text result.outcome result.text) }
 {
     match not_understood(alloc, place) {
-        Ok(text) => Reply::of(Outcome::BadWords(place), text),
+        Ok(text) => Reply::of(Outcome::BadWords(place), Text::of(text)),
         Err(_) => Reply::bare(alloc, Outcome::Memory),
     }
 }
@@ -124,10 +115,10 @@ pub fn bad_words(alloc: Global, place: u32) -> Reply
 /// The command is refused.
 pub fn refused(alloc: Global, refusal: Refusal) -> Reply
     ensures outcome { (result.outcome ≡ Outcome.Refused refusal) ⊎ (result.outcome ≡ Outcome.Memory) }
-    ensures text { IsMessage (λ name. ⊥) result.outcome (reply_text result.outcome result.text.items) }
+    ensures text { IsMessage (λ text. ⊥) result.outcome (message_text result.outcome result.text) }
 {
     match refusal.message(alloc) {
-        Ok(text) => Reply::of(Outcome::Refused(refusal), text),
+        Ok(text) => Reply::of(Outcome::Refused(refusal), Text::of(text)),
         Err(_) => Reply::bare(alloc, Outcome::Memory),
     }
 }
@@ -135,10 +126,10 @@ pub fn refused(alloc: Global, refusal: Refusal) -> Reply
 /// This file of the store is damaged.
 pub fn damaged(alloc: Global, name: Text) -> Reply
     ensures outcome { (result.outcome ≡ Outcome.Damaged name) ⊎ (result.outcome ≡ Outcome.Memory) }
-    ensures text { IsMessage (λ name. ⊥) result.outcome (reply_text result.outcome result.text.items) }
+    ensures text { IsMessage (λ text. ⊥) result.outcome (message_text result.outcome result.text) }
 {
     match damaged_message(alloc, &name) {
-        Ok(text) => Reply::of(Outcome::Damaged(name), text),
+        Ok(text) => Reply::of(Outcome::Damaged(name), Text::of(text)),
         Err(_) => Reply::bare(alloc, Outcome::Memory),
     }
 }

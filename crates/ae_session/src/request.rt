@@ -1,19 +1,22 @@
 // What the words of a call ask for.
-ghost use Rattle.std.specs.Prelude.{◌≡◌, ℕ, map, IfOk, IsErrOf, string_bytes};
-ghost use Rattle.ae_session.specs.Request.{project_made, AsksFor, BadAt, NeverBoth};
+ghost use Rattle.std.specs.Prelude.{◌≡◌, ◌≤◌, ℕ, true, map, IfOk, IsErrOf, string_bytes};
+ghost use Rattle.ae_words.specs.Formed.{IsFormed};
+ghost use Rattle.ae_machine.specs.There.{is_there_yet};
+ghost use Rattle.ae_session.specs.Request.{AsksFor, BadAt, NeverBoth};
 ghost use Rattle.ae_session.specs.declared.request.RequestError.TheVariants.{Memory};
 
-use ae_base::{ProjectName, User};
-use ae_words::{Command, Function, WordsError, read_words};
+use ae_base::User;
+use ae_machine::is_there_yet;
+use ae_words::{Command, WordsError, read_words};
 use std::alloc::{AllocError, Global};
 
 /// The last second of the year 2099.
 const LAST_MOMENT: u64 = 4_102_444_799;
 
-/// A new project of this name, made by this user.
+/// A command, given by this user.
 #[derive(Drop)]
 pub struct Request {
-    pub name: ProjectName,
+    pub command: Command,
     pub who: User,
 }
 
@@ -32,17 +35,6 @@ impl From<AllocError> for RequestError {
     }
 }
 
-// The name of the project that the command makes. The commands that aren't there yet make none.
-fn project_made(command: Command) -> Option<ProjectName>
-    ensures { result ≡ project_made command }
-{
-    if command.function == Function::NewProject && command.attributes.is_none() {
-        command.name
-    } else {
-        None
-    }
-}
-
 /// What the words ask for, or the place of the first bad one.
 pub fn read_request(
     alloc: Global,
@@ -50,7 +42,10 @@ pub fn read_request(
     who: &str,
     now: u64,
 ) -> Result<Request, RequestError>
-    ensures asks { IfOk result (λ request. AsksFor (map string_bytes words.now) who.now now request.name) }
+    ensures asks { IfOk result (λ request. AsksFor (map string_bytes words.now) who.now now request.command) }
+    ensures formed { IfOk result (λ request. IsFormed request.command) }
+    ensures there { IfOk result (λ request. is_there_yet request.command.function ≡ true) }
+    ensures moment { IfOk result (λ request. now ≤ 4102444799) }
     ensures who { IfOk result (λ request. request.who ≡ who.now) }
     ensures bad { (place : ℕ) → IsErrOf result (RequestError.Bad place) → BadAt (map string_bytes words.now) who.now now place }
 {
@@ -65,13 +60,13 @@ pub fn read_request(
         Err(WordsError::Bad(place)) => return Err(RequestError::Bad(place)),
         Err(WordsError::Memory) => return Err(RequestError::Memory),
     };
-    match project_made(command) {
-        Some(name) => Ok(Request { name, who }),
-        None => Err(RequestError::Bad(1)),
+    if !is_there_yet(command.function) {
+        return Err(RequestError::Bad(1));
     }
+    Ok(Request { command, who })
 }
 
-/// A law: no call both asks for a project and is bad.
+/// A law: no call both asks for a command and is bad.
 pub fn asks_or_is_bad()
     ensures { NeverBoth }
 {}

@@ -1,28 +1,36 @@
 // One command, from its words to the disk and the reply.
-ghost use Rattle.std.specs.Prelude.{◌≡◌, ◌≤◌, ◌++◌, ◌∷◌, [], ℕ, List, Option, Some, None, map, string_bytes};
+ghost use Rattle.std.specs.Prelude.{◌≡◌, ◌≤◌, ◌⊎◌, ◌++◌, ◌∷◌, [], ℕ, true, List, Option, map, string_bytes};
 ghost use Rattle.ae_outside.specs.Causes.{HasRisen};
 ghost use Rattle.ae_outside.specs.State.{reads, MayLeave};
-ghost use Rattle.ae_store.specs.Records.{Stands};
 ghost use Rattle.ae_types.specs.Observation.{Observation};
+ghost use Rattle.ae_store.specs.Records.{Stands};
 ghost use Rattle.ae_vault.specs.Commit.{IsSettled};
 ghost use Rattle.ae_vault.specs.Kept.{Holds};
 ghost use Rattle.ae_vault.specs.Vault.{effective};
-ghost use Rattle.ae_session.specs.Request.{Make, AsksFor, Asks, BadAt};
-ghost use Rattle.ae_session.specs.Answers.{EndsAs, Says, ChangesNothing, OthersSame, IsMessage};
-ghost use Rattle.ae_session.specs.NewProject.{new_project};
-ghost use Rattle.ae_session.specs.Replies.{reply_text};
-ghost use Rattle.ae_session.specs.Stops.{Leaves};
+ghost use Rattle.ae_words.specs.Formed.{IsFormed};
+ghost use Rattle.ae_words.specs.declared.command.Command.{Command};
+ghost use Rattle.ae_log.specs.declared.event.Event.{Event};
+ghost use Rattle.ae_log.specs.Log.{Log, followed};
+ghost use Rattle.ae_log.specs.Observed.{observation};
+ghost use Rattle.ae_machine.specs.declared.verdict.Verdict.TheVariants.{Accept};
+ghost use Rattle.ae_machine.specs.Legal.{Legal, verdict_after};
+ghost use Rattle.ae_machine.specs.There.{is_there_yet};
+ghost use Rattle.ae_exec.specs.Endings.{OthersSame};
+ghost use Rattle.ae_exec.specs.Seen.{occasion_at};
+ghost use Rattle.ae_exec.specs.Stops.{Leaves};
+ghost use Rattle.ae_session.specs.Request.{AsksFor, BadAt};
+ghost use Rattle.ae_session.specs.Answers.{EndsAs, Performs, IsReply, Says, ChangesNothing, IsMessage, MayEnd};
+ghost use Rattle.ae_session.specs.Replies.{message_text};
 
-use crate::make::{MakeError, make_project};
 use crate::reply::{Reply, bad_words, damaged, refused};
 use crate::request::{Request, RequestError, read_request};
-use ae_base::{Outcome, Refusal};
+use ae_base::{Outcome, Text};
+use ae_exec::perform;
 use ae_outside::{Disk, Sink, Site, Source};
 use std::alloc::Global;
 
 /// Does all that the program does: one command, by its words. `who` is the user's name, `now` the moment in seconds since
-/// 1970. The reply and every message go to `err`. For now the one command is `New_PRoject NAME`, which makes the project;
-/// each other command isn't there yet, and is bad at its first word.
+/// 1970. The reply and every message go to `err`. A command whose function isn't there yet is bad at its first word.
 pub fn aegis<D: Disk, S: Site, I: Source, O: Sink, E: Sink>(
     alloc: Global,
     words: &[String],
@@ -35,68 +43,105 @@ pub fn aegis<D: Disk, S: Site, I: Source, O: Sink, E: Sink>(
     err: &mut E,
 ) -> Outcome
     // How the call ends, each outcome with its cause.
-    ensures ends { EndsAs (BadAt (map string_bytes words.now) who.now now) (Asks (map string_bytes words.now) who.now now) (D.tells × IsSettled (reads (D.state disk.old)) (MayLeave (D.state disk.old))) (reads (D.state disk.old)) (HasRisen (D.faults disk.old) (D.faults disk.new)) (HasRisen (E.faults err.old) (E.faults err.new)) result }
-    ensures said { E.tells → Says (Make (map string_bytes words.now)) result (E.taken err.old) (E.taken err.new) (E.faults err.old) (E.faults err.new) }
-    // The disk isn't called where the words are bad.
-    ensures not_called { (place : ℕ) → BadAt (map string_bytes words.now) who.now now place → disk.new ≡ disk.old }
+    ensures ends { EndsAs (BadAt (map string_bytes words.now) who.now now) (λ outcome. (command : Command) × AsksFor (map string_bytes words.now) who.now now command × Performs D.tells (IsSettled (reads (D.state disk.old)) (MayLeave (D.state disk.old))) S.tells (reads (D.state disk.old)) (occasion_at command who.now now (S.state site.old)) (HasRisen (D.faults disk.old) (D.faults disk.new)) (HasRisen (S.faults site.old) (S.faults site.new)) outcome) (HasRisen (E.faults err.old) (E.faults err.new)) result }
+    ensures said { E.tells → Says (λ text. (command : Command) × AsksFor (map string_bytes words.now) who.now now command × IsReply D.tells (IsSettled (reads (D.state disk.old)) (MayLeave (D.state disk.old))) S.tells (reads (D.state disk.old)) (occasion_at command who.now now (S.state site.old)) text) result (E.taken err.old) (E.taken err.new) (E.faults err.old) (E.faults err.new) }
+    // Neither the disk nor the directories are called where the words are bad.
+    ensures not_called { (place : ℕ) → BadAt (map string_bytes words.now) who.now now place → (disk.new ≡ disk.old) × (site.new ≡ site.old) }
 
-    // However the call ends and wherever it stops, the disk holds what it held or the new project; that alone once it is
-    // made, also where only the reply couldn't be written; and just what it held where nothing is changed.
-    ensures left { D.tells → (logs : List (Option Observation)) → (name : List ℕ) → AsksFor (map string_bytes words.now) who.now now name → Holds Stands (D.state disk.old) logs → Leaves Stands (D.state disk.old) (D.state disk.new) (logs ++ Some (new_project name who.now) ∷ []) }
-    ensures made { result ≡ Outcome.Done → D.tells → (logs : List (Option Observation)) → (name : List ℕ) → AsksFor (map string_bytes words.now) who.now now name → Holds Stands (D.state disk.old) logs → Holds Stands (D.state disk.new) (Some (new_project name who.now) ∷ []) }
-    ensures kept { ChangesNothing result → D.tells → (logs : List (Option Observation)) → Holds Stands (D.state disk.old) logs → Leaves Stands (D.state disk.old) (D.state disk.new) logs }
+    // However the call ends and wherever it stops, the disk holds what it held or the log with the events of the command; that
+    // alone once it is done, also where only the reply couldn't be written; and just what it held where nothing is changed.
+    ensures left { D.tells → S.tells → (command : Command) (held : List (Option Observation)) (log : Log) (events : List Event) → AsksFor (map string_bytes words.now) who.now now command → Holds Stands (D.state disk.old) held → Stands (reads (D.state disk.old)) (observation log) → Legal log → verdict_after log (occasion_at command who.now now (S.state site.old)) ≡ Accept events → Leaves Stands (D.state disk.old) (D.state disk.new) (held ++ observation (followed log events) ∷ []) }
+    ensures made { (result ≡ Outcome.Done) ⊎ (result ≡ Outcome.SinkFault) → D.tells → S.tells → (command : Command) (held : List (Option Observation)) (log : Log) (events : List Event) → AsksFor (map string_bytes words.now) who.now now command → Holds Stands (D.state disk.old) held → Stands (reads (D.state disk.old)) (observation log) → Legal log → verdict_after log (occasion_at command who.now now (S.state site.old)) ≡ Accept events → Holds Stands (D.state disk.new) (observation (followed log events) ∷ []) }
+    ensures kept { ChangesNothing result → D.tells → (held : List (Option Observation)) → Holds Stands (D.state disk.old) held → Leaves Stands (D.state disk.old) (D.state disk.new) held }
     ensures unchanged { ChangesNothing result → D.tells → IsSettled (reads (D.state disk.old)) (MayLeave (D.state disk.old)) → effective (reads (D.state disk.new)) ≡ effective (reads (D.state disk.old)) }
     ensures settled { D.tells → IsSettled (reads (D.state disk.old)) (MayLeave (D.state disk.old)) → IsSettled (reads (D.state disk.new)) (MayLeave (D.state disk.new)) }
     ensures others { D.tells → IsSettled (reads (D.state disk.old)) (MayLeave (D.state disk.old)) → OthersSame (effective (reads (D.state disk.old))) (effective (reads (D.state disk.new))) }
-    ensures made_untold { result ≡ Outcome.SinkFault → D.tells → (logs : List (Option Observation)) → (name : List ℕ) → AsksFor (map string_bytes words.now) who.now now name → Holds Stands (D.state disk.old) logs → Stands (reads (D.state disk.old)) None → Holds Stands (D.state disk.new) (Some (new_project name who.now) ∷ []) }
 
-    ensures site { site.new ≡ site.old }
+    // The directories are only read.
+    ensures site { S.tells → S.state site.new ≡ S.state site.old }
     ensures input { input.new ≡ input.old }
     ensures out { out.new ≡ out.old }
     ensures disk_faults { D.faults disk.old ≤ D.faults disk.new }
+    ensures site_faults { S.faults site.old ≤ S.faults site.new }
     ensures err_faults { E.faults err.old ≤ E.faults err.new }
 {
-    let reply = decide(alloc, words, who, now, disk);
+    let reply = decide(alloc, words, who, now, disk, site);
     reply.tell(err)
 }
 
-// What is to be told, with the project made where the words ask for it.
-fn decide<D: Disk>(alloc: Global, words: &[String], who: &str, now: u64, disk: &mut D) -> Reply
-    ensures ends { EndsAs (BadAt (map string_bytes words.now) who.now now) (Asks (map string_bytes words.now) who.now now) (D.tells × IsSettled (reads (D.state disk.old)) (MayLeave (D.state disk.old))) (reads (D.state disk.old)) (HasRisen (D.faults disk.old) (D.faults disk.new)) ⊥ result.outcome }
-    ensures text { IsMessage (Make (map string_bytes words.now)) result.outcome (reply_text result.outcome result.text.items) }
-    ensures not_called { (place : ℕ) → BadAt (map string_bytes words.now) who.now now place → disk.new ≡ disk.old }
-    ensures left { D.tells → (logs : List (Option Observation)) → (name : List ℕ) → AsksFor (map string_bytes words.now) who.now now name → Holds Stands (D.state disk.old) logs → Leaves Stands (D.state disk.old) (D.state disk.new) (logs ++ Some (new_project name who.now) ∷ []) }
-    ensures made { result.outcome ≡ Outcome.Done → D.tells → (logs : List (Option Observation)) → (name : List ℕ) → AsksFor (map string_bytes words.now) who.now now name → Holds Stands (D.state disk.old) logs → Holds Stands (D.state disk.new) (Some (new_project name who.now) ∷ []) }
-    ensures kept { ChangesNothing result.outcome → D.tells → (logs : List (Option Observation)) → Holds Stands (D.state disk.old) logs → Leaves Stands (D.state disk.old) (D.state disk.new) logs }
+// What is to be told, once the command that the words ask for is done.
+fn decide<D: Disk, S: Site>(
+    alloc: Global,
+    words: &[String],
+    who: &str,
+    now: u64,
+    disk: &mut D,
+    site: &mut S,
+) -> Reply
+    ensures ends { EndsAs (BadAt (map string_bytes words.now) who.now now) (λ outcome. (command : Command) × AsksFor (map string_bytes words.now) who.now now command × Performs D.tells (IsSettled (reads (D.state disk.old)) (MayLeave (D.state disk.old))) S.tells (reads (D.state disk.old)) (occasion_at command who.now now (S.state site.old)) (HasRisen (D.faults disk.old) (D.faults disk.new)) (HasRisen (S.faults site.old) (S.faults site.new)) outcome) ⊥ result.outcome }
+    ensures text { IsMessage (λ text. (command : Command) × AsksFor (map string_bytes words.now) who.now now command × IsReply D.tells (IsSettled (reads (D.state disk.old)) (MayLeave (D.state disk.old))) S.tells (reads (D.state disk.old)) (occasion_at command who.now now (S.state site.old)) text) result.outcome (message_text result.outcome result.text) }
+    ensures not_called { (place : ℕ) → BadAt (map string_bytes words.now) who.now now place → (disk.new ≡ disk.old) × (site.new ≡ site.old) }
+    ensures left { D.tells → S.tells → (command : Command) (held : List (Option Observation)) (log : Log) (events : List Event) → AsksFor (map string_bytes words.now) who.now now command → Holds Stands (D.state disk.old) held → Stands (reads (D.state disk.old)) (observation log) → Legal log → verdict_after log (occasion_at command who.now now (S.state site.old)) ≡ Accept events → Leaves Stands (D.state disk.old) (D.state disk.new) (held ++ observation (followed log events) ∷ []) }
+    ensures made { result.outcome ≡ Outcome.Done → D.tells → S.tells → (command : Command) (held : List (Option Observation)) (log : Log) (events : List Event) → AsksFor (map string_bytes words.now) who.now now command → Holds Stands (D.state disk.old) held → Stands (reads (D.state disk.old)) (observation log) → Legal log → verdict_after log (occasion_at command who.now now (S.state site.old)) ≡ Accept events → Holds Stands (D.state disk.new) (observation (followed log events) ∷ []) }
+    ensures kept { ChangesNothing result.outcome → D.tells → (held : List (Option Observation)) → Holds Stands (D.state disk.old) held → Leaves Stands (D.state disk.old) (D.state disk.new) held }
     ensures unchanged { ChangesNothing result.outcome → D.tells → IsSettled (reads (D.state disk.old)) (MayLeave (D.state disk.old)) → effective (reads (D.state disk.new)) ≡ effective (reads (D.state disk.old)) }
     ensures settled { D.tells → IsSettled (reads (D.state disk.old)) (MayLeave (D.state disk.old)) → IsSettled (reads (D.state disk.new)) (MayLeave (D.state disk.new)) }
     ensures others { D.tells → IsSettled (reads (D.state disk.old)) (MayLeave (D.state disk.old)) → OthersSame (effective (reads (D.state disk.old))) (effective (reads (D.state disk.new))) }
-    ensures later { D.faults disk.old ≤ D.faults disk.new }
+    ensures site { S.tells → S.state site.new ≡ S.state site.old }
+    ensures disk_faults { D.faults disk.old ≤ D.faults disk.new }
+    ensures site_faults { S.faults site.old ≤ S.faults site.new }
 {
     match read_request(alloc, words, who, now) {
-        Ok(request) => new_project(alloc, &request, disk),
+        Ok(request) => perform_it(alloc, &request, now, disk, site),
         Err(RequestError::Bad(place)) => bad_words(alloc, place),
         Err(RequestError::Memory) => Reply::bare(alloc, Outcome::Memory),
     }
 }
 
-// Makes the project, and answers what is to be told.
-fn new_project<D: Disk>(alloc: Global, request: &Request, disk: &mut D) -> Reply
-    ensures ends { EndsAs (λ place. ⊥) (Unit {0}) (D.tells × IsSettled (reads (D.state disk.old)) (MayLeave (D.state disk.old))) (reads (D.state disk.old)) (HasRisen (D.faults disk.old) (D.faults disk.new)) ⊥ result.outcome }
-    ensures text { IsMessage (λ name. name ≡ request.now.name) result.outcome (reply_text result.outcome result.text.items) }
-    ensures left { D.tells → (logs : List (Option Observation)) → Holds Stands (D.state disk.old) logs → Leaves Stands (D.state disk.old) (D.state disk.new) (logs ++ Some (new_project request.now.name request.now.who) ∷ []) }
-    ensures made { result.outcome ≡ Outcome.Done → D.tells → (logs : List (Option Observation)) → Holds Stands (D.state disk.old) logs → Holds Stands (D.state disk.new) (Some (new_project request.now.name request.now.who) ∷ []) }
-    ensures kept { ChangesNothing result.outcome → D.tells → (logs : List (Option Observation)) → Holds Stands (D.state disk.old) logs → Leaves Stands (D.state disk.old) (D.state disk.new) logs }
+// Performs the command, and answers what is to be told.
+fn perform_it<D: Disk, S: Site>(
+    alloc: Global,
+    request: &Request,
+    now: u64,
+    disk: &mut D,
+    site: &mut S,
+) -> Reply
+    requires formed { IsFormed request.now.command }
+    requires there { is_there_yet request.now.command.function ≡ true }
+    requires moment { now ≤ 4102444799 }
+    ensures ends { Performs D.tells (IsSettled (reads (D.state disk.old)) (MayLeave (D.state disk.old))) S.tells (reads (D.state disk.old)) (occasion_at request.now.command request.now.who now (S.state site.old)) (HasRisen (D.faults disk.old) (D.faults disk.new)) (HasRisen (S.faults site.old) (S.faults site.new)) result.outcome }
+    ensures text { IsMessage (λ text. IsReply D.tells (IsSettled (reads (D.state disk.old)) (MayLeave (D.state disk.old))) S.tells (reads (D.state disk.old)) (occasion_at request.now.command request.now.who now (S.state site.old)) text) result.outcome (message_text result.outcome result.text) }
+    ensures left { D.tells → S.tells → (held : List (Option Observation)) (log : Log) (events : List Event) → Holds Stands (D.state disk.old) held → Stands (reads (D.state disk.old)) (observation log) → Legal log → verdict_after log (occasion_at request.now.command request.now.who now (S.state site.old)) ≡ Accept events → Leaves Stands (D.state disk.old) (D.state disk.new) (held ++ observation (followed log events) ∷ []) }
+    ensures made { result.outcome ≡ Outcome.Done → D.tells → S.tells → (held : List (Option Observation)) (log : Log) (events : List Event) → Holds Stands (D.state disk.old) held → Stands (reads (D.state disk.old)) (observation log) → Legal log → verdict_after log (occasion_at request.now.command request.now.who now (S.state site.old)) ≡ Accept events → Holds Stands (D.state disk.new) (observation (followed log events) ∷ []) }
+    ensures kept { ChangesNothing result.outcome → D.tells → (held : List (Option Observation)) → Holds Stands (D.state disk.old) held → Leaves Stands (D.state disk.old) (D.state disk.new) held }
     ensures unchanged { ChangesNothing result.outcome → D.tells → IsSettled (reads (D.state disk.old)) (MayLeave (D.state disk.old)) → effective (reads (D.state disk.new)) ≡ effective (reads (D.state disk.old)) }
     ensures settled { D.tells → IsSettled (reads (D.state disk.old)) (MayLeave (D.state disk.old)) → IsSettled (reads (D.state disk.new)) (MayLeave (D.state disk.new)) }
     ensures others { D.tells → IsSettled (reads (D.state disk.old)) (MayLeave (D.state disk.old)) → OthersSame (effective (reads (D.state disk.old))) (effective (reads (D.state disk.new))) }
-    ensures later { D.faults disk.old ≤ D.faults disk.new }
+    ensures site { S.tells → S.state site.new ≡ S.state site.old }
+    ensures disk_faults { D.faults disk.old ≤ D.faults disk.new }
+    ensures site_faults { S.faults site.old ≤ S.faults site.new }
 {
-    match make_project(alloc, request, disk) {
-        Ok(reply) => Reply::of(Outcome::Done, reply),
-        Err(MakeError::Exists) => refused(alloc, Refusal::ProjectExists),
-        Err(MakeError::Damaged(name)) => damaged(alloc, name),
-        Err(MakeError::DiskFault) => Reply::bare(alloc, Outcome::DiskFault),
-        Err(MakeError::Memory) => Reply::bare(alloc, Outcome::Memory),
+    let done = perform(alloc, disk, site, &request.command, &request.who, now, false);
+    told(alloc, done.outcome, done.reply)
+}
+
+// What is told of how a command ended.
+fn told(alloc: Global, outcome: Outcome, reply: Text) -> Reply
+    requires so { MayEnd outcome }
+    ensures outcome { (result.outcome ≡ outcome) ⊎ (result.outcome ≡ Outcome.Memory) × ChangesNothing outcome }
+    ensures text { IsMessage (λ text. text ≡ reply) result.outcome (message_text result.outcome result.text) }
+{
+    match outcome {
+        Outcome::Done => Reply::of(Outcome::Done, reply),
+        Outcome::Refused(refusal) => refused(alloc, refusal),
+        Outcome::Damaged(name) => damaged(alloc, name),
+        Outcome::DiskFault => Reply::bare(alloc, Outcome::DiskFault),
+        Outcome::SiteFault => Reply::bare(alloc, Outcome::SiteFault),
+        Outcome::Memory => Reply::bare(alloc, Outcome::Memory),
+        Outcome::RunFailed
+        | Outcome::BadWords(_)
+        | Outcome::BadScript(_)
+        | Outcome::SinkFault
+        | Outcome::SourceFault => unreachable!(),
     }
 }

@@ -1,4 +1,4 @@
-use Rattle.std.proofs.Common.{◌≡◌, ◌∙◌, true, refl, sym, ap, arith, map, string_bytes}
+use Rattle.std.proofs.Common.{rules, ◌≡◌, ◌∙◌, true, refl, sym, ap, arith, map, string_bytes}
 use Rattle.ae_base.specs.Bytes.{read_as}
 use Rattle.ae_base.specs.Names.{is_user}
 use Rattle.ae_session.specs.Request.{may_ask, bad_word, not_there}
@@ -11,7 +11,7 @@ returns-in-Err-Bad-clause-bad c = λ place is.
     let first = bad_answer (map string_bytes c.args.words.now) _ _ c.in-Err-Bad.field-0-is c.in-Err-Bad.ensures.answer in
     bad_word first.0 may first.1 (same_place _ _ _ is first.2)
 
-pub returns-in-None-clause-bad : goal.returns-in-None-clause-bad
-returns-in-None-clause-bad c = λ place is.
+pub returns-then-not-is_there_yet-clause-bad : goal.returns-then-not-is_there_yet-clause-bad
+returns-then-not-is_there_yet-clause-bad c = λ place is.
     let may : may_ask c.args.who.now c.args.now ≡ true = may_is c.args.who.now _ _ c.args.now (c.in_ok-who.ensures ∙ ap (read_as is_user) c.as_bytes.ensures.value) c.in-Some.is (omega (arith, c.if-now-gt-LAST_MOMENT)) in
-    not_there c.in-Ok.command may c.in-Ok.ensures.answer (sym c.in-None.ensures) (same_place _ _ _ is refl)
+    not_there c.in-Ok.command may c.in-Ok.ensures.answer (search rules) (same_place _ _ _ is refl)

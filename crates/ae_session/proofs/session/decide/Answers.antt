@@ -1,40 +1,47 @@
-use Rattle.std.proofs.Common.{◌++◌, ◌∷◌, [], ℕ, List, Some, map, string_bytes, inl, inr, sym, ap, subst, Err}
-use Rattle.ae_store.specs.Records.{Stands}
-use Rattle.ae_types.specs.Observation.{Observation}
-use Rattle.ae_vault.specs.Kept.{Holds}
-use Rattle.ae_session.specs.Request.{Make}
-use Rattle.ae_session.specs.Answers.{bad_words, memory}
-use Rattle.ae_session.specs.NewProject.{new_project}
-use Rattle.ae_session.specs.Stops.{Leaves}
-use Rattle.ae_session.proofs.Asking.{asks_once, asks_or_bad}
-use Rattle.ae_session.proofs.Endings.{ends_for, message_on}
-use Rattle.ae_session.proofs.Stores.{still, same_project}
+use Rattle.std.proofs.Common.{◌≡◌, ◌++◌, ◌∷◌, [], ℕ, List, map, string_bytes, inl, inr, sym, ap, subst, Err}
+use Rattle.ae_outside.specs.Causes.{HasRisen}
+use Rattle.ae_outside.specs.State.{reads, MayLeave}
+use Rattle.ae_vault.specs.Commit.{IsSettled}
+use Rattle.ae_words.specs.declared.command.Command.{Command}
+use Rattle.ae_machine.specs.declared.verdict.Verdict.TheVariants.{Accept}
+use Rattle.ae_machine.specs.Legal.{verdict_after}
+use Rattle.ae_exec.specs.Seen.{occasion_at}
+use Rattle.ae_session.specs.Request.{AsksFor}
+use Rattle.ae_session.specs.Answers.{bad_words, performs_so, memory, Performs, IsReply}
+use Rattle.ae_session.proofs.Asking.{asks_once, asks_or_bad, said_by}
+use Rattle.ae_session.proofs.Endings.{message_on, still}
 use Rattle.ae_session.proofs.session.decide.Goals as goal
 
 pub returns-in-Ok-clause-ends : goal.returns-in-Ok-clause-ends
-returns-in-Ok-clause-ends g c = ends_for _ _ _ _ _ _ (c.in-Ok.request.name, c.in-Ok.ensures.asks) c.new_project.ensures.ends
+returns-in-Ok-clause-ends g c =
+    let start = g.D.Disk.state c.args.disk.now in
+    performs_so c.perform_it.result.outcome (c.in-Ok.request.command, c.in-Ok.ensures.asks, subst (λ (who : List ℕ). Performs g.D.Disk.tells (IsSettled (reads start) (MayLeave start)) g.S.Site.tells (reads start)
+      (occasion_at c.in-Ok.request.command who c.args.now (g.S.Site.state c.args.site.now)) (HasRisen (g.D.Disk.faults c.args.disk.now) (g.D.Disk.faults c.perform_it.new.disk)) (HasRisen (g.S.Site.faults c.args.site.now) (g.S.Site.faults c.perform_it.new.site)) c.perform_it.result.outcome)
+      c.in-Ok.ensures.who c.perform_it.ensures.ends)
 
 pub returns-in-Ok-clause-text : goal.returns-in-Ok-clause-text
-returns-in-Ok-clause-text g c = message_on _ _ _ _ (λ name is. subst (λ (n : List ℕ). Make (map string_bytes c.args.words.now) n) (sym is) c.in-Ok.ensures.asks.makes) c.new_project.ensures.text
+returns-in-Ok-clause-text g c =
+    let start = g.D.Disk.state c.args.disk.now in
+    message_on (λ (text : List ℕ). IsReply g.D.Disk.tells (IsSettled (reads start) (MayLeave start)) g.S.Site.tells (reads start) (occasion_at c.in-Ok.request.command c.in-Ok.request.who c.args.now (g.S.Site.state c.args.site.now)) text)
+    (λ (text : List ℕ). (command : Command) × AsksFor (map string_bytes c.args.words.now) c.args.who.now c.args.now command × IsReply g.D.Disk.tells (IsSettled (reads start) (MayLeave start)) g.S.Site.tells (reads start) (occasion_at command c.args.who.now c.args.now (g.S.Site.state c.args.site.now)) text) _ _
+    (λ done text is. (c.in-Ok.request.command, c.in-Ok.ensures.asks, subst (λ (who : List ℕ). IsReply g.D.Disk.tells (IsSettled (reads start) (MayLeave start)) g.S.Site.tells (reads start) (occasion_at c.in-Ok.request.command who c.args.now (g.S.Site.state c.args.site.now)) text) c.in-Ok.ensures.who is))
+    c.perform_it.ensures.text
 
 pub returns-in-Ok-clause-not_called : goal.returns-in-Ok-clause-not_called
-returns-in-Ok-clause-not_called g c = λ place bad. absurd (asks_or_bad _ _ _ _ place c.in-Ok.ensures.asks bad)
+returns-in-Ok-clause-not_called g c = λ place bad. absurd (asks_or_bad _ _ _ place _ c.in-Ok.ensures.asks bad)
 
 pub returns-in-Ok-clause-left : goal.returns-in-Ok-clause-left
-returns-in-Ok-clause-left g c = λ tells logs name asks holds.
-    let start = g.D.Disk.state c.args.disk.now in
-    let end = g.D.Disk.state c.new_project.new.disk in
-    same_project (λ (o : Observation). Leaves Stands start end (logs ++ Some o ∷ [])) _ name _ c.args.who.now (asks_once _ _ _ _ _ c.in-Ok.ensures.asks asks) c.in-Ok.ensures.who
-    (c.new_project.ensures.left tells logs holds)
+returns-in-Ok-clause-left g c = λ tells shown command held log events asks holds stands legal accepted.
+    c.perform_it.ensures.left tells shown held log events holds stands legal
+    (said_by (λ (said : Command) (who : List ℕ). verdict_after log (occasion_at said who c.args.now (g.S.Site.state c.args.site.now)) ≡ Accept events) command _ _ _ (asks_once _ _ _ _ _ asks c.in-Ok.ensures.asks) (sym c.in-Ok.ensures.who) accepted)
 
 pub returns-in-Ok-clause-made : goal.returns-in-Ok-clause-made
-returns-in-Ok-clause-made g c = λ done tells logs name asks holds.
-    let end = g.D.Disk.state c.new_project.new.disk in
-    same_project (λ (o : Observation). Holds Stands end (Some o ∷ [])) _ name _ c.args.who.now (asks_once _ _ _ _ _ c.in-Ok.ensures.asks asks) c.in-Ok.ensures.who
-    (c.new_project.ensures.made done tells logs holds)
+returns-in-Ok-clause-made g c = λ done tells shown command held log events asks holds stands legal accepted.
+    c.perform_it.ensures.made done tells shown held log events holds stands legal
+    (said_by (λ (said : Command) (who : List ℕ). verdict_after log (occasion_at said who c.args.now (g.S.Site.state c.args.site.now)) ≡ Accept events) command _ _ _ (asks_once _ _ _ _ _ asks c.in-Ok.ensures.asks) (sym c.in-Ok.ensures.who) accepted)
 
 pub returns-in-Err-Bad-clause-text : goal.returns-in-Err-Bad-clause-text
-returns-in-Err-Bad-clause-text g c = message_on _ _ _ _ (λ name none. absurd none) c.bad_words.ensures.text
+returns-in-Err-Bad-clause-text g c = message_on _ _ _ _ (λ done text none. absurd none) c.bad_words.ensures.text
 
 pub returns-in-Err-Bad-clause-ends : goal.returns-in-Err-Bad-clause-ends
 returns-in-Err-Bad-clause-ends g c = elim c.bad_words.ensures.outcome [
@@ -43,10 +50,11 @@ returns-in-Err-Bad-clause-ends g c = elim c.bad_words.ensures.outcome [
 ]
 
 pub returns-in-Err-Bad-clause-left : goal.returns-in-Err-Bad-clause-left
-returns-in-Err-Bad-clause-left g c = λ tells logs name asks holds. still _ logs _ holds
+returns-in-Err-Bad-clause-left g c = λ tells shown command held log events asks holds stands legal accepted.
+    absurd (asks_or_bad _ _ _ _ _ asks (c.in-Err-Bad.ensures.bad c.in-Err-Bad.place (ap Err c.in-Err-Bad.field-0-is)))
 
 pub returns-in-Err-Memory-clause-ends : goal.returns-in-Err-Memory-clause-ends
 returns-in-Err-Memory-clause-ends g c = rw c.bare.ensures.outcome memory
 
 pub returns-in-Err-Memory-clause-left : goal.returns-in-Err-Memory-clause-left
-returns-in-Err-Memory-clause-left g c = λ tells logs name asks holds. still _ logs _ holds
+returns-in-Err-Memory-clause-left g c = λ tells shown command held log events asks holds stands legal accepted. still _ held _ holds

@@ -1,0 +1,186 @@
+-- What follows of an answer to a command.
+use Rattle.std.specs.Prelude.{◌≡◌, ◌⊎◌, ℕ, true, false, Bool, List, [], ◌∷◌, map, Option, Some, None, All, IfSome, IsSome, IsSomeAnd, is_some, if◌then◌else◌, Result, Ok, Err, IfOk}
+use Rattle.std.proofs.Common.{inl, inr, refl, sym, ap, subst, ◌∙◌}
+use Rattle.std.proofs.lemmas.List.Elements.{All-nil, All-cons, All-map, All-same, All-tail}
+use Rattle.ae_base.specs.declared.refusal.Refusal.{Refusal}
+use Rattle.ae_outside.specs.Image.{Image}
+use Rattle.ae_vault.specs.Vault.{effective, content_of, put}
+use Rattle.ae_vault.specs.Batch.{BatchRecord}
+use Rattle.ae_store.specs.Records.{Stands, StandsFor, nothing, records}
+use Rattle.ae_store.specs.Changed.{entry_for}
+use Rattle.ae_types.specs.Observation.{Observation}
+use Rattle.ae_types.specs.Sound.{Sound}
+use Rattle.ae_log.specs.declared.event.Event.{Event}
+use Rattle.ae_log.specs.declared.event.EventKind.{EventKind}
+use Rattle.ae_log.specs.After.{started, after, after_all}
+use Rattle.ae_log.specs.Applies.{MayApply}
+use Rattle.ae_log.proofs.Keeping.{keeps, may-be-applied}
+use Rattle.ae_log.specs.Files.{version_bytes}
+use Rattle.ae_log.specs.Log.{Log, followed}
+use Rattle.ae_log.specs.Observed.{observation}
+use Rattle.ae_machine.specs.declared.verdict.Verdict.{Verdict}
+use Rattle.ae_machine.specs.declared.verdict.Verdict.TheVariants.{Accept, Refuse}
+use Rattle.ae_machine.specs.Accepted.{AppliesAll, AreStart, IsDecided, decided}
+use Rattle.ae_machine.specs.Call.{Given, given_of, first_of}
+use Rattle.ae_machine.specs.Legal.{Legal, Occasion, verdict_after}
+use Rattle.ae_machine.specs.Space.{placing}
+use Rattle.ae_machine.specs.There.{is_there_yet}
+use Rattle.std.specs.Option.{option_or}
+use Rattle.ae_base.specs.declared.refusal.Refusal.TheVariants.{NoProject, ProjectExists}
+use Rattle.ae_words.specs.declared.command.Command.{Command}
+use Rattle.ae_machine.specs.declared.view.View.{View}
+use Rattle.ae_machine.specs.Verdict.{verdict_on, answer, refusal, refusal_before, refused_before, asked_of_sight, new_project, events_of, event_of, kinds_of, is_new_project, change_of_events}
+use Rattle.ae_exec.specs.Next.{next_of, MayBegin, MayFollow, AreMade, IfAccepted, IsComplete}
+use Rattle.ae_exec.specs.Plan.{IsPlanned, IsStep}
+use Rattle.ae_exec.specs.Seen.{IsAnswer, occasion_of}
+use Rattle.ae_exec.specs.Said.{is_made}
+use Rattle.ae_exec.proofs.Accepting.{accepted-apply, accepted-starts, accepted-follow, first-follow, legal-stands}
+use Rattle.ae_exec.proofs.MadeKinds.{Made, project-made, kinds-made}
+use Rattle.ae_exec.proofs.Numbered.{complete}
+use Rattle.ae_exec.proofs.Stores.{one}
+
+-- ---- the events of an accepted command
+
+no_bytes : ℕ → List ℕ
+no_bytes number = []
+
+may-begin : (events : List Event) → AreStart events → MayBegin events
+may-begin events start = subst MayBegin (sym start.only) start.starts
+
+pub may-follow : (o : Option Observation) (occasion : Occasion) (v : Verdict) → IfSome o Sound → IsDecided occasion → IsAnswer o occasion v → IfAccepted v (MayFollow o)
+may-follow None occasion (Accept events) sound is answers = may-begin events (accepted-starts no_bytes occasion events (answers no_bytes))
+may-follow (Some o) occasion (Accept events) sound is answers = accepted-apply o no_bytes occasion events sound is (answers no_bytes)
+may-follow o occasion (Refuse refusal) sound is answers = tt
+
+-- ---- they are of the kinds that are made so far
+
+start-made : (events : List Event) → AreStart events → AreMade events
+start-made events start =
+    All-same (λ (event : Event). is_made event.what ≡ true) events (start.event ∷ []) start.only
+    (All-cons (λ (event : Event). is_made event.what ≡ true) start.event [] (project-made start.event.what start.starts.project) (All-nil (λ (event : Event). is_made event.what ≡ true)))
+
+-- the events of a command that isn't refused
+accepted-are : (why : Option Refusal) (made events : List Event) → answer why made ≡ Accept events → events ≡ made
+accepted-are None made events is = cc
+accepted-are (Some refusal) made events is = cc
+
+behind : (new : Bool) (given : Given) (events : List Event) (refusal : Refusal) → (if new then Refuse refusal else verdict_on given) ≡ Accept events → events ≡ events_of given
+behind true given events refusal is = cc
+behind false given events why is = accepted-are (refusal given) (events_of given) events is
+
+events-made : (given : Given) → is_there_yet given.call.command.function ≡ true → AreMade (events_of given)
+events-made given there =
+    All-map (λ (event : Event). is_made event.what ≡ true) (event_of given.call.who given.when (change_of_events given.call.command.function given.call)) (kinds_of given.call.command.function given)
+    (kinds-made given.call.command.function given there)
+
+pub all-made : (o : Option Observation) (occasion : Occasion) (v : Verdict) → IsDecided occasion → IsAnswer o occasion v → IfAccepted v AreMade
+all-made None occasion (Accept events) is answers = start-made events (accepted-starts no_bytes occasion events (answers no_bytes))
+all-made (Some o) occasion (Accept events) is answers =
+    let given = given_of placing o no_bytes occasion.command occasion.who occasion.when occasion.view in
+    All-same (λ (event : Event). is_made event.what ≡ true) events (events_of given) (behind (is_new_project occasion.command.function) given events _ (answers no_bytes))
+    (events-made given is.there)
+all-made o occasion (Refuse refusal) is answers = tt
+
+-- ---- the refusal that comes before reading
+
+first_on : (b : Bool) (given : Given) (refusal : Refusal) → (if b then Some ProjectExists else refusal_before given.call) ≡ Some refusal → (if b then Refuse ProjectExists else verdict_on given) ≡ Refuse refusal
+first_on true given refusal is = cc
+first_on false given refusal is = ap (λ (why : Option Refusal). answer (option_or why (first_of (asked_of_sight given.call.command.function) given)) (events_of given)) is
+
+first_on_none : (b : Bool) (v : Verdict) (refusal : Refusal) → (if b then None else Some NoProject) ≡ Some refusal → (if b then v else Refuse NoProject) ≡ Refuse refusal
+first_on_none true v refusal is = cc
+first_on_none false v refusal is = cc
+
+pub refused_first : (o : Option Observation) (occasion : Occasion) (refusal : Refusal) → refused_before o occasion.command occasion.who ≡ Some refusal → IsAnswer o occasion (Refuse refusal)
+refused_first None occasion refusal is bytes = first_on_none (is_new_project occasion.command.function) (new_project occasion.command occasion.who occasion.when occasion.view) refusal is
+refused_first (Some o) occasion refusal is bytes = first_on (is_new_project occasion.command.function) (given_of placing o bytes occasion.command occasion.who occasion.when occasion.view) refusal is
+
+-- ---- from the answers of calls
+
+-- the answer with an equal view
+pub same_answer : (o : Option Observation) (command : Command) (who : List ℕ) (when : ℕ) (view other : View) (v w : Verdict) → view ≡ other → v ≡ w → IsAnswer o (occasion_of command who when view) v → IsAnswer o (occasion_of command who when other) w
+same_answer o command who when view other v w same_view same_v answers =
+    subst (λ (x : Verdict). IsAnswer o (occasion_of command who when other) x) same_v (subst (λ (x : View). IsAnswer o (occasion_of command who when x) v) same_view answers)
+
+pub if_answered : {E : Type 0} (result : Result Verdict E) (f : (ℕ → List ℕ) → Verdict) → ((bytes : ℕ → List ℕ) → IfOk result (λ v. v ≡ f bytes)) → IfOk result (λ v. (bytes : ℕ → List ℕ) → f bytes ≡ v)
+if_answered (Ok v) f is = λ bytes. sym (is bytes)
+if_answered (Err error) f is = tt
+
+-- one event more is applied
+pub one_more : (o next : Observation) (events rest : List Event) (event : Event) (end : Observation) → events ≡ event ∷ rest → next ≡ after o event
+    → (after_all o events ≡ end) × AppliesAll o events × AreMade events × Sound o → (after_all next rest ≡ end) × AppliesAll next rest × AreMade rest × Sound next
+one_more o next events rest event end is made so_far =
+    let applies : AppliesAll o (event ∷ rest) = subst (λ (es : List Event). AppliesAll o es) is so_far.1 in
+    let all : after_all o (event ∷ rest) ≡ end = subst (λ (es : List Event). after_all o es ≡ end) is so_far.0 in
+    let are : AreMade (event ∷ rest) = subst AreMade is so_far.2 in
+    (subst (λ (n : Observation). after_all n rest ≡ end) (sym made) all,
+    subst (λ (n : Observation). AppliesAll n rest) (sym made) applies.1,
+    All-tail (λ (e : Event). is_made e.what ≡ true) event rest are,
+    subst Sound (sym made) (keeps o event so_far.3 applies.0))
+
+-- the first of these events may be applied
+pub may_apply : (o : Observation) (events rest : List Event) (event : Event) → events ≡ event ∷ rest → AppliesAll o events → Sound o → MayApply o event
+may_apply o events rest event is applies sound =
+    let here : AppliesAll o (event ∷ rest) = subst (λ (es : List Event). AppliesAll o es) is applies in
+    may-be-applied o event sound here.0
+
+pub step_made : {E : Type 0} (result : Result BatchRecord E) (old : Option Observation) (events : List Event) (next : Observation) → next_of old events ≡ Some next → IfOk result (λ batch. batch.pieces ≡ [])
+    → IfOk result (λ batch. (name : List ℕ) → content_of batch.entries name ≡ entry_for old next name)
+    → IfOk result (λ batch. (files : Image) → IsComplete next → StandsFor files old → StandsFor (put batch.entries files) (Some next))
+    → IfOk result (λ batch. (x : Observation) × (next_of old events ≡ Some x) × IsStep old x batch)
+step_made (Ok batch) old events next is pieces entries stands = (next, is, record { pieces = pieces; entries = entries; stands = stands })
+step_made (Err error) old events next is pieces entries stands = tt
+
+-- ---- what stands after a log
+
+-- an observation that files stand for keeps the rules
+sound-for : (files : Image) (o : Option Observation) → StandsFor files o → IfSome o Sound
+sound-for files _ (nothing is) = tt
+sound-for files _ (records o are sound) = sound
+
+sound-of : (a : Option Image) (o : Option Observation) → IsSomeAnd a (λ files. StandsFor files o) → IfSome o Sound
+sound-of (Some files) o stands = sound-for files o stands
+sound-of None o stands = absurd stands
+
+pub sound-at : (image : Image) (o : Option Observation) → Stands image o → IfSome o Sound
+sound-at image o stands = sound-of (effective image) o stands
+
+-- where the log shows nothing it is empty
+follow-nothing : (log : Log) (occasion : Occasion) (events : List Event) (next : Observation) → observation log ≡ None → (log ≡ []) ⊎ IsSome (observation log)
+    → verdict_after log occasion ≡ Accept events → next_of None events ≡ Some next → observation (followed log events) ≡ Some next
+follow-nothing log occasion events next none (inl empty) accepted follows =
+    let first = first-follow (version_bytes []) occasion events (subst (λ (l : Log). verdict_after l occasion ≡ Accept events) empty accepted) in
+    let started_is : started first.start.event ≡ next_of None events = sym (ap (λ (made : List Event). next_of None made) first.start.only) in
+    ap (λ (l : Log). observation (followed l events)) empty ∙ (first.stands ∙ (started_is ∙ follows))
+follow-nothing log occasion events next none (inr there) accepted follows = absurd (let both : true ≡ false = sym there ∙ ap (λ (x : Option Observation). is_some x) none in cc)
+
+follow-by : (x : Option Observation) (log : Log) (occasion : Occasion) (events : List Event) (next : Observation) → observation log ≡ x → IfSome x Sound → Legal log → IsDecided occasion
+    → verdict_after log occasion ≡ Accept events → next_of x events ≡ Some next → observation (followed log events) ≡ Some next
+follow-by None log occasion events next stands sound legal is accepted follows = follow-nothing log occasion events next stands (legal-stands log legal) accepted follows
+follow-by (Some o) log occasion events next stands sound legal is accepted follows =
+    (accepted-follow log o (version_bytes log) occasion events stands sound is (ap (λ (x : Option Observation). decided x (version_bytes log) occasion) (sym stands) ∙ accepted)).stands ∙ follows
+
+-- ---- what a command that is planned makes of a log
+
+-- the answer after a log that the files stand for
+pub answer-after : (image : Image) (log : Log) (o : Option Observation) (occasion : Occasion) (v : Verdict) → Stands image o → Stands image (observation log) → IsAnswer o occasion v → verdict_after log occasion ≡ v
+answer-after image log o occasion v stands log_stands answers =
+    subst (λ (x : Option Observation). decided x (version_bytes log) occasion ≡ v) (one image o (observation log) stands log_stands) (answers (version_bytes log))
+
+module _ (image : Image) (told : Type 0) (o : Option Observation) (occasion : Occasion) (status : Bool) (batch : BatchRecord) (said : List ℕ) (plan : IsPlanned told o occasion status batch said) where
+  same-events : (log : Log) (events : List Event) → told → Stands image o → Stands image (observation log) → verdict_after log occasion ≡ Accept events → plan.events ≡ events
+  same-events log events tells stands log_stands accepted =
+      let answered : verdict_after log occasion ≡ Accept plan.events = answer-after image log o occasion (Accept plan.events) stands log_stands (plan.accepted tells) in
+      let same : Accept plan.events ≡ Accept events = sym answered ∙ accepted in
+      cc
+
+  pub planned-follows : (log : Log) (events : List Event) → told → Stands image o → Stands image (observation log) → Legal log → IsDecided occasion → verdict_after log occasion ≡ Accept events
+      → observation (followed log events) ≡ Some plan.made.next
+  planned-follows log events tells stands log_stands legal is accepted =
+      let same_stands : o ≡ observation log = one image o (observation log) stands log_stands in
+      let same : plan.events ≡ events = same-events log events tells stands log_stands accepted in
+      let follows : next_of (observation log) events ≡ Some plan.made.next = subst (λ (x : Option Observation). next_of x events ≡ Some plan.made.next) same_stands (subst (λ (es : List Event). next_of o es ≡ Some plan.made.next) same plan.made.follows) in
+      follow-by (observation log) log occasion events plan.made.next refl (sound-at image (observation log) log_stands) legal is accepted follows
+
+  pub planned-complete : (log : Log) (events : List Event) → observation (followed log events) ≡ Some plan.made.next → IsComplete plan.made.next
+  planned-complete log events is = complete (followed log events) plan.made.next is

@@ -1,0 +1,12 @@
+pub mod Held
+pub mod Leaving
+pub mod Putting
+pub mod Stores
+pub mod Accepting
+pub mod MadeKinds
+pub mod Numbered
+pub mod Following
+pub mod Endings
+pub mod Attempting
+pub mod Lines
+pub mod Legally

@@ -1,0 +1,7 @@
+use Rattle.std.specs.Prelude.{option_copied}
+use Rattle.ae_machine.specs.Replies.{event_line}
+use Rattle.ae_exec.proofs.Lines.{one_line}
+use Rattle.ae_exec.proofs.reply.lines.Goals as goal
+
+pub loop-event-preserved : goal.loop-event-preserved
+loop-event-preserved c = one_line (event_line (option_copied c.args.old)) c.args.events.now _ _ _ _ c.loop-event-test.true c.event-item.is c.loop-event.invariant c.in_ok-put_line.ensures

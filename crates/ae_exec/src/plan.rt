@@ -1,0 +1,180 @@
+// What is put and what is said of a command, made ready before anything is changed.
+ghost use Rattle.std.specs.Prelude.{◌≡◌, ◌≤◌, true, Option, Some, None, IfOk, IfErr, option_copied};
+ghost use Rattle.ae_outside.specs.Causes.{HasRisen};
+ghost use Rattle.ae_outside.specs.Image.{IsSame};
+ghost use Rattle.ae_outside.specs.State.{reads, GoesOn};
+ghost use Rattle.ae_store.specs.Records.{Stands};
+ghost use Rattle.ae_types.specs.Observation.{Observation};
+ghost use Rattle.ae_vault.specs.Commit.{IsClean};
+ghost use Rattle.ae_words.specs.Formed.{IsFormed};
+ghost use Rattle.ae_machine.specs.declared.verdict.Verdict.TheVariants.{Refuse};
+ghost use Rattle.ae_machine.specs.There.{is_there_yet};
+ghost use Rattle.ae_exec.specs.Endings.{EndsAs, IsDamagedAt, outcome_of_stop};
+ghost use Rattle.ae_exec.specs.Next.{MayFollow, AreMade, IfAccepted, next_of};
+ghost use Rattle.ae_exec.specs.Plan.{IsStep, IsMade, IsPlanned, IsAnsweredAt};
+ghost use Rattle.ae_exec.specs.Seen.{IsAnswer, occasion_at, occasion_of};
+
+use crate::load::load_state;
+use crate::next::next_state;
+use crate::reply::reply;
+use crate::sight::look;
+use crate::stop::Stop;
+use ae_base::{Text, User};
+use ae_log::EventList;
+use ae_machine::{Verdict, View, before, decide};
+use ae_outside::{Disk, Site};
+use ae_store::batch;
+use ae_types::State;
+use ae_vault::{Batch, PieceList};
+use ae_words::Command;
+use std::alloc::{AllocError, Global};
+
+/// The files that are put, and the reply.
+#[derive(Drop)]
+pub struct Plan {
+    pub batch: Batch,
+    pub reply: Text,
+}
+
+// The batch that takes the files to what stands after the events.
+fn next_batch(
+    alloc: Global,
+    old: Option<&State>,
+    events: EventList,
+) -> Result<Batch, AllocError>
+    requires follow { MayFollow (option_copied old) events }
+    requires made { AreMade events }
+    ensures { IfOk result (λ batch. (next : Observation) × (next_of (option_copied old.entry) events ≡ Some next) × IsStep (option_copied old.entry) next batch) }
+{
+    let new = next_state(alloc, old, events)?;
+    batch(alloc, old, &new, PieceList::new(alloc))
+}
+
+// The batch and the reply of events.
+fn prepare(
+    alloc: Global,
+    old: Option<&State>,
+    events: EventList,
+    status_line: bool,
+) -> Result<Plan, AllocError>
+    requires follow { MayFollow (option_copied old) events }
+    requires made { AreMade events }
+    ensures { IfOk result (λ plan. IsMade (option_copied old.entry) status_line events plan.batch plan.reply) }
+{
+    let reply = reply(alloc, old, &events, status_line)?;
+    let batch = next_batch(alloc, old, events)?;
+    Ok(Plan { batch, reply })
+}
+
+// The answer to the command with this view, where a project stands.
+fn answer_on(
+    alloc: Global,
+    state: &State,
+    command: &Command,
+    who: &User,
+    now: u64,
+    view: &View,
+) -> Result<Verdict, AllocError>
+    requires formed { IsFormed command.now }
+    requires there { is_there_yet command.now.function ≡ true }
+    requires moment { now ≤ 4102444799 }
+    ensures is { IfOk result (λ answer. IsAnswer (Some state.now) (occasion_of command.now who.now now view.now) answer) }
+    ensures follow { IfOk result (λ answer. IfAccepted answer (MayFollow (Some state.now))) }
+    ensures made { IfOk result (λ answer. IfAccepted answer AreMade) }
+{
+    let _project = state.project();
+    decide(alloc, Some(state), command, who, now, view)
+}
+
+// The same, where none stands.
+fn first_answer(
+    alloc: Global,
+    command: &Command,
+    who: &User,
+    now: u64,
+    view: &View,
+) -> Result<Verdict, AllocError>
+    requires formed { IsFormed command.now }
+    requires there { is_there_yet command.now.function ≡ true }
+    requires moment { now ≤ 4102444799 }
+    ensures is { IfOk result (λ answer. IsAnswer None (occasion_of command.now who.now now view.now) answer) }
+    ensures follow { IfOk result (λ answer. IfAccepted answer (MayFollow None)) }
+    ensures made { IfOk result (λ answer. IfAccepted answer AreMade) }
+{
+    decide(alloc, None, command, who, now, view)
+}
+
+// The answer to the command with this view.
+fn answer(
+    alloc: Global,
+    old: Option<&State>,
+    command: &Command,
+    who: &User,
+    now: u64,
+    view: &View,
+) -> Result<Verdict, AllocError>
+    requires formed { IsFormed command.now }
+    requires there { is_there_yet command.now.function ≡ true }
+    requires moment { now ≤ 4102444799 }
+    ensures is { IfOk result (λ answer. IsAnswer (option_copied old.entry) (occasion_of command.now who.now now view.now) answer) }
+    ensures follow { IfOk result (λ answer. IfAccepted answer (MayFollow (option_copied old.entry))) }
+    ensures made { IfOk result (λ answer. IfAccepted answer AreMade) }
+{
+    match old {
+        Some(state) => answer_on(alloc, state, command, who, now, view),
+        None => first_answer(alloc, command, who, now, view),
+    }
+}
+
+// What is put and said of the command, where this stands.
+fn plan_on<S: Site>(
+    alloc: Global,
+    old: Option<&State>,
+    site: &mut S,
+    command: &Command,
+    who: &User,
+    now: u64,
+    status_line: bool,
+) -> Result<Plan, Stop>
+    requires formed { IsFormed command.now }
+    requires there { is_there_yet command.now.function ≡ true }
+    requires moment { now ≤ 4102444799 }
+    ensures planned { IfOk result (λ plan. IsPlanned S.tells (option_copied old.entry) (occasion_at command.now who.now now (S.state site.old)) status_line plan.batch plan.reply) }
+    ensures stopped { IfErr result (λ stop. EndsAs ⊥ (λ refusal. S.tells → IsAnswer (option_copied old.entry) (occasion_at command.now who.now now (S.state site.old)) (Refuse refusal)) (λ name. ⊥) ⊥ (HasRisen (S.faults site.old) (S.faults site.new)) (outcome_of_stop stop)) }
+    ensures same { S.tells → S.state site.new ≡ S.state site.old }
+    ensures later { S.faults site.old ≤ S.faults site.new }
+{
+    if let Some(refusal) = before(alloc, old, command, who, now)? {
+        return Err(Stop::Refused(refusal));
+    }
+    let view = look(alloc, site, command.attributes.as_ref())?;
+    match answer(alloc, old, command, who, now, &view)? {
+        Verdict::Accept(events) => Ok(prepare(alloc, old, events, status_line)?),
+        Verdict::Refuse(refusal) => Err(Stop::Refused(refusal)),
+    }
+}
+
+/// What is put and said of the command, where the files of a clean disk stand.
+pub(crate) fn make_plan<D: Disk, S: Site>(
+    alloc: Global,
+    disk: &mut D,
+    site: &mut S,
+    command: &Command,
+    who: &User,
+    now: u64,
+    status_line: bool,
+) -> Result<Plan, Stop>
+    requires clean { D.tells → IsClean (D.state disk.old) }
+    requires formed { IsFormed command.now }
+    requires there { is_there_yet command.now.function ≡ true }
+    requires moment { now ≤ 4102444799 }
+    ensures planned { IfOk result (λ plan. (o : Option Observation) × (D.tells → Stands (reads (D.state disk.old)) o) × IsPlanned S.tells o (occasion_at command.now who.now now (S.state site.old)) status_line plan.batch plan.reply) }
+    ensures stopped { IfErr result (λ stop. EndsAs ⊥ (λ refusal. D.tells → S.tells → IsAnsweredAt (reads (D.state disk.old)) (occasion_at command.now who.now now (S.state site.old)) (Refuse refusal)) (λ name. D.tells → IsDamagedAt (reads (D.state disk.old)) name) (HasRisen (D.faults disk.old) (D.faults disk.new)) (HasRisen (S.faults site.old) (S.faults site.new)) (outcome_of_stop stop)) }
+    ensures same { D.tells → GoesOn IsSame (D.state disk.old) (D.state disk.new) }
+    ensures site { S.tells → S.state site.new ≡ S.state site.old }
+    ensures disk_later { D.faults disk.old ≤ D.faults disk.new }
+    ensures site_later { S.faults site.old ≤ S.faults site.new }
+{
+    let state = load_state(alloc, disk)?;
+    plan_on(alloc, state.as_ref(), site, command, who, now, status_line)
+}
