@@ -1,6 +1,9 @@
 // A project is made, once.
 use super::*;
-use ae_outside::{Disk, MemDisk, MemRunList, MemSink, MemSite, MemSource, Pick, ReadError};
+use ae_base::Path;
+use ae_outside::{
+    Dir, Disk, MemDisk, MemRunList, MemSink, MemSite, MemSource, Pick, ReadError, Site,
+};
 use ae_vault::Vault;
 use std::alloc::{AllocError, Global};
 use std::process::Abort;
@@ -155,7 +158,7 @@ fn bad_words_are_told_by_their_place(rt: HostRuntime) -> Result<(), Fail> {
 
 #[test]
 fn a_command_that_is_not_there_yet_is_bad_at_its_function(rt: HostRuntime) -> Result<(), Fail> {
-    for line in ["-na alice", "-npr demo -f attributes", "-l locks"] {
+    for line in ["-db -c 10", "-scr", "-l locks"] {
         is_told(&rt, rt.alloc(), line, "1")?;
     }
     Ok(())
@@ -205,6 +208,60 @@ fn a_reply_that_cannot_be_written_is_a_sink_fault(rt: HostRuntime) -> Result<(),
     let mut world = make_world(alloc, &[], &[1])?;
     assert_eq!(rt; status_of_demo(alloc, &mut world)?, 5);
     assert_eq!(rt; project_in(alloc, &mut world.disk)?.as_slice(), PROJECT);
+    Ok(())
+}
+
+// A call by alice with this line's words has this status.
+fn is_status(
+    rt: &impl Abort,
+    alloc: Global,
+    world: &mut World,
+    line: &str,
+    status: u8,
+) -> Result<(), Fail> {
+    let mut said = Vec::new(alloc);
+    for word in line.split(' ') {
+        said.push(word)?;
+    }
+    assert_eq!(rt; status_of(alloc, world, said.as_slice(), "alice", 1_000_000_000)?, status);
+    Ok(())
+}
+
+#[test]
+fn roles_are_given_and_refused(rt: HostRuntime) -> Result<(), Fail> {
+    let alloc = rt.alloc();
+    let mut world = make_world(alloc, &[], &[])?;
+    is_status(&rt, alloc, &mut world, "-npr demo", 0)?;
+    is_status(&rt, alloc, &mut world, "-nd bob", 0)?;
+    is_status(&rt, alloc, &mut world, "-nd bob", 1)?;
+    is_status(&rt, alloc, &mut world, "-ra alice", 1)?;
+    is_status(&rt, alloc, &mut world, "-nrv carol -p other", 1)?;
+    let told = b"aegis: project \"demo\": created\naegis: project \"demo\": developer \"bob\" added\naegis: 16: user bob has that role\naegis: 18: the last administrator stays\naegis: 3: that is not this project\n";
+    assert_eq!(rt; world.err.taken(), told.as_slice());
+    Ok(())
+}
+
+#[test]
+fn a_change_is_made_undone_and_made_again(rt: HostRuntime) -> Result<(), Fail> {
+    let alloc = rt.alloc();
+    let mut world = make_world(alloc, &[], &[])?;
+    is_status(&rt, alloc, &mut world, "-npr demo", 0)?;
+    is_status(&rt, alloc, &mut world, "-nc -f c.attr", 1)?;
+    put_attributes(alloc, &mut world.site)?;
+    is_status(&rt, alloc, &mut world, "-nc -f c.attr", 0)?;
+    is_status(&rt, alloc, &mut world, "-ncu -c 10", 0)?;
+    is_status(&rt, alloc, &mut world, "-nc -f c.attr", 0)?;
+    let told = b"aegis: project \"demo\": created\naegis: 40: there is no file \"c.attr\"\naegis: project \"demo\": change 10: created\naegis: project \"demo\": change 10: removed\naegis: project \"demo\": change 10: created\n";
+    assert_eq!(rt; world.err.taken(), told.as_slice());
+    Ok(())
+}
+
+// The directories get the file `c.attr`, with a brief description.
+fn put_attributes(alloc: Global, site: &mut MemSite) -> Result<(), Fail> {
+    let Some(path) = Path::read(alloc, b"c.attr")? else {
+        return Err(Fail::from("no path"));
+    };
+    site.write(Dir::Here, &path, b"brief_description = \"first\";\n")?;
     Ok(())
 }
 
