@@ -34,7 +34,8 @@ use Rattle.ae_exec.specs.Next.{next_of, MayBegin, MayFollow, AreMade, IfAccepted
 use Rattle.ae_exec.specs.Plan.{IsPlanned, IsStep}
 use Rattle.ae_exec.specs.Seen.{IsAnswer, occasion_of}
 use Rattle.ae_exec.specs.Said.{is_made}
-use Rattle.ae_exec.proofs.Accepting.{accepted-apply, accepted-starts, accepted-follow, first-follow, legal-stands}
+use Rattle.ae_machine.proofs.Accepted.{accepted-apply}
+use Rattle.ae_machine.proofs.AcceptedLogs.{accepted-starts, accepted-follow, first-follow, legal-stands}
 use Rattle.ae_exec.proofs.MadeKinds.{Made, project-made, kinds-made}
 use Rattle.ae_exec.proofs.Numbered.{complete}
 use Rattle.ae_exec.proofs.Stores.{one}
@@ -112,11 +113,12 @@ pub one_more : (o next : Observation) (events rest : List Event) (event : Event)
 one_more o next events rest event end is made so_far =
     let applies : AppliesAll o (event ∷ rest) = subst (λ (es : List Event). AppliesAll o es) is so_far.1 in
     let all : after_all o (event ∷ rest) ≡ end = subst (λ (es : List Event). after_all o es ≡ end) is so_far.0 in
-    let are : AreMade (event ∷ rest) = subst AreMade is so_far.2 in
-    (subst (λ (n : Observation). after_all n rest ≡ end) (sym made) all,
-    subst (λ (n : Observation). AppliesAll n rest) (sym made) applies.1,
-    All-tail (λ (e : Event). is_made e.what ≡ true) event rest are,
-    subst Sound (sym made) (keeps o event so_far.3 applies.0))
+    let are : AreMade (event ∷ rest) = subst AreMade is so_far.2 in (
+      subst (λ (n : Observation). after_all n rest ≡ end) (sym made) all,
+      subst (λ (n : Observation). AppliesAll n rest) (sym made) applies.1,
+      All-tail (λ (e : Event). is_made e.what ≡ true) event rest are,
+      subst Sound (sym made) (keeps o event so_far.3 applies.0),
+    )
 
 -- the first of these events may be applied
 pub may_apply : (o : Observation) (events rest : List Event) (event : Event) → events ≡ event ∷ rest → AppliesAll o events → Sound o → MayApply o event

@@ -1,6 +1,7 @@
 -- The log after a command that is accepted is legal where the log before it is.
 use Rattle.std.specs.Prelude.{◌≡◌, ◌≢◌, ℕ, ◌≤◌, Bool, true, false, List, [], ◌∷◌, Option, Some, None, length, nat_le, if◌then◌else◌}
-use Rattle.std.proofs.Common.{refl, sym, ap, subst, ◌∙◌, arith}
+use Rattle.std.proofs.Common.{refl, sym, ◌∙◌}
+use Rattle.std.proofs.lemmas.Bool.{leb-true}
 use Rattle.std.proofs.lemmas.List.Elements.{All-nil}
 use Rattle.ae_outside.specs.declared.dir.Content.{Content}
 use Rattle.ae_outside.specs.declared.dir.Content.TheVariants.{Bytes, TooLong}
@@ -27,7 +28,7 @@ use Rattle.ae_exec.proofs.MadeKinds.{never}
 -- ---- the file of attributes fits
 
 within : (fits : Bool) (bytes : List ℕ) → nat_le (length bytes) 65536 ≡ fits → IsAtMost 65536 (if fits then Bytes bytes else TooLong)
-within true bytes is = omega (arith, is)
+within true bytes is = leb-true (length bytes) 65536 is
 within false bytes is = tt
 
 content_fits : (held : Option (List ℕ)) → IsAtMost 65536 (content_within 65536 held)
@@ -174,18 +175,19 @@ no-config given None none = refl
 view-fits : (o : Option Observation) (bytes : ℕ → List ℕ) (command : Command) (who : List ℕ) (when : ℕ) (state : SiteState) → is_there_yet command.function ≡ true → ViewFits o bytes (occasion_at command who when state)
 view-fits None bytes command who when state there = record { attributes = seen_fits state command.attributes; no_rows = refl; no_runs = refl }
 view-fits (Some o) bytes command who when state there =
-    let given : Given = given_of placing o bytes command who when (only_attributes (attributes_seen state command.attributes)) in
-    (record {
-      rows = [];
-      read = sym (no-config given (change_of given.call) (no-runs command.function there));
-      paths = sym (no-paths given.call (change_of given.call) (no-reading command.function there));
-      attributes = seen_fits state command.attributes;
-      lengths = All-nil _;
-      runs = refl;
-      before = All-nil _;
-      clean = refl;
-    },
-    record { some = λ runs. never (sym (no-runs command.function there) ∙ runs); all = λ runs clean. never (sym (no-runs command.function there) ∙ runs) })
+    let given : Given = given_of placing o bytes command who when (only_attributes (attributes_seen state command.attributes)) in (
+      record {
+        rows = [];
+        read = sym (no-config given (change_of given.call) (no-runs command.function there));
+        paths = sym (no-paths given.call (change_of given.call) (no-reading command.function there));
+        attributes = seen_fits state command.attributes;
+        lengths = All-nil _;
+        runs = refl;
+        before = All-nil _;
+        clean = refl;
+      },
+      record { some = λ runs. never (sym (no-runs command.function there) ∙ runs); all = λ runs clean. never (sym (no-runs command.function there) ∙ runs) },
+    )
 
 pub performed-is-legal : PerformedIsLegal
 performed-is-legal log command who when state events formed there user moment legal accepted =

@@ -2,7 +2,6 @@ pub mod Held
 pub mod Leaving
 pub mod Putting
 pub mod Stores
-pub mod Accepting
 pub mod MadeKinds
 pub mod Numbered
 pub mod Following

@@ -1,12 +1,10 @@
 -- What a command sees of the directories, and what is answered to it.
-use Rattle.std.specs.Prelude.{◌≡◌, ℕ, List, [], ◌∷◌, map, Option, Some, None}
+use Rattle.std.specs.Prelude.{◌≡◌, ℕ, List, [], Option, Some, None}
 use Rattle.ae_outside.specs.declared.dir.Content.{Content}
 use Rattle.ae_outside.specs.declared.dir.Content.TheVariants.{Absent}
 use Rattle.ae_outside.specs.declared.dir.Dir.TheVariants.{Here}
 use Rattle.ae_outside.specs.Site.{SiteState, content_within}
 use Rattle.ae_types.specs.Observation.{Observation}
-use Rattle.ae_log.specs.Log.{Log}
-use Rattle.ae_log.specs.Observed.{observation}
 use Rattle.ae_words.specs.declared.command.Command.{Command}
 use Rattle.ae_machine.specs.declared.verdict.Verdict.{Verdict}
 use Rattle.ae_machine.specs.declared.view.View.{View}
@@ -34,7 +32,3 @@ occasion_at command who when state = occasion_of command who when (only_attribut
 abbrev pub IsAnswer : Option Observation → Occasion → Verdict → Type 0
 IsAnswer o occasion answer =
     (bytes : ℕ → List ℕ) → verdict placing o bytes occasion.command occasion.who occasion.when occasion.view ≡ answer
-
--- what stands after each of these logs
-abbrev pub all_observed : List Log → List (Option Observation)
-all_observed logs = map observation logs

@@ -14,3 +14,5 @@ mod stop;
 pub use laws::performed_is_legal;
 pub use performing::{Performed, perform};
 
+#[cfg(test)]
+mod tests;

@@ -37,11 +37,7 @@ pub struct Plan {
 }
 
 // The batch that takes the files to what stands after the events.
-fn next_batch(
-    alloc: Global,
-    old: Option<&State>,
-    events: EventList,
-) -> Result<Batch, AllocError>
+fn next_batch(alloc: Global, old: Option<&State>, events: EventList) -> Result<Batch, AllocError>
     requires follow { MayFollow (option_copied old) events }
     requires made { AreMade events }
     ensures { IfOk result (λ batch. (next : Observation) × (next_of (option_copied old.entry) events ≡ Some next) × IsStep (option_copied old.entry) next batch) }

@@ -26,12 +26,7 @@ fn change_text(alloc: Global, change: Option<ChangeNo>) -> Result<Vec<u8>, Alloc
 }
 
 // A user of a role is named.
-fn role_text(
-    alloc: Global,
-    role: Role,
-    user: &User,
-    done: &[u8],
-) -> Result<Vec<u8>, AllocError>
+fn role_text(alloc: Global, role: Role, user: &User, done: &[u8]) -> Result<Vec<u8>, AllocError>
     ensures { IfOk result (λ text. text.items ≡ role_word role ++ codes " " ++ quoted user.now ++ done.now) }
 {
     let mut text = Vec::from_slice(alloc, role.word().as_bytes())?;
@@ -92,11 +87,7 @@ fn put_line(
 }
 
 // The lines of the events, one after another.
-fn lines(
-    alloc: Global,
-    old: Option<&State>,
-    events: &[Event],
-) -> Result<Vec<u8>, AllocError>
+fn lines(alloc: Global, old: Option<&State>, events: &[Event]) -> Result<Vec<u8>, AllocError>
     requires made { AreMade events.now }
     ensures { IfOk result (λ text. text.items ≡ concat (map (event_line (option_copied old.entry)) events.now)) }
 {

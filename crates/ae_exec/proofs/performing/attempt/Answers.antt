@@ -22,7 +22,7 @@ pub returns-in_err-open_store-clause-others : goal.returns-in_err-open_store-cla
 returns-in_err-open_store-clause-others g c = λ tells settled. others_same _ _ (c.open_store.ensures.files tells settled)
 
 pub returns-in_err-batch-clause-ends : goal.returns-in_err-batch-clause-ends
-returns-in_err-batch-clause-ends g c = 
+returns-in_err-batch-clause-ends g c =
     ends_err _ c.in_err-batch.field-0.0 (search rules) (ends_for _ c.in_err-batch.ensures.stopped (λ none. absurd none)
     (λ refusal answered tells settled seen. refused_at (g.D.Disk.state c.args.disk.now) (g.D.Disk.state c.open_store.new.disk) (occasion_at c.args.command.now c.args.who.now c.args.now (g.S.Site.state c.args.site.now)) refusal (c.open_store.ensures.files tells settled) (answered tells seen))
     (λ name is tells settled. damaged_by_files _ _ name (c.open_store.ensures.files tells settled) (is tells))
