@@ -121,7 +121,15 @@ fn perform_it<D: Disk, S: Site>(
     ensures disk_faults { D.faults disk.old ≤ D.faults disk.new }
     ensures site_faults { S.faults site.old ≤ S.faults site.new }
 {
-    let done = perform(alloc, disk, site, &request.command, &request.who, now, false);
+    let done = perform(
+        alloc,
+        disk,
+        site,
+        &request.command,
+        &request.who,
+        now,
+        false,
+    );
     told(alloc, done.outcome, done.reply)
 }
 

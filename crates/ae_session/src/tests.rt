@@ -223,7 +223,10 @@ fn is_status(
     for word in line.split(' ') {
         said.push(word)?;
     }
-    assert_eq!(rt; status_of(alloc, world, said.as_slice(), "alice", 1_000_000_000)?, status);
+    assert_eq!(rt;
+        status_of(alloc, world, said.as_slice(), "alice", 1_000_000_000)?,
+        status
+    );
     Ok(())
 }
 
@@ -236,7 +239,8 @@ fn roles_are_given_and_refused(rt: HostRuntime) -> Result<(), Fail> {
     is_status(&rt, alloc, &mut world, "-nd bob", 1)?;
     is_status(&rt, alloc, &mut world, "-ra alice", 1)?;
     is_status(&rt, alloc, &mut world, "-nrv carol -p other", 1)?;
-    let told = b"aegis: project \"demo\": created\naegis: project \"demo\": developer \"bob\" added\naegis: 16: user bob has that role\naegis: 18: the last administrator stays\naegis: 3: that is not this project\n";
+    let told =
+        b"aegis: project \"demo\": created\naegis: project \"demo\": developer \"bob\" added\naegis: 16: user bob has that role\naegis: 18: the last administrator stays\naegis: 3: that is not this project\n";
     assert_eq!(rt; world.err.taken(), told.as_slice());
     Ok(())
 }
@@ -251,7 +255,8 @@ fn a_change_is_made_undone_and_made_again(rt: HostRuntime) -> Result<(), Fail> {
     is_status(&rt, alloc, &mut world, "-nc -f c.attr", 0)?;
     is_status(&rt, alloc, &mut world, "-ncu -c 10", 0)?;
     is_status(&rt, alloc, &mut world, "-nc -f c.attr", 0)?;
-    let told = b"aegis: project \"demo\": created\naegis: 40: there is no file \"c.attr\"\naegis: project \"demo\": change 10: created\naegis: project \"demo\": change 10: removed\naegis: project \"demo\": change 10: created\n";
+    let told =
+        b"aegis: project \"demo\": created\naegis: 40: there is no file \"c.attr\"\naegis: project \"demo\": change 10: created\naegis: project \"demo\": change 10: removed\naegis: project \"demo\": change 10: created\n";
     assert_eq!(rt; world.err.taken(), told.as_slice());
     Ok(())
 }

@@ -1,4 +1,4 @@
-use Rattle.std.proofs.Common.{rules, ◌≡◌, ◌∙◌, true, refl, sym, ap, arith, map, string_bytes}
+use Rattle.std.proofs.Common.{rules, ◌≡◌, ◌∙◌, true, refl, ap, arith, map, string_bytes}
 use Rattle.ae_base.specs.Bytes.{read_as}
 use Rattle.ae_base.specs.Names.{is_user}
 use Rattle.ae_session.specs.Request.{may_ask, bad_word, not_there}

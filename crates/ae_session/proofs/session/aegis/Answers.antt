@@ -21,9 +21,9 @@ pub returns-clause-made : goal.returns-clause-made
 returns-clause-made g c = λ ended tells shown command held log events asks holds stands legal accepted.
     c.decide-reply.ensures.made
     (meant_done _ _ _ _ _ c.decide-reply.ensures.ends (λ place bad. asks_or_bad _ _ _ place _ asks bad)
-      (λ outcome so. accepted_done _ _ _ _ _ _ _ outcome log events tells holds.settled shown stands
-        (said_by (λ (said : Command) (who : List ℕ). verdict_after log (occasion_at said who c.args.now (g.S.Site.state c.args.site.now)) ≡ Accept events) command so.0 _ _ (asks_once _ _ _ _ _ asks so.1) refl accepted) so.2)
-      c.tell.ensures.outcome ended)
+    (λ outcome so. accepted_done _ _ _ _ _ _ _ outcome log events tells holds.settled shown stands
+    (said_by (λ (said : Command) (who : List ℕ). verdict_after log (occasion_at said who c.args.now (g.S.Site.state c.args.site.now)) ≡ Accept events) command so.0 _ _ (asks_once _ _ _ _ _ asks so.1) refl accepted) so.2)
+    c.tell.ensures.outcome ended)
     tells shown command held log events asks holds stands legal accepted
 
 pub returns-clause-said : goal.returns-clause-said

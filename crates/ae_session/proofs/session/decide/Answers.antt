@@ -1,4 +1,4 @@
-use Rattle.std.proofs.Common.{◌≡◌, ◌++◌, ◌∷◌, [], ℕ, List, map, string_bytes, inl, inr, sym, ap, subst, Err}
+use Rattle.std.proofs.Common.{◌≡◌, ℕ, List, map, string_bytes, inl, inr, sym, ap, subst, Err}
 use Rattle.ae_outside.specs.Causes.{HasRisen}
 use Rattle.ae_outside.specs.State.{reads, MayLeave}
 use Rattle.ae_vault.specs.Commit.{IsSettled}
@@ -15,9 +15,13 @@ use Rattle.ae_session.proofs.session.decide.Goals as goal
 pub returns-in-Ok-clause-ends : goal.returns-in-Ok-clause-ends
 returns-in-Ok-clause-ends g c =
     let start = g.D.Disk.state c.args.disk.now in
-    performs_so c.perform_it.result.outcome (c.in-Ok.request.command, c.in-Ok.ensures.asks, subst (λ (who : List ℕ). Performs g.D.Disk.tells (IsSettled (reads start) (MayLeave start)) g.S.Site.tells (reads start)
-      (occasion_at c.in-Ok.request.command who c.args.now (g.S.Site.state c.args.site.now)) (HasRisen (g.D.Disk.faults c.args.disk.now) (g.D.Disk.faults c.perform_it.new.disk)) (HasRisen (g.S.Site.faults c.args.site.now) (g.S.Site.faults c.perform_it.new.site)) c.perform_it.result.outcome)
-      c.in-Ok.ensures.who c.perform_it.ensures.ends)
+    performs_so c.perform_it.result.outcome (
+      c.in-Ok.request.command,
+      c.in-Ok.ensures.asks,
+      subst (λ (who : List ℕ). Performs g.D.Disk.tells (IsSettled (reads start) (MayLeave start)) g.S.Site.tells (reads start)
+          (occasion_at c.in-Ok.request.command who c.args.now (g.S.Site.state c.args.site.now)) (HasRisen (g.D.Disk.faults c.args.disk.now) (g.D.Disk.faults c.perform_it.new.disk)) (HasRisen (g.S.Site.faults c.args.site.now) (g.S.Site.faults c.perform_it.new.site)) c.perform_it.result.outcome)
+          c.in-Ok.ensures.who c.perform_it.ensures.ends,
+    )
 
 pub returns-in-Ok-clause-text : goal.returns-in-Ok-clause-text
 returns-in-Ok-clause-text g c =
