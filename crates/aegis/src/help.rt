@@ -65,7 +65,7 @@ With every function but the first and the last two, `-Project NAME` may be given
   Locks
 
 docs/COMMANDS.md says more.
-By now only `-New_PRoject NAME` is there.
+By now the functions from the first down to `-New_Change_Undo` are there.
 ";
 
 /// What `--help` alone and `--version` alone print, and `None` at other words.
