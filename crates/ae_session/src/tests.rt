@@ -261,6 +261,97 @@ fn a_change_is_made_undone_and_made_again(rt: HostRuntime) -> Result<(), Fail> {
     Ok(())
 }
 
+// A project `demo`, beside the attributes of a change, over a disk whose calls of these numbers fail.
+fn make_demo(rt: &impl Abort, alloc: Global, disk_fails: &[u64]) -> Result<World, Fail> {
+    let mut world = make_world(alloc, disk_fails, &[])?;
+    is_status(rt, alloc, &mut world, "-npr demo", 0)?;
+    put_attributes(alloc, &mut world.site)?;
+    Ok(world)
+}
+
+#[test]
+fn directories_that_fail_are_told(rt: HostRuntime) -> Result<(), Fail> {
+    let alloc = rt.alloc();
+    let mut world = make_demo(&rt, alloc, &[])?;
+    world.site = MemSite::new(alloc, MemRunList::of(Vec::new(alloc)), &[1])?;
+    is_status(&rt, alloc, &mut world, "-nc -f c.attr", 4)?;
+    let told = b"aegis: project \"demo\": created\naegis: directory fault\n";
+    assert_eq!(rt; world.err.taken(), told.as_slice());
+    Ok(())
+}
+
+// How many calls of the disk the first command makes, and both.
+fn calls_of_both(rt: &impl Abort, alloc: Global) -> Result<(u64, u64), Fail> {
+    let mut world = make_demo(rt, alloc, &[])?;
+    let first = world.disk.calls();
+    is_status(rt, alloc, &mut world, "-nc -f c.attr", 0)?;
+    Ok((first, world.disk.calls()))
+}
+
+// The call of this number fails: the command says so, and the next ones are done.
+fn goes_on_behind(rt: &impl Abort, alloc: Global, call: u64) -> Result<(), Fail> {
+    let mut world = make_demo(rt, alloc, &[call])?;
+    is_status(rt, alloc, &mut world, "-nc -f c.attr", 3)?;
+    is_status(rt, alloc, &mut world, "-nd bob", 0)?;
+    is_status(rt, alloc, &mut world, "-nc -f c.attr", 0)
+}
+
+#[test]
+fn each_call_of_the_disk_may_fail(rt: HostRuntime) -> Result<(), Fail> {
+    let (first, last) = calls_of_both(&rt, rt.alloc())?;
+    assert!(rt; last < 100);
+    for call in 1..last + 1 {
+        if first < call {
+            goes_on_behind(&rt, rt.alloc(), call)?;
+        }
+    }
+    Ok(())
+}
+
+// What `project` and `change.10` are once the disk that a stop behind so many calls leaves is opened. The next command over
+// it is done.
+fn files_left(
+    rt: &impl Abort,
+    alloc: Global,
+    disk: &MemDisk,
+    calls: u64,
+    pick: Pick,
+) -> Result<(Vec<u8>, Vec<u8>), Fail> {
+    assert!(rt; calls <= disk.calls());
+    let mut left = disk.after_stop(alloc, calls, pick)?;
+    Vault::open(alloc, &mut left)?;
+    let project = Vault::get(alloc, &mut left, "project")?;
+    let change = Vault::get(alloc, &mut left, "change.10")?;
+    let mut world = make_world(alloc, &[], &[])?;
+    world.disk = left;
+    is_status(rt, alloc, &mut world, "-nd bob", 0)?;
+    Ok((project, change))
+}
+
+#[test]
+fn a_stop_anywhere_leaves_no_change_or_the_whole_one(rt: HostRuntime) -> Result<(), Fail> {
+    let alloc = rt.alloc();
+    let mut world = make_demo(&rt, alloc, &[])?;
+    let first = world.disk.calls();
+    is_status(&rt, alloc, &mut world, "-nc -f c.attr", 0)?;
+    let last = world.disk.calls();
+    assert!(rt; last < 100);
+    let (project, change) = files_left(&rt, alloc, &world.disk, last, Pick::Old)?;
+    for calls in 0..last + 1 {
+        for pick in [Pick::Old, Pick::New, Pick::Zeros, Pick::Ones] {
+            if first <= calls {
+                let left = files_left(&rt, alloc, &world.disk, calls, pick)?;
+                let is_after = left.0.as_slice() == project.as_slice()
+                    && left.1.as_slice() == change.as_slice();
+                let is_before = left.0.as_slice() == PROJECT && left.1.is_empty();
+                assert!(rt; is_after || is_before && calls < last);
+            }
+        }
+    }
+    assert!(rt; !change.is_empty());
+    Ok(())
+}
+
 // The directories get the file `c.attr`, with a brief description.
 fn put_attributes(alloc: Global, site: &mut MemSite) -> Result<(), Fail> {
     let Some(path) = Path::read(alloc, b"c.attr")? else {
