@@ -2,7 +2,6 @@
 use Rattle.std.specs.Prelude.{◌≡◌, ℕ, List, Result, Ok, Err, IfErr}
 use Rattle.std.proofs.Common.{sym, subst, refl}
 use Rattle.ae_base.specs.declared.outcome.Outcome.{Outcome}
-use Rattle.ae_base.specs.declared.outcome.Outcome.TheVariants.{Done, Refused, DiskFault, SiteFault, Damaged, Memory}
 use Rattle.ae_base.specs.declared.refusal.Refusal.{Refusal}
 use Rattle.ae_outside.specs.declared.failed.SiteError.{SiteError}
 use Rattle.ae_outside.specs.declared.failed.SiteError.TheVariants as site_error

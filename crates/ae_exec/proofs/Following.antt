@@ -1,5 +1,5 @@
 -- What follows of an answer to a command.
-use Rattle.std.specs.Prelude.{◌≡◌, ◌⊎◌, ℕ, true, false, Bool, List, [], ◌∷◌, map, Option, Some, None, All, IfSome, IsSome, IsSomeAnd, is_some, if◌then◌else◌, Result, Ok, Err, IfOk}
+use Rattle.std.specs.Prelude.{◌≡◌, ◌⊎◌, ℕ, true, false, Bool, List, [], ◌∷◌, Option, Some, None, IfSome, IsSome, IsSomeAnd, is_some, if◌then◌else◌, Result, Ok, Err, IfOk}
 use Rattle.std.proofs.Common.{inl, inr, refl, sym, ap, subst, ◌∙◌}
 use Rattle.std.proofs.lemmas.List.Elements.{All-nil, All-cons, All-map, All-same, All-tail}
 use Rattle.ae_base.specs.declared.refusal.Refusal.{Refusal}
@@ -11,7 +11,6 @@ use Rattle.ae_store.specs.Changed.{entry_for}
 use Rattle.ae_types.specs.Observation.{Observation}
 use Rattle.ae_types.specs.Sound.{Sound}
 use Rattle.ae_log.specs.declared.event.Event.{Event}
-use Rattle.ae_log.specs.declared.event.EventKind.{EventKind}
 use Rattle.ae_log.specs.After.{started, after, after_all}
 use Rattle.ae_log.specs.Applies.{MayApply}
 use Rattle.ae_log.proofs.Keeping.{keeps, may-be-applied}
@@ -36,7 +35,7 @@ use Rattle.ae_exec.specs.Seen.{IsAnswer, occasion_of}
 use Rattle.ae_exec.specs.Said.{is_made}
 use Rattle.ae_machine.proofs.Accepted.{accepted-apply}
 use Rattle.ae_machine.proofs.AcceptedLogs.{accepted-starts, accepted-follow, first-follow, legal-stands}
-use Rattle.ae_exec.proofs.MadeKinds.{Made, project-made, kinds-made}
+use Rattle.ae_exec.proofs.MadeKinds.{project-made, kinds-made}
 use Rattle.ae_exec.proofs.Numbered.{complete}
 use Rattle.ae_exec.proofs.Stores.{one}
 

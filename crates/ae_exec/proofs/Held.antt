@@ -1,11 +1,11 @@
 -- What a disk holds after an opening, after calls that change nothing, and after a commit.
-use Rattle.std.specs.Prelude.{◌≡◌, ◌⊎◌, true, false, ℕ, zero, suc, ◌≤◌, List, [], ◌∷◌, ◌++◌, Contains, Option, Some, None}
-use Rattle.std.proofs.Common.{inl, inr, refl, sym, ap, subst, ◌∙◌, arith}
+use Rattle.std.specs.Prelude.{◌≡◌, ◌⊎◌, true, false, zero, suc, List, [], ◌∷◌, Contains}
+use Rattle.std.proofs.Common.{inl, inr, refl, sym, subst, ◌∙◌, arith}
 use Rattle.std.proofs.lemmas.Bool.{cases_lt}
 use Rattle.ae_outside.specs.Image.{Image, IsSame}
 use Rattle.ae_outside.specs.State.{DiskState, reads, MayLeave, Continues, GoesOn}
-use Rattle.ae_vault.specs.Vault.{body, effective, IsClosed}
-use Rattle.ae_vault.specs.Commit.{IsSettled, Agrees, OpenAt, RecoveryAt, IsRecovering, IsClean, Throughout}
+use Rattle.ae_vault.specs.Vault.{body}
+use Rattle.ae_vault.specs.Commit.{Agrees, RecoveryAt, IsRecovering, IsClean, Throughout}
 use Rattle.ae_vault.specs.Batch.{BatchRecord}
 use Rattle.ae_vault.specs.Pieces.{BatchAt, IsBeforeBatch, IsAfterBatch}
 use Rattle.ae_vault.specs.Kept.{StandsForOne, Holds, ByFiles}

@@ -1,13 +1,13 @@
 -- What calls leave, one after another.
-use Rattle.std.specs.Prelude.{◌≡◌, ◌⊎◌, true, false, ℕ, ◌≤◌, List, [], ◌∷◌, ◌++◌, Contains}
-use Rattle.std.proofs.Common.{inl, inr, refl, sym, ap, subst, ◌∙◌, arith}
+use Rattle.std.specs.Prelude.{◌≡◌, ◌⊎◌, true, false, ℕ, List, [], ◌∷◌, Contains}
+use Rattle.std.proofs.Common.{inl, inr, sym, ap, subst, ◌∙◌, arith}
 use Rattle.std.proofs.lemmas.List.Elements.{Contains-append_left}
 use Rattle.ae_outside.specs.Image.{Image, IsSame}
 use Rattle.ae_outside.specs.State.{DiskState, reads, MayLeave, Continues, GoesOn}
 use Rattle.ae_vault.specs.Commit.{OpenAt, IsRecovering, IsSettled, IsClean, Throughout}
 use Rattle.ae_vault.specs.Vault.{body, effective}
-use Rattle.ae_vault.specs.Kept.{StandsForOne, Holds, ByFiles, stop_stands}
-use Rattle.ae_exec.specs.Stops.{Stops, Leaves}
+use Rattle.ae_vault.specs.Kept.{Holds, ByFiles, stop_stands}
+use Rattle.ae_exec.specs.Stops.{Leaves}
 use Rattle.ae_exec.proofs.Held as held
 
 module _ {Log : Type 0} (Stands : Image → Log → Type 0) (by_files : ByFiles Stands) (one : (f : Image) (l m : Log) → Stands f l → Stands f m → l ≡ m) where

@@ -1,9 +1,8 @@
 -- The log after a command that is accepted is legal where the log before it is.
-use Rattle.std.specs.Prelude.{◌≡◌, ◌≢◌, ℕ, ◌≤◌, Bool, true, false, List, [], ◌∷◌, Option, Some, None, length, nat_le, if◌then◌else◌}
+use Rattle.std.specs.Prelude.{◌≡◌, ℕ, Bool, true, false, List, [], Option, Some, None, length, nat_le, if◌then◌else◌}
 use Rattle.std.proofs.Common.{refl, sym, ◌∙◌}
 use Rattle.std.proofs.lemmas.Bool.{leb-true}
 use Rattle.std.proofs.lemmas.List.Elements.{All-nil}
-use Rattle.ae_outside.specs.declared.dir.Content.{Content}
 use Rattle.ae_outside.specs.declared.dir.Content.TheVariants.{Bytes, TooLong}
 use Rattle.ae_outside.specs.declared.dir.Dir.TheVariants.{Here}
 use Rattle.ae_outside.specs.Site.{SiteState, content_within}
@@ -13,12 +12,11 @@ use Rattle.ae_words.specs.declared.command.Command.{Command}
 use Rattle.ae_words.specs.declared.table.Function.{Function}
 use Rattle.ae_words.specs.declared.table.Function.TheVariants as function
 use Rattle.ae_log.specs.Files.{version_bytes}
-use Rattle.ae_log.specs.Log.{Log, followed}
+use Rattle.ae_log.specs.Log.{followed}
 use Rattle.ae_log.specs.Observed.{observation}
-use Rattle.ae_machine.specs.declared.view.RunRow.{RunRow}
 use Rattle.ae_machine.specs.Call.{Call, Given, given_of, change_of}
-use Rattle.ae_machine.specs.Fits.{Fits, IsWhole, FitsNothing, IsAtMost, reads_files, makes_runs, config_asked, paths_asked, tracked_in}
-use Rattle.ae_machine.specs.Legal.{Legal, more, MayCome, ViewFits, is_one_command}
+use Rattle.ae_machine.specs.Fits.{IsAtMost, reads_files, makes_runs, config_asked, paths_asked}
+use Rattle.ae_machine.specs.Legal.{more, ViewFits, is_one_command}
 use Rattle.ae_machine.specs.Space.{placing}
 use Rattle.ae_machine.specs.There.{is_there_yet}
 use Rattle.ae_exec.specs.Legally.{PerformedIsLegal}

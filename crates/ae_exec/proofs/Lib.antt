@@ -1,5 +1,6 @@
 pub mod Held
 pub mod Leaving
+pub mod Refining
 pub mod Putting
 pub mod Stores
 pub mod MadeKinds
@@ -7,5 +8,6 @@ pub mod Numbered
 pub mod Following
 pub mod Endings
 pub mod Attempting
+pub mod Completing
 pub mod Lines
 pub mod Legally

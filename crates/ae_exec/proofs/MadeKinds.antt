@@ -1,19 +1,13 @@
 -- The kinds of the events that commands make so far.
-use Rattle.std.specs.Prelude.{◌≡◌, ℕ, true, false, List, [], ◌∷◌, map, Option, Some, None, All, IsSomeAnd, if◌then◌else◌, Bool}
+use Rattle.std.specs.Prelude.{◌≡◌, ℕ, true, false, List, [], ◌∷◌, map, All}
 use Rattle.std.proofs.Common.{refl}
-use Rattle.std.proofs.lemmas.List.Elements.{All-nil, All-cons, All-map, All-same}
+use Rattle.std.proofs.lemmas.List.Elements.{All-nil, All-cons, All-map}
 use Rattle.ae_base.specs.declared.words.Role.{Role}
-use Rattle.ae_base.specs.declared.refusal.Refusal.{Refusal}
-use Rattle.ae_types.specs.declared.change.Change.{Change}
-use Rattle.ae_types.specs.Found.{change_at}
-use Rattle.ae_types.specs.Observation.{Observation}
 use Rattle.ae_words.specs.declared.table.Function.{Function}
 use Rattle.ae_words.specs.declared.table.Function.TheVariants as function
-use Rattle.ae_log.specs.declared.event.Event.{Event}
 use Rattle.ae_log.specs.declared.event.EventKind.{EventKind}
 use Rattle.ae_log.specs.declared.event.EventKind.TheVariants as on
-use Rattle.ae_log.specs.Applied.{IsApplied}
-use Rattle.ae_log.specs.Applies.{Applies, AppliesBy, Suits, IsProject}
+use Rattle.ae_log.specs.Applies.{IsProject}
 use Rattle.ae_machine.specs.Call.{Given}
 use Rattle.ae_machine.specs.There.{is_there_yet}
 use Rattle.ae_machine.specs.Verdict.{kinds_of}
@@ -48,40 +42,6 @@ project-made on.IBegin is = absurd is
 project-made on.IBeginUndo is = absurd is
 project-made on.IPass is = absurd is
 project-made on.IFail is = absurd is
-
--- no project is made of a change
-none-of-change : (o : Observation) (kind : EventKind) (P : Type 0) (x : Option Change) → IsSomeAnd x (λ (change : Change). (false ≡ true) × Suits o change kind) → P
-none-of-change o kind P (Some change) is = never is.0
-none-of-change o kind P None is = absurd is
-
-applied-by : (o : Observation) (change : Option ℕ) (kind : EventKind) → AppliesBy o change kind → is_made kind ≡ true → IsApplied kind
-applied-by o None (on.Project name attributes) comes is = absurd comes
-applied-by o (Some number) (on.Project name attributes) comes is = none-of-change o (on.Project name attributes) _ (change_at o number) comes
-applied-by o change (on.Attributes attributes) comes is = tt
-applied-by o change (on.RoleAdd role user) comes is = tt
-applied-by o change (on.RoleDrop role user) comes is = tt
-applied-by o change (on.New attributes) comes is = tt
-applied-by o change on.NewUndo comes is = tt
-applied-by o change (on.ChangeAttributes attributes) comes is = tt
-applied-by o change on.Begin comes is = never is
-applied-by o change on.BeginUndo comes is = never is
-applied-by o change (on.File path action usage origin) comes is = never is
-applied-by o change (on.Unfile path) comes is = never is
-applied-by o change (on.Run run) comes is = never is
-applied-by o change (on.End tree to places) comes is = never is
-applied-by o change on.EndUndo comes is = never is
-applied-by o change on.ReviewBegin comes is = never is
-applied-by o change on.ReviewBeginUndo comes is = never is
-applied-by o change on.Pass comes is = never is
-applied-by o change on.PassUndo comes is = never is
-applied-by o change on.Fail comes is = never is
-applied-by o change on.IBegin comes is = never is
-applied-by o change on.IBeginUndo comes is = never is
-applied-by o change on.IPass comes is = never is
-applied-by o change on.IFail comes is = never is
-
-pub is-applied : (o : Observation) (event : Event) → Applies o event → is_made event.what ≡ true → IsApplied event.what
-is-applied o event applies is = applied-by o event.change event.what applies.comes is
 
 -- ---- of all events of a command
 

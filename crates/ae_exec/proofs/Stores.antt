@@ -1,7 +1,6 @@
 -- What the files of a disk stand for, joined over the vault's calls.
-use Rattle.std.specs.Prelude.{◌≡◌, ◌≢◌, ◌⊎◌, ℕ, Bool, true, false, List, [], ◌∷◌, ◌++◌, Option, Some, None, IsSomeAnd, Contains, Result, Ok, Err, OnOk, IfOk}
+use Rattle.std.specs.Prelude.{◌≡◌, ◌≢◌, ◌⊎◌, ℕ, Bool, true, false, List, [], ◌∷◌, Option, Some, None, IsSomeAnd, Result, Ok, Err, OnOk, IfOk}
 use Rattle.std.proofs.Common.{inl, inr, refl, sym, ap, subst, ◌∙◌, arith}
-use Rattle.std.proofs.lemmas.List.Elements.{Contains-append_left, Contains-append_right, Contains-append_cases}
 use Rattle.std.specs.Str.{bytes_eq}
 use Rattle.std.specs.Cmp.Lexicographic.{bytes_decides}
 use Rattle.ae_outside.specs.Image.{Image, IsSame}
@@ -21,8 +20,8 @@ use Rattle.ae_store.specs.Answers.{IsNamed}
 use Rattle.ae_store.proofs.OneState.{one_state}
 use Rattle.ae_exec.specs.Endings.{IsDamagedAt, body, record_of, OthersSame}
 use Rattle.ae_exec.specs.Stops.{Leaves}
-use Rattle.ae_exec.proofs.Held.{only_one, commit_stops, committed_holds, done_holds}
-use Rattle.ae_exec.proofs.Leaving.{leaves_more, leaves_same, leaves_then}
+use Rattle.ae_exec.proofs.Held.{commit_stops, committed_holds, done_holds}
+use Rattle.ae_exec.proofs.Leaving.{leaves_same, leaves_then}
 use Rattle.ae_exec.proofs.Putting.{kept_before, made_after, over_nothing, others_stay}
 
 pub by_files : ByFiles Stands
@@ -34,6 +33,10 @@ one_of (Some x) o p first second = one_state x o p first second
 
 pub one : (f : Image) (o p : Option Observation) → Stands f o → Stands f p → o ≡ p
 one f o p first second = one_of (effective f) o p first second
+
+-- a damaged body stands for no project, and not for none
+pub no_body_stands : (f : Image) (o : Option Observation) → effective f ≡ None → Stands f o → ⊥
+no_body_stands f o none stands = subst (λ (files : Option Image). IsSomeAnd files (λ (x : Image). StandsFor x o)) none stands
 
 -- what follows from three facts of a call that was done
 pub when_ok : {A E P Q R S : Type 0} (result : Result A E) → OnOk result P → OnOk result Q → OnOk result R → (P → Q → R → S) → OnOk result S
@@ -137,26 +140,6 @@ others_same (Some x) b is = subst (λ (o : Option Image). OthersSame (Some x) o)
 -- an opening, and calls that change nothing
 pub begun : (base mid disk : DiskState) (logs : List (Option Observation)) → Leaves Stands base mid logs → GoesOn IsSame mid disk → Leaves Stands base disk logs
 begun base mid disk logs first same = leaves_then Stands by_files one base mid disk logs logs (λ l is. is) same.time first (leaves_same Stands by_files one mid disk logs same first.holds)
-
--- with a further log
-pub and_more : (base disk : DiskState) (logs more : List (Option Observation)) → Leaves Stands base disk logs → Leaves Stands base disk (logs ++ more)
-and_more base disk logs more left = leaves_more Stands by_files one base disk logs (logs ++ more) (λ l is. Contains-append_left logs more l is) left
-
--- and the putting of what is next to what was read
-pub all_put : (base mid disk : DiskState) (held : List (Option Observation)) (o p : Option Observation) → Holds Stands base held → Stands (reads base) o → Leaves Stands base mid held
-    → Continues mid disk → Leaves Stands mid disk (o ∷ p ∷ []) → Leaves Stands base disk (held ++ p ∷ [])
-all_put base mid disk held o p holds read first time second =
-    leaves_then Stands by_files one base mid disk held (held ++ p ∷ []) (λ l is. Contains-append_left held (p ∷ []) l is) time first
-    (leaves_more Stands by_files one mid disk (o ∷ p ∷ []) (held ++ p ∷ []) both second)
-  where
-    there : Contains held o
-    there = subst (λ (l : Option Observation). Contains held l) (one (reads base) holds.read.0 o holds.read.2 read) holds.read.1
-
-    both : (l : Option Observation) → Contains (o ∷ p ∷ []) l → Contains (held ++ p ∷ []) l
-    both l is = elim (Contains-append_cases (o ∷ []) (p ∷ []) l is) [
-      | inl first ↦ Contains-append_left held (p ∷ []) l (subst (λ (k : Option Observation). Contains held k) (only_one Stands by_files o l first) there)
-      | inr last ↦ Contains-append_right held (p ∷ []) l last
-    ]
 
 -- what is read after the opening is what was read before it
 pub read_before : (base disk : DiskState) (o : Option Observation) → effective (reads disk) ≡ effective (reads base) → Stands (reads disk) o → Stands (reads base) o

@@ -1,5 +1,5 @@
 -- What stands after the events of a command.
-use Rattle.std.specs.Prelude.{ℕ, ◌≡◌, List, [], ◌∷◌, map, Option, Some, None, All, true}
+use Rattle.std.specs.Prelude.{◌≡◌, List, [], ◌∷◌, map, Option, Some, None, All, true}
 use Rattle.ae_types.specs.Found.{number_of_change}
 use Rattle.ae_types.specs.Observation.{Observation}
 use Rattle.ae_log.specs.declared.event.Event.{Event}

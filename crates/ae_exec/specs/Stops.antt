@@ -4,9 +4,13 @@ use Rattle.ae_outside.specs.Image.{Image}
 use Rattle.ae_outside.specs.State.{DiskState}
 use Rattle.ae_vault.specs.Kept.{StandsForOne, Holds}
 
--- at each moment from base on, a stop leaves what stands for one of these
+-- at each moment from one to another, a stop leaves what stands for one of these
+abbrev pub StopsBetween : {Log : Type 0} → (Image → Log → Type 0) → DiskState → ℕ → ℕ → List Log → Type 0
+StopsBetween Stands disk from till logs = (u : ℕ) (f : Image) → from ≤ u → u ≤ till → disk.image_at u f → StandsForOne Stands logs f
+
+-- at each moment since base
 abbrev pub Stops : {Log : Type 0} → (Image → Log → Type 0) → DiskState → DiskState → List Log → Type 0
-Stops Stands base disk logs = (u : ℕ) (f : Image) → base.moment ≤ u → u ≤ disk.moment → disk.image_at u f → StandsForOne Stands logs f
+Stops Stands base disk logs = StopsBetween Stands disk base.moment disk.moment logs
 
 -- so it is with each stop since base, and the disk holds one of these
 pub record Leaves {Log : Type 0} (Stands : Image → Log → Type 0) (base disk : DiskState) (logs : List Log) : Type 0 where

@@ -1,5 +1,5 @@
 // The store is opened.
-ghost use Rattle.std.specs.Prelude.{◌≡◌, ◌≤◌, ◌∷◌, [], ℕ, List, codes, Option, OnOk, IfErr};
+ghost use Rattle.std.specs.Prelude.{◌≡◌, ◌≤◌, ℕ, List, codes, Option, OnOk, IfErr};
 ghost use Rattle.ae_outside.specs.Causes.{HasRisen};
 ghost use Rattle.ae_outside.specs.State.{reads, MayLeave, Continues};
 ghost use Rattle.ae_store.specs.Records.{Stands};
@@ -8,6 +8,7 @@ ghost use Rattle.ae_vault.specs.Commit.{IsClean, IsSettled};
 ghost use Rattle.ae_vault.specs.Kept.{Holds};
 ghost use Rattle.ae_vault.specs.Vault.{effective};
 ghost use Rattle.ae_exec.specs.Endings.{EndsAs, IsDamagedAt, outcome_of_stop};
+ghost use Rattle.ae_exec.specs.Refined.{IsOpened, Refined};
 ghost use Rattle.ae_exec.specs.Stops.{Leaves};
 
 use crate::stop::Stop;
@@ -33,7 +34,8 @@ pub(crate) fn open_store<D: Disk>(alloc: Global, disk: &mut D) -> Result<(), Sto
     ensures files { D.tells → IsSettled (reads (D.state disk.old)) (MayLeave (D.state disk.old)) → effective (reads (D.state disk.new)) ≡ effective (reads (D.state disk.old)) }
     ensures settled { D.tells → IsSettled (reads (D.state disk.old)) (MayLeave (D.state disk.old)) → IsSettled (reads (D.state disk.new)) (MayLeave (D.state disk.new)) }
     ensures left { D.tells → (held : List (Option Observation)) → Holds Stands (D.state disk.old) held → Leaves Stands (D.state disk.old) (D.state disk.new) held }
-    ensures one { OnOk result (D.tells → (held : List (Option Observation)) (o : Option Observation) → Holds Stands (D.state disk.old) held → Stands (reads (D.state disk.old)) o → Holds Stands (D.state disk.new) (o ∷ [])) }
+    ensures opened { OnOk result (D.tells → (held : List (Option Observation)) (o : Option Observation) → Holds Stands (D.state disk.old) held → Stands (reads (D.state disk.old)) o → IsOpened Stands (D.state disk.old) (D.state disk.new) held o) }
+    ensures refined { IfErr result (λ stop. D.tells → (held : List (Option Observation)) (o next : Option Observation) → Holds Stands (D.state disk.old) held → Stands (reads (D.state disk.old)) o → Refined Stands (D.state disk.old) (D.state disk.new) held o next (outcome_of_stop stop)) }
     ensures stopped { IfErr result (λ stop. EndsAs ⊥ (λ refusal. ⊥) (λ name. D.tells → IsDamagedAt (reads (D.state disk.old)) name) (HasRisen (D.faults disk.old) (D.faults disk.new)) ⊥ (outcome_of_stop stop)) }
     ensures later { D.faults disk.old ≤ D.faults disk.new }
 {

@@ -1,5 +1,5 @@
 // One command, from the store to the reply.
-ghost use Rattle.std.specs.Prelude.{◌≡◌, ◌≢◌, ◌≤◌, ◌++◌, ◌∷◌, [], ℕ, true, false, List, Option, Some, OnOk};
+ghost use Rattle.std.specs.Prelude.{◌≡◌, ◌≢◌, ◌≤◌, ◌⊎◌, ◌∷◌, [], ℕ, true, false, List, Option, Some, OnOk};
 ghost use Rattle.ae_base.specs.declared.outcome.Outcome.{Outcome};
 ghost use Rattle.ae_outside.specs.Causes.{HasRisen, HasCause};
 ghost use Rattle.ae_outside.specs.State.{reads, MayLeave, Continues};
@@ -8,19 +8,19 @@ ghost use Rattle.ae_types.specs.Observation.{Observation};
 ghost use Rattle.ae_vault.specs.Commit.{IsClean, IsSettled};
 ghost use Rattle.ae_vault.specs.Kept.{Holds};
 ghost use Rattle.ae_vault.specs.Vault.{effective};
-ghost use Rattle.ae_log.specs.declared.event.Event.{Event};
-ghost use Rattle.ae_log.specs.Log.{Log, followed};
+ghost use Rattle.ae_log.specs.Log.{Log};
 ghost use Rattle.ae_log.specs.Observed.{observation};
 ghost use Rattle.ae_words.specs.Formed.{IsFormed};
-ghost use Rattle.ae_machine.specs.declared.verdict.Verdict.TheVariants.{Accept};
 ghost use Rattle.ae_machine.specs.Legal.{Legal, verdict_after};
 ghost use Rattle.ae_machine.specs.Replies.{reply};
 ghost use Rattle.ae_machine.specs.There.{is_there_yet};
 ghost use Rattle.ae_exec.specs.Endings.{EndsAs, IsAccepted, IsRefused, IsDamagedAt, ChangesNothing, OthersSame, outcome_of, outcome_of_stop, said_of};
 ghost use Rattle.ae_exec.specs.Next.{IsComplete};
 ghost use Rattle.ae_exec.specs.Plan.{IsStep};
+ghost use Rattle.ae_exec.specs.Refined.{Refined};
 ghost use Rattle.ae_exec.specs.Said.{reply_text};
 ghost use Rattle.ae_exec.specs.Seen.{occasion_at};
+ghost use Rattle.ae_exec.specs.Step.{outcome_of_answer, step};
 ghost use Rattle.ae_exec.specs.Stops.{Leaves};
 
 use crate::open::open_store;
@@ -68,8 +68,7 @@ fn attempt<D: Disk, S: Site>(
     requires there { is_there_yet command.now.function ≡ true }
     requires moment { now ≤ 4102444799 }
     ensures ends { EndsAs (D.tells → IsSettled (reads (D.state disk.old)) (MayLeave (D.state disk.old)) → S.tells → IsAccepted (reads (D.state disk.old)) (occasion_at command.now who.now now (S.state site.old))) (λ refusal. D.tells → IsSettled (reads (D.state disk.old)) (MayLeave (D.state disk.old)) → S.tells → IsRefused (reads (D.state disk.old)) (occasion_at command.now who.now now (S.state site.old)) refusal) (λ name. D.tells → IsSettled (reads (D.state disk.old)) (MayLeave (D.state disk.old)) → IsDamagedAt (reads (D.state disk.old)) name) (HasRisen (D.faults disk.old) (D.faults disk.new)) (HasRisen (S.faults site.old) (S.faults site.new)) (outcome_of result) }
-    ensures left { D.tells → S.tells → (held : List (Option Observation)) (log : Log) (events : List Event) → Holds Stands (D.state disk.old) held → Stands (reads (D.state disk.old)) (observation log) → Legal log → verdict_after log (occasion_at command.now who.now now (S.state site.old)) ≡ Accept events → Leaves Stands (D.state disk.old) (D.state disk.new) (held ++ observation (followed log events) ∷ []) }
-    ensures made { (outcome_of result) ≡ Outcome.Done → D.tells → S.tells → (held : List (Option Observation)) (log : Log) (events : List Event) → Holds Stands (D.state disk.old) held → Stands (reads (D.state disk.old)) (observation log) → Legal log → verdict_after log (occasion_at command.now who.now now (S.state site.old)) ≡ Accept events → Holds Stands (D.state disk.new) (observation (followed log events) ∷ []) }
+    ensures refined { D.tells → S.tells → (held : List (Option Observation)) (log : Log) → Holds Stands (D.state disk.old) held → Stands (reads (D.state disk.old)) (observation log) → Legal log → Refined Stands (D.state disk.old) (D.state disk.new) held (observation log) (observation (step log (occasion_at command.now who.now now (S.state site.old)))) (outcome_of result) }
     ensures kept { ChangesNothing (outcome_of result) → D.tells → (held : List (Option Observation)) → Holds Stands (D.state disk.old) held → Leaves Stands (D.state disk.old) (D.state disk.new) held }
     ensures unchanged { ChangesNothing (outcome_of result) → D.tells → IsSettled (reads (D.state disk.old)) (MayLeave (D.state disk.old)) → effective (reads (D.state disk.new)) ≡ effective (reads (D.state disk.old)) }
     ensures settled { D.tells → IsSettled (reads (D.state disk.old)) (MayLeave (D.state disk.old)) → IsSettled (reads (D.state disk.new)) (MayLeave (D.state disk.new)) }
@@ -132,11 +131,14 @@ pub fn perform<D: Disk, S: Site>(
     requires moment { now ≤ 4102444799 }
     // How it ends, each outcome with its cause.
     ensures ends { EndsAs (D.tells → IsSettled (reads (D.state disk.old)) (MayLeave (D.state disk.old)) → S.tells → IsAccepted (reads (D.state disk.old)) (occasion_at command.now who.now now (S.state site.old))) (λ refusal. D.tells → IsSettled (reads (D.state disk.old)) (MayLeave (D.state disk.old)) → S.tells → IsRefused (reads (D.state disk.old)) (occasion_at command.now who.now now (S.state site.old)) refusal) (λ name. D.tells → IsSettled (reads (D.state disk.old)) (MayLeave (D.state disk.old)) → IsDamagedAt (reads (D.state disk.old)) name) (HasRisen (D.faults disk.old) (D.faults disk.new)) (HasRisen (S.faults site.old) (S.faults site.new)) result.outcome }
+    // Where no count rises it ends as the verdict says, but for want of memory.
+    ensures complete { D.tells → IsSettled (reads (D.state disk.old)) (MayLeave (D.state disk.old)) → S.tells → (log : Log) → Stands (reads (D.state disk.old)) (observation log) → (HasRisen (D.faults disk.old) (D.faults disk.new) → ⊥) → (HasRisen (S.faults site.old) (S.faults site.new) → ⊥) → (result.outcome ≡ outcome_of_answer (verdict_after log (occasion_at command.now who.now now (S.state site.old)))) ⊎ (result.outcome ≡ Outcome.Memory) }
 
-    // However it ends and wherever it stops, the disk holds what it held or the log with the events of the command, and that
-    // alone once it is done; and just what it held where nothing is changed. The log is any legal one that the disk reads.
-    ensures left { D.tells → S.tells → (held : List (Option Observation)) (log : Log) (events : List Event) → Holds Stands (D.state disk.old) held → Stands (reads (D.state disk.old)) (observation log) → Legal log → verdict_after log (occasion_at command.now who.now now (S.state site.old)) ≡ Accept events → Leaves Stands (D.state disk.old) (D.state disk.new) (held ++ observation (followed log events) ∷ []) }
-    ensures made { result.outcome ≡ Outcome.Done → D.tells → S.tells → (held : List (Option Observation)) (log : Log) (events : List Event) → Holds Stands (D.state disk.old) held → Stands (reads (D.state disk.old)) (observation log) → Legal log → verdict_after log (occasion_at command.now who.now now (S.state site.old)) ≡ Accept events → Holds Stands (D.state disk.new) (observation (followed log events) ∷ []) }
+    // However it ends and wherever it stops, what is left stands for a log that was held until the store is opened, and from
+    // then on for the log that is read; once the command is done, for that with its events, and where the disk failed, for one
+    // of the two. The disk holds just what may still be left. The log is any legal one that the disk reads.
+    ensures refined { D.tells → S.tells → (held : List (Option Observation)) (log : Log) → Holds Stands (D.state disk.old) held → Stands (reads (D.state disk.old)) (observation log) → Legal log → Refined Stands (D.state disk.old) (D.state disk.new) held (observation log) (observation (step log (occasion_at command.now who.now now (S.state site.old)))) result.outcome }
+    ensures made { result.outcome ≡ Outcome.Done → D.tells → S.tells → (held : List (Option Observation)) (log : Log) → Holds Stands (D.state disk.old) held → Stands (reads (D.state disk.old)) (observation log) → Legal log → Holds Stands (D.state disk.new) (observation (step log (occasion_at command.now who.now now (S.state site.old))) ∷ []) }
     ensures kept { ChangesNothing result.outcome → D.tells → (held : List (Option Observation)) → Holds Stands (D.state disk.old) held → Leaves Stands (D.state disk.old) (D.state disk.new) held }
     ensures unchanged { ChangesNothing result.outcome → D.tells → IsSettled (reads (D.state disk.old)) (MayLeave (D.state disk.old)) → effective (reads (D.state disk.new)) ≡ effective (reads (D.state disk.old)) }
     ensures settled { D.tells → IsSettled (reads (D.state disk.old)) (MayLeave (D.state disk.old)) → IsSettled (reads (D.state disk.new)) (MayLeave (D.state disk.new)) }

@@ -1,23 +1,10 @@
 -- How a call ends, once its message was told or not.
-use Rattle.std.proofs.Common.{◌≡◌, ◌≢◌, ◌⊎◌, inl, inr, ℕ, List, ◌++◌, Option, refl, sym, ◌∙◌, subst}
+use Rattle.std.proofs.Common.{◌≡◌, ◌≢◌, ◌⊎◌, inl, inr, ℕ, List, refl, sym, ◌∙◌, subst}
 use Rattle.ae_base.specs.declared.outcome.Outcome.{Outcome}
 use Rattle.ae_base.specs.declared.outcome.Outcome.TheVariants.{Done, RunFailed, Refused, BadWords, BadScript, DiskFault, SiteFault, SinkFault, SourceFault, Damaged, Memory}
-use Rattle.std.proofs.lemmas.List.Elements.{Contains-append_left}
 use Rattle.ae_outside.specs.Image.{Image}
-use Rattle.ae_outside.specs.State.{DiskState}
-use Rattle.ae_types.specs.Observation.{Observation}
-use Rattle.ae_vault.specs.Kept.{Holds}
-use Rattle.ae_log.specs.declared.event.Event.{Event}
-use Rattle.ae_log.specs.Log.{Log}
-use Rattle.ae_log.specs.Observed.{observation}
-use Rattle.ae_machine.specs.declared.verdict.Verdict.{Verdict}
-use Rattle.ae_machine.specs.declared.verdict.Verdict.TheVariants.{Accept, Refuse}
-use Rattle.ae_machine.specs.Legal.{Occasion, verdict_after}
-use Rattle.ae_store.specs.Records.{Stands}
+use Rattle.ae_machine.specs.Legal.{Occasion}
 use Rattle.ae_exec.specs.Endings as performed
-use Rattle.ae_exec.specs.Stops.{Leaves}
-use Rattle.ae_exec.proofs.Leaving.{leaves_more, leaves_still}
-use Rattle.ae_exec.proofs.Stores.{by_files, one}
 use Rattle.ae_session.specs.Answers.{EndsAs, bad_words, performs_so, sink_fault, memory, Performs, MayEnd, ChangesNothing, unless_told, IsMessage}
 
 pub ends_on : (bad : ℕ → Type 0) (performs : Outcome → Type 0) (rose : Type 0) (o : Outcome) → EndsAs bad performs ⊥ o → EndsAs bad performs rose o
@@ -98,39 +85,6 @@ nothing_performed tells settled shown image occasion disk_rose site_rose _ (perf
 nothing_performed tells settled shown image occasion disk_rose site_rose _ (performed.site_fault risen) nothing = tt
 nothing_performed tells settled shown image occasion disk_rose site_rose _ performed.memory nothing = tt
 
--- where the command is accepted after a log that the files stand for, it was done where its outcome could become a sink's fault
-pub accepted_done : (tells settled shown : Type 0) (image : Image) (occasion : Occasion) (disk_rose site_rose : Type 0) (o : Outcome) (log : Log) (events : List Event) → tells → settled → shown
-    → Stands image (observation log) → verdict_after log occasion ≡ Accept events → Performs tells settled shown image occasion disk_rose site_rose o → (o ≡ Done) ⊎ (unless_told o ≢ SinkFault) × (o ≢ SinkFault)
-accepted_done tells settled shown image occasion disk_rose site_rose _ log events told sure seen stands accepted (performed.done is) = inl refl
-accepted_done tells settled shown image occasion disk_rose site_rose _ log events told sure seen stands accepted (performed.refused refusal is) =
-    absurd (let both : ◌≡◌ {A = Verdict} (Refuse refusal) (Accept events) = sym ((is told sure seen).refused log stands) ∙ accepted in cc)
-accepted_done tells settled shown image occasion disk_rose site_rose _ log events told sure seen stands accepted (performed.damaged name is) = inr (λ both. cc, λ both. cc)
-accepted_done tells settled shown image occasion disk_rose site_rose _ log events told sure seen stands accepted (performed.disk_fault risen) = inr (λ both. cc, λ both. cc)
-accepted_done tells settled shown image occasion disk_rose site_rose _ log events told sure seen stands accepted (performed.site_fault risen) = inr (λ both. cc, λ both. cc)
-accepted_done tells settled shown image occasion disk_rose site_rose _ log events told sure seen stands accepted performed.memory = inr (λ both. cc, λ both. cc)
-
--- so it was done, where the call ends as done or with a sink's fault
-pub meant_done : (bad : ℕ → Type 0) (performs : Outcome → Type 0) (rose : Type 0) (o r : Outcome) → EndsAs bad performs ⊥ o → ((place : ℕ) → bad place → ⊥)
-    → ((outcome : Outcome) → performs outcome → (outcome ≡ Done) ⊎ (unless_told outcome ≢ SinkFault) × (outcome ≢ SinkFault))
-    → (r ≡ o) ⊎ ((r ≡ unless_told o) × rose) → (r ≡ Done) ⊎ (r ≡ SinkFault) → o ≡ Done
-meant_done bad performs rose _ r (bad_words place is) good so how how_ended = absurd (good place is)
-meant_done bad performs rose _ r (performs_so outcome is) good so how ended = go (so outcome is) how ended
-  where
-    go : (outcome ≡ Done) ⊎ (unless_told outcome ≢ SinkFault) × (outcome ≢ SinkFault) → (r ≡ outcome) ⊎ ((r ≡ unless_told outcome) × rose) → (r ≡ Done) ⊎ (r ≡ SinkFault) → outcome ≡ Done
-    go (inl done) how ended = done
-    go (inr neither) (inl same) (inl done) = sym same ∙ done
-    go (inr neither) (inl same) (inr fault) = absurd (neither.1 (sym same ∙ fault))
-    go (inr neither) (inr untold) (inr fault) = absurd (neither.0 (sym untold.0 ∙ fault))
-    go (inr neither) (inr untold) (inl done) = elim (untold_is outcome) [
-      | inl stays ↦ sym stays ∙ sym untold.0 ∙ done
-      | inr fault ↦ absurd (neither.0 fault)
-    ]
-meant_done bad performs rose _ r (sink_fault no_rise) good so how ended = absurd no_rise
-meant_done bad performs rose _ r memory good so (inl same) (inl done) = absurd (let both : Memory ≡ Done = sym same ∙ done in cc)
-meant_done bad performs rose _ r memory good so (inl same) (inr fault) = absurd (let both : Memory ≡ SinkFault = sym same ∙ fault in cc)
-meant_done bad performs rose _ r memory good so (inr untold) (inl done) = absurd (let both : Memory ≡ Done = sym untold.0 ∙ done in cc)
-meant_done bad performs rose _ r memory good so (inr untold) (inr fault) = absurd (let both : Memory ≡ SinkFault = sym untold.0 ∙ fault in cc)
-
 -- a message stays one where more replies may be meant by it
 pub message_on : (p q : List ℕ → Type 0) (o : Outcome) (text : List ℕ) → (o ≡ Done → (text : List ℕ) → p text → q text) → IsMessage p o text → IsMessage q o text
 message_on p q Done text more m = more refl text m
@@ -144,10 +98,6 @@ message_on p q RunFailed text more m = m
 message_on p q (BadScript line) text more m = m
 message_on p q SinkFault text more m = m
 message_on p q SourceFault text more m = m
-
--- no call leaves what was held, with a further log
-pub still : (disk : DiskState) (held more : List (Option Observation)) → Holds Stands disk held → Leaves Stands disk disk (held ++ more)
-still disk held more holds = leaves_more Stands by_files one disk disk held (held ++ more) (λ l is. Contains-append_left held more l is) (leaves_still Stands by_files one disk held holds)
 
 -- the outcome that was meant is that of the call, or became a sink's fault
 pub meant_is : (o r : Outcome) (rose : Type 0) → (r ≡ o) ⊎ ((r ≡ unless_told o) × rose) → (r ≡ o) ⊎ (r ≡ SinkFault)

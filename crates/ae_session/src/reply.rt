@@ -1,6 +1,5 @@
 // The answer of a call, and how it is told.
-ghost use Rattle.std.specs.Prelude.{◌≡◌, ◌≤◌, ◌⊎◌, ◌++◌, ℕ, List, [], IfOk, OnOk, length};
-ghost use Rattle.ae_base.specs.Refusals.{message_of};
+ghost use Rattle.std.specs.Prelude.{◌≡◌, ◌≤◌, ◌⊎◌, ◌++◌, ℕ, List, [], IfOk, OnOk};
 ghost use Rattle.ae_outside.specs.Causes.{HasRisen, HasCause};
 ghost use Rattle.ae_outside.specs.Streams.{TakesPrefix};
 ghost use Rattle.ae_session.specs.Answers.{IsMessage, bad_words_text, damaged_text, IsSaid};

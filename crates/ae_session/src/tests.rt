@@ -1,9 +1,7 @@
-// A project is made, once.
+// One command after another, over a disk and directories in memory.
 use super::*;
 use ae_base::Path;
-use ae_outside::{
-    Dir, Disk, MemDisk, MemRunList, MemSink, MemSite, MemSource, Pick, ReadError, Site,
-};
+use ae_outside::{Dir, Disk, MemDisk, MemRunList, MemSink, MemSite, MemSource, Pick, Site};
 use ae_vault::Vault;
 use std::alloc::{AllocError, Global};
 use std::process::Abort;
@@ -19,37 +17,62 @@ struct World {
     err: MemSink,
 }
 
-// An empty disk whose calls of these numbers fail, and an empty rest; the sink for messages fails likewise.
-fn make_world(alloc: Global, disk_fails: &[u64], err_fails: &[u64]) -> Result<World, AllocError> {
+// An empty disk, an empty site and a sink for messages, whose calls of these numbers fail.
+fn make_world(
+    alloc: Global,
+    disk_fails: &[u64],
+    site_fails: &[u64],
+    err_fails: &[u64],
+) -> Result<World, AllocError> {
     Ok(World {
         disk: MemDisk::new(alloc, disk_fails)?,
-        site: MemSite::new(alloc, MemRunList::of(Vec::new(alloc)), &[])?,
+        site: MemSite::new(alloc, MemRunList::of(Vec::new(alloc)), site_fails)?,
         input: MemSource::new(alloc, Vec::new(alloc), 1, &[])?,
         out: MemSink::new(alloc, &[])?,
         err: MemSink::new(alloc, err_fails)?,
     })
 }
 
-fn words(alloc: Global, words: &[&str]) -> Result<Vec<String>, AllocError> {
-    let mut list = Vec::new(alloc);
-    for word in words {
-        list.push(String::from_str(alloc, word)?)?;
-    }
-    Ok(list)
+// A call: who gives it, its words, its exit status, and what it tells.
+#[derive(Clone, Copy)]
+struct Call<'a> {
+    who: &'a str,
+    line: &'a str,
+    status: u8,
+    told: &'a str,
 }
 
-// The exit status of a call with these words.
+// A call by alice.
+fn alice<'a>(line: &'a str, status: u8, told: &'a str) -> Call<'a> {
+    Call {
+        who: "alice",
+        line,
+        status,
+        told,
+    }
+}
+
+// The words of a line.
+fn words_of(alloc: Global, line: &str) -> Result<Vec<String>, AllocError> {
+    let mut words = Vec::new(alloc);
+    for word in line.split(' ') {
+        words.push(String::from_str(alloc, word)?)?;
+    }
+    Ok(words)
+}
+
+// The exit status of a call with this line's words.
 fn status_of(
     alloc: Global,
     world: &mut World,
-    said: &[&str],
     who: &str,
+    line: &str,
     now: u64,
 ) -> Result<u8, AllocError> {
-    let said = words(alloc, said)?;
+    let words = words_of(alloc, line)?;
     let outcome = aegis(
         alloc,
-        said.as_slice(),
+        words.as_slice(),
         who,
         now,
         &mut world.disk,
@@ -61,14 +84,36 @@ fn status_of(
     Ok(outcome.status())
 }
 
-// The same of `-npr demo` by alice.
-fn status_of_demo(alloc: Global, world: &mut World) -> Result<u8, AllocError> {
-    status_of(alloc, world, &["-npr", "demo"], "alice", 1_000_000_000)
+// The call ends so and tells that.
+fn ends_so(rt: &impl Abort, alloc: Global, world: &mut World, call: &Call) -> Result<(), Fail> {
+    let before = world.err.taken().len();
+    let status = status_of(alloc, world, call.who, call.line, 1_000_000_000)?;
+    assert_eq!(rt; status, call.status);
+    assert!(rt; before <= world.err.taken().len());
+    assert_eq!(rt; &world.err.taken()[before..], call.told.as_bytes());
+    Ok(())
 }
 
-fn project_in(alloc: Global, disk: &mut MemDisk) -> Result<Vec<u8>, ReadError> {
-    disk.read_at(alloc, "project", 0, 1000)
+// Each of the calls, one after another.
+fn all_end_so(
+    rt: &impl Abort,
+    alloc: Global,
+    world: &mut World,
+    calls: &[Call],
+) -> Result<(), Fail> {
+    for call in calls {
+        ends_so(rt, alloc, world, call)?;
+    }
+    Ok(())
 }
+
+// The calls over an empty disk and empty directories.
+fn in_new_world(rt: &impl Abort, alloc: Global, calls: &[Call]) -> Result<(), Fail> {
+    let mut world = make_world(alloc, &[], &[], &[])?;
+    all_end_so(rt, alloc, &mut world, calls)
+}
+
+static CREATED: &str = "aegis: project \"demo\": created\n";
 
 static PROJECT: &[u8] = b"format = 1;
 store = packed;
@@ -89,15 +134,24 @@ changes = [];
 deltas = [];
 ";
 
-#[test]
-fn a_project_is_made(rt: HostRuntime) -> Result<(), Fail> {
-    let alloc = rt.alloc();
-    let mut world = make_world(alloc, &[], &[])?;
-    assert_eq!(rt; status_of_demo(alloc, &mut world)?, 0);
-    assert_eq!(rt;
-        world.err.taken(),
-        b"aegis: project \"demo\": created\n".as_slice()
-    );
+// A file of the disk has these bytes.
+fn has_file(
+    rt: &impl Abort,
+    alloc: Global,
+    disk: &mut MemDisk,
+    name: &str,
+    bytes: &[u8],
+) -> Result<(), Fail> {
+    let found = disk.read_at(alloc, name, 0, 1000)?;
+    assert_eq!(rt; found.as_slice(), bytes);
+    Ok(())
+}
+
+// The project is made, and has the canonical files; memory is there for all of it.
+fn makes_demo(rt: &impl Abort, alloc: Global, world: &mut World) -> Result<(), Fail> {
+    ends_so(rt, alloc, world, &alice("-npr demo", 0, CREATED))?;
+    has_file(rt, alloc, &mut world.disk, "project", PROJECT)?;
+    has_file(rt, alloc, &mut world.disk, "files", FILES)?;
     assert_eq!(rt; world.out.taken(), b"".as_slice());
     assert_eq!(rt; world.disk.starved(), 0);
     assert_eq!(rt; world.err.starved(), 0);
@@ -105,53 +159,57 @@ fn a_project_is_made(rt: HostRuntime) -> Result<(), Fail> {
 }
 
 #[test]
-fn its_files_are_canonical(rt: HostRuntime) -> Result<(), Fail> {
-    let alloc = rt.alloc();
-    let mut world = make_world(alloc, &[], &[])?;
-    assert_eq!(rt; status_of_demo(alloc, &mut world)?, 0);
-    assert_eq!(rt; project_in(alloc, &mut world.disk)?.as_slice(), PROJECT);
-    let files = world.disk.read_at(alloc, "files", 0, 1000)?;
-    assert_eq!(rt; files.as_slice(), FILES);
-    Ok(())
+fn a_project_is_made_with_canonical_files(rt: HostRuntime) -> Result<(), Fail> {
+    let mut world = make_world(rt.alloc(), &[], &[], &[])?;
+    makes_demo(&rt, rt.alloc(), &mut world)
 }
 
 #[test]
 fn made_twice_is_refused(rt: HostRuntime) -> Result<(), Fail> {
-    let alloc = rt.alloc();
-    let mut world = make_world(alloc, &[], &[])?;
-    assert_eq!(rt; status_of_demo(alloc, &mut world)?, 0);
-    assert_eq!(rt; status_of_demo(alloc, &mut world)?, 1);
-    let both = b"aegis: project \"demo\": created\naegis: 2: the project is there already\n";
-    assert_eq!(rt; world.err.taken(), both.as_slice());
-    Ok(())
+    let there = "aegis: 2: the project is there already\n";
+    let calls = [
+        alice("-npr demo", 0, CREATED),
+        alice("-npr demo", 1, there),
+        alice("--New-Project other", 1, there),
+    ];
+    in_new_world(&rt, rt.alloc(), &calls)
 }
 
-// What is told of words that are bad; the disk isn't called.
-fn told_of(alloc: Global, said: &[&str], who: &str, now: u64) -> Result<(u8, Vec<u8>, u64), Fail> {
-    let mut world = make_world(alloc, &[], &[])?;
-    let status = status_of(alloc, &mut world, said, who, now)?;
-    let message = world.err.taken().to_vec(alloc)?;
-    Ok((status, message, world.disk.calls()))
-}
-
-// The message of a call with this line's words, where its place is bad.
-fn is_told(rt: &impl Abort, alloc: Global, line: &str, place: &str) -> Result<(), Fail> {
-    let mut said = Vec::new(alloc);
-    for word in line.split(' ') {
-        said.push(word)?;
-    }
-    let (status, told, calls) = told_of(alloc, said.as_slice(), "bob", 4_102_444_799)?;
+// What is told of words that are bad at this place; the disk isn't called.
+fn is_bad_at(
+    rt: &impl Abort,
+    alloc: Global,
+    world: &mut World,
+    who: &str,
+    line: &str,
+    now: u64,
+    place: u8,
+) -> Result<(), Fail> {
+    let status = status_of(alloc, world, who, line, now)?;
     let message = format!(in alloc; "aegis: word {place} is not understood\n")?;
-    assert_eq!(rt; told.as_slice(), message.as_bytes());
+    assert_eq!(rt; world.err.taken(), message.as_bytes());
     assert_eq!(rt; status, 2);
-    assert_eq!(rt; calls, 0);
+    assert_eq!(rt; world.disk.calls(), 0);
     Ok(())
+}
+
+// The same of a new world.
+fn is_told(
+    rt: &impl Abort,
+    alloc: Global,
+    who: &str,
+    line: &str,
+    now: u64,
+    place: u8,
+) -> Result<(), Fail> {
+    let mut world = make_world(alloc, &[], &[], &[])?;
+    is_bad_at(rt, alloc, &mut world, who, line, now, place)
 }
 
 #[test]
 fn bad_words_are_told_by_their_place(rt: HostRuntime) -> Result<(), Fail> {
-    for (line, place) in [("-nprx demo", "1"), ("-npr", "2"), ("-npr demo -c 10", "3")] {
-        is_told(&rt, rt.alloc(), line, place)?;
+    for (line, place) in [("-nprx demo", 1), ("-npr", 2), ("-npr demo -c 10", 3)] {
+        is_told(&rt, rt.alloc(), "bob", line, 4_102_444_799, place)?;
     }
     Ok(())
 }
@@ -159,7 +217,7 @@ fn bad_words_are_told_by_their_place(rt: HostRuntime) -> Result<(), Fail> {
 #[test]
 fn a_command_that_is_not_there_yet_is_bad_at_its_function(rt: HostRuntime) -> Result<(), Fail> {
     for line in ["-db -c 10", "-scr", "-l locks"] {
-        is_told(&rt, rt.alloc(), line, "1")?;
+        is_told(&rt, rt.alloc(), "bob", line, 4_102_444_799, 1)?;
     }
     Ok(())
 }
@@ -167,133 +225,160 @@ fn a_command_that_is_not_there_yet_is_bad_at_its_function(rt: HostRuntime) -> Re
 #[test]
 fn who_and_when_come_before_the_words(rt: HostRuntime) -> Result<(), Fail> {
     for (who, now) in [("Bob", 0), ("bob", 4_102_444_800)] {
-        let (status, told, calls) = told_of(rt.alloc(), &["-nprx"], who, now)?;
-        assert_eq!(rt; status, 2);
-        assert_eq!(rt;
-            told.as_slice(),
-            b"aegis: word 0 is not understood\n".as_slice()
-        );
-        assert_eq!(rt; calls, 0);
+        is_told(&rt, rt.alloc(), who, "-nprx", now, 0)?;
     }
     Ok(())
 }
 
 #[test]
 fn a_function_may_be_written_out(rt: HostRuntime) -> Result<(), Fail> {
-    let (status, _, _) = told_of(rt.alloc(), &["--New-Project", "demo"], "alice", 0)?;
-    assert_eq!(rt; status, 0);
-    Ok(())
+    let calls = [alice("--New-Project demo", 0, CREATED)];
+    in_new_world(&rt, rt.alloc(), &calls)
 }
 
 #[test]
 fn a_user_may_have_a_dash(rt: HostRuntime) -> Result<(), Fail> {
-    let (status, _, _) = told_of(rt.alloc(), &["-npr", "demo"], "www-data", 0)?;
-    assert_eq!(rt; status, 0);
-    Ok(())
+    let calls = [Call {
+        who: "www-data",
+        line: "-npr demo",
+        status: 0,
+        told: CREATED,
+    }];
+    in_new_world(&rt, rt.alloc(), &calls)
+}
+
+// The disk's first call failed, and no project is there.
+fn makes_none(rt: &impl Abort, alloc: Global, world: &mut World) -> Result<(), Fail> {
+    ends_so(
+        rt,
+        alloc,
+        world,
+        &alice("-npr demo", 3, "aegis: disk fault\n"),
+    )?;
+    has_file(rt, alloc, &mut world.disk, "project", b"")
 }
 
 #[test]
 fn a_disk_that_fails_makes_no_project(rt: HostRuntime) -> Result<(), Fail> {
-    let alloc = rt.alloc();
-    let mut world = make_world(alloc, &[1], &[])?;
-    assert_eq!(rt; status_of_demo(alloc, &mut world)?, 3);
-    assert_eq!(rt; world.err.taken(), b"aegis: disk fault\n".as_slice());
-    assert_eq!(rt; project_in(alloc, &mut world.disk)?.len(), 0);
-    Ok(())
+    let mut world = make_world(rt.alloc(), &[1], &[], &[])?;
+    makes_none(&rt, rt.alloc(), &mut world)
+}
+
+// The project is made, but its reply isn't written.
+fn makes_untold(rt: &impl Abort, alloc: Global, world: &mut World) -> Result<(), Fail> {
+    ends_so(rt, alloc, world, &alice("-npr demo", 5, ""))?;
+    has_file(rt, alloc, &mut world.disk, "project", PROJECT)
 }
 
 #[test]
 fn a_reply_that_cannot_be_written_is_a_sink_fault(rt: HostRuntime) -> Result<(), Fail> {
-    let alloc = rt.alloc();
-    let mut world = make_world(alloc, &[], &[1])?;
-    assert_eq!(rt; status_of_demo(alloc, &mut world)?, 5);
-    assert_eq!(rt; project_in(alloc, &mut world.disk)?.as_slice(), PROJECT);
-    Ok(())
-}
-
-// A call by alice with this line's words has this status.
-fn is_status(
-    rt: &impl Abort,
-    alloc: Global,
-    world: &mut World,
-    line: &str,
-    status: u8,
-) -> Result<(), Fail> {
-    let mut said = Vec::new(alloc);
-    for word in line.split(' ') {
-        said.push(word)?;
-    }
-    assert_eq!(rt;
-        status_of(alloc, world, said.as_slice(), "alice", 1_000_000_000)?,
-        status
-    );
-    Ok(())
+    let mut world = make_world(rt.alloc(), &[], &[], &[1])?;
+    makes_untold(&rt, rt.alloc(), &mut world)
 }
 
 #[test]
 fn roles_are_given_and_refused(rt: HostRuntime) -> Result<(), Fail> {
-    let alloc = rt.alloc();
-    let mut world = make_world(alloc, &[], &[])?;
-    is_status(&rt, alloc, &mut world, "-npr demo", 0)?;
-    is_status(&rt, alloc, &mut world, "-nd bob", 0)?;
-    is_status(&rt, alloc, &mut world, "-nd bob", 1)?;
-    is_status(&rt, alloc, &mut world, "-ra alice", 1)?;
-    is_status(&rt, alloc, &mut world, "-nrv carol -p other", 1)?;
-    let told =
-        b"aegis: project \"demo\": created\naegis: project \"demo\": developer \"bob\" added\naegis: 16: user bob has that role\naegis: 18: the last administrator stays\naegis: 3: that is not this project\n";
-    assert_eq!(rt; world.err.taken(), told.as_slice());
-    Ok(())
+    let calls = [
+        alice("-npr demo", 0, CREATED),
+        alice(
+            "-nd bob",
+            0,
+            "aegis: project \"demo\": developer \"bob\" added\n",
+        ),
+        alice("-nd bob", 1, "aegis: 16: user bob has that role\n"),
+        alice("-ra alice", 1, "aegis: 18: the last administrator stays\n"),
+        alice(
+            "-nrv carol -p other",
+            1,
+            "aegis: 3: that is not this project\n",
+        ),
+    ];
+    in_new_world(&rt, rt.alloc(), &calls)
+}
+
+static MADE: &str = "aegis: project \"demo\": change 10: created\n";
+
+static REMOVED: &str = "aegis: project \"demo\": change 10: removed\n";
+
+// Without its file of attributes no change is made; with it, it is made, undone and made again.
+fn makes_a_change_again(rt: &impl Abort, alloc: Global, world: &mut World) -> Result<(), Fail> {
+    let none = "aegis: 40: there is no file \"c.attr\"\n";
+    ends_so(rt, alloc, world, &alice("-npr demo", 0, CREATED))?;
+    ends_so(rt, alloc, world, &alice("-nc -f c.attr", 1, none))?;
+    put_attributes(alloc, &mut world.site)?;
+    let calls = [
+        alice("-nc -f c.attr", 0, MADE),
+        alice("-ncu -c 10", 0, REMOVED),
+        alice("-nc -f c.attr", 0, MADE),
+    ];
+    all_end_so(rt, alloc, world, &calls)
 }
 
 #[test]
 fn a_change_is_made_undone_and_made_again(rt: HostRuntime) -> Result<(), Fail> {
-    let alloc = rt.alloc();
-    let mut world = make_world(alloc, &[], &[])?;
-    is_status(&rt, alloc, &mut world, "-npr demo", 0)?;
-    is_status(&rt, alloc, &mut world, "-nc -f c.attr", 1)?;
-    put_attributes(alloc, &mut world.site)?;
-    is_status(&rt, alloc, &mut world, "-nc -f c.attr", 0)?;
-    is_status(&rt, alloc, &mut world, "-ncu -c 10", 0)?;
-    is_status(&rt, alloc, &mut world, "-nc -f c.attr", 0)?;
-    let told =
-        b"aegis: project \"demo\": created\naegis: 40: there is no file \"c.attr\"\naegis: project \"demo\": change 10: created\naegis: project \"demo\": change 10: removed\naegis: project \"demo\": change 10: created\n";
-    assert_eq!(rt; world.err.taken(), told.as_slice());
-    Ok(())
+    let mut world = make_world(rt.alloc(), &[], &[], &[])?;
+    makes_a_change_again(&rt, rt.alloc(), &mut world)
 }
 
-// A project `demo`, beside the attributes of a change, over a disk whose calls of these numbers fail.
-fn make_demo(rt: &impl Abort, alloc: Global, disk_fails: &[u64]) -> Result<World, Fail> {
-    let mut world = make_world(alloc, disk_fails, &[])?;
-    is_status(rt, alloc, &mut world, "-npr demo", 0)?;
-    put_attributes(alloc, &mut world.site)?;
-    Ok(world)
+// The directories get the file `c.attr`, with a brief description.
+fn put_attributes(alloc: Global, site: &mut MemSite) -> Result<(), Fail> {
+    let Some(path) = Path::read(alloc, b"c.attr")? else {
+        return Err(Fail::from("no path"));
+    };
+    site.write(Dir::Here, &path, b"brief_description = \"first\";\n")?;
+    Ok(())
 }
 
 #[test]
 fn directories_that_fail_are_told(rt: HostRuntime) -> Result<(), Fail> {
-    let alloc = rt.alloc();
-    let mut world = make_demo(&rt, alloc, &[])?;
-    world.site = MemSite::new(alloc, MemRunList::of(Vec::new(alloc)), &[1])?;
-    is_status(&rt, alloc, &mut world, "-nc -f c.attr", 4)?;
-    let told = b"aegis: project \"demo\": created\naegis: directory fault\n";
-    assert_eq!(rt; world.err.taken(), told.as_slice());
+    let mut world = make_world(rt.alloc(), &[], &[1], &[])?;
+    let calls = [
+        alice("-npr demo", 0, CREATED),
+        alice("-nc -f c.attr", 4, "aegis: directory fault\n"),
+    ];
+    all_end_so(&rt, rt.alloc(), &mut world, &calls)
+}
+
+// A project `demo` is there, beside the attributes of a change: the number of the disk's calls so far.
+fn begins_demo(rt: &impl Abort, alloc: Global, world: &mut World) -> Result<u64, Fail> {
+    ends_so(rt, alloc, world, &alice("-npr demo", 0, CREATED))?;
+    put_attributes(alloc, &mut world.site)?;
+    Ok(world.disk.calls())
+}
+
+// How many calls the disk has behind `-npr demo`, and behind `-nc` after it.
+fn counts_calls(rt: &impl Abort, alloc: Global, world: &mut World) -> Result<(u64, u64), Fail> {
+    let first = begins_demo(rt, alloc, world)?;
+    ends_so(rt, alloc, world, &alice("-nc -f c.attr", 0, MADE))?;
+    let last = world.disk.calls();
+    assert!(rt; last < 100);
+    Ok((first, last))
+}
+
+fn calls_of_both(rt: &impl Abort, alloc: Global) -> Result<(u64, u64), Fail> {
+    let mut world = make_world(alloc, &[], &[], &[])?;
+    counts_calls(rt, alloc, &mut world)
+}
+
+// A call of the disk fails in `-nc`: it says so, and the next commands are done.
+fn goes_on(rt: &impl Abort, alloc: Global, world: &mut World) -> Result<(), Fail> {
+    begins_demo(rt, alloc, world)?;
+    ends_so(
+        rt,
+        alloc,
+        world,
+        &alice("-nc -f c.attr", 3, "aegis: disk fault\n"),
+    )?;
+    let added = "aegis: project \"demo\": developer \"bob\" added\n";
+    ends_so(rt, alloc, world, &alice("-nd bob", 0, added))?;
+    let status = status_of(alloc, world, "alice", "-nc -f c.attr", 1_000_000_000)?;
+    assert_eq!(rt; status, 0);
     Ok(())
 }
 
-// How many calls of the disk the first command makes, and both.
-fn calls_of_both(rt: &impl Abort, alloc: Global) -> Result<(u64, u64), Fail> {
-    let mut world = make_demo(rt, alloc, &[])?;
-    let first = world.disk.calls();
-    is_status(rt, alloc, &mut world, "-nc -f c.attr", 0)?;
-    Ok((first, world.disk.calls()))
-}
-
-// The call of this number fails: the command says so, and the next ones are done.
 fn goes_on_behind(rt: &impl Abort, alloc: Global, call: u64) -> Result<(), Fail> {
-    let mut world = make_demo(rt, alloc, &[call])?;
-    is_status(rt, alloc, &mut world, "-nc -f c.attr", 3)?;
-    is_status(rt, alloc, &mut world, "-nd bob", 0)?;
-    is_status(rt, alloc, &mut world, "-nc -f c.attr", 0)
+    let mut world = make_world(alloc, &[call], &[], &[])?;
+    goes_on(rt, alloc, &mut world)
 }
 
 #[test]
@@ -308,153 +393,189 @@ fn each_call_of_the_disk_may_fail(rt: HostRuntime) -> Result<(), Fail> {
     Ok(())
 }
 
-// What `project` and `change.10` are once the disk that a stop behind so many calls leaves is opened. The next command over
-// it is done.
+// What a stop behind so many calls leaves, once the disk is opened: the file of this name beside `project`.
 fn files_left(
+    rt: &impl Abort,
+    alloc: Global,
+    left: &mut MemDisk,
+    name: &str,
+) -> Result<(Vec<u8>, Vec<u8>), Fail> {
+    Vault::open(alloc, left)?;
+    let project = Vault::get(alloc, left, "project")?;
+    let other = Vault::get(alloc, left, name)?;
+    assert_eq!(rt; left.starved(), 0);
+    Ok((project, other))
+}
+
+// The same of a disk that was stopped.
+fn files_left_behind(
     rt: &impl Abort,
     alloc: Global,
     disk: &MemDisk,
     calls: u64,
     pick: Pick,
+    name: &str,
 ) -> Result<(Vec<u8>, Vec<u8>), Fail> {
     assert!(rt; calls <= disk.calls());
     let mut left = disk.after_stop(alloc, calls, pick)?;
-    Vault::open(alloc, &mut left)?;
-    let project = Vault::get(alloc, &mut left, "project")?;
-    let change = Vault::get(alloc, &mut left, "change.10")?;
-    let mut world = make_world(alloc, &[], &[])?;
+    files_left(rt, alloc, &mut left, name)
+}
+
+// The next command over what a stop leaves is done.
+fn next_is_done(
+    rt: &impl Abort,
+    alloc: Global,
+    disk: &MemDisk,
+    calls: u64,
+    pick: Pick,
+) -> Result<(), Fail> {
+    assert!(rt; calls <= disk.calls());
+    let left = disk.after_stop(alloc, calls, pick)?;
+    let mut world = make_world(alloc, &[], &[], &[])?;
     world.disk = left;
-    is_status(rt, alloc, &mut world, "-nd bob", 0)?;
-    Ok((project, change))
+    let added = "aegis: project \"demo\": developer \"bob\" added\n";
+    ends_so(rt, alloc, &mut world, &alice("-nd bob", 0, added))
+}
+
+// A stop behind so many calls leaves the project without the change, or with the whole one, as it must at the end.
+fn is_before_or_after(
+    rt: &impl Abort,
+    alloc: Global,
+    disk: &MemDisk,
+    calls: u64,
+    pick: Pick,
+) -> Result<(), Fail> {
+    let whole = files_left_behind(rt, alloc, disk, disk.calls(), Pick::Old, "change.10")?;
+    let left = files_left_behind(rt, alloc, disk, calls, pick, "change.10")?;
+    let is_after = left.0.as_slice() == whole.0.as_slice()
+        && left.1.as_slice() == whole.1.as_slice();
+    let is_before = left.0.as_slice() == PROJECT && left.1.is_empty();
+    assert!(rt; is_after || is_before && calls < disk.calls());
+    assert!(rt; !whole.1.is_empty());
+    next_is_done(rt, alloc, disk, calls, pick)
+}
+
+// At each of these calls of a disk, with each pick.
+fn stops_in_a_change(
+    rt: &impl Abort,
+    alloc: Global,
+    disk: &MemDisk,
+    first: u64,
+    last: u64,
+) -> Result<(), Fail> {
+    assert!(rt; last < 100);
+    for calls in first..last + 1 {
+        for pick in [Pick::Old, Pick::New, Pick::Zeros, Pick::Ones] {
+            is_before_or_after(rt, alloc, disk, calls, pick)?;
+        }
+    }
+    Ok(())
+}
+
+fn stops_in_a_change_of(rt: &impl Abort, alloc: Global, world: &mut World) -> Result<(), Fail> {
+    let (first, last) = counts_calls(rt, alloc, world)?;
+    stops_in_a_change(rt, alloc, &world.disk, first, last)
 }
 
 #[test]
 fn a_stop_anywhere_leaves_no_change_or_the_whole_one(rt: HostRuntime) -> Result<(), Fail> {
-    let alloc = rt.alloc();
-    let mut world = make_demo(&rt, alloc, &[])?;
-    let first = world.disk.calls();
-    is_status(&rt, alloc, &mut world, "-nc -f c.attr", 0)?;
-    let last = world.disk.calls();
-    assert!(rt; last < 100);
-    let (project, change) = files_left(&rt, alloc, &world.disk, last, Pick::Old)?;
-    for calls in 0..last + 1 {
-        for pick in [Pick::Old, Pick::New, Pick::Zeros, Pick::Ones] {
-            if first <= calls {
-                let left = files_left(&rt, alloc, &world.disk, calls, pick)?;
-                let is_after = left.0.as_slice() == project.as_slice()
-                    && left.1.as_slice() == change.as_slice();
-                let is_before = left.0.as_slice() == PROJECT && left.1.is_empty();
-                assert!(rt; is_after || is_before && calls < last);
-            }
-        }
-    }
-    assert!(rt; !change.is_empty());
-    Ok(())
-}
-
-// The directories get the file `c.attr`, with a brief description.
-fn put_attributes(alloc: Global, site: &mut MemSite) -> Result<(), Fail> {
-    let Some(path) = Path::read(alloc, b"c.attr")? else {
-        return Err(Fail::from("no path"));
-    };
-    site.write(Dir::Here, &path, b"brief_description = \"first\";\n")?;
-    Ok(())
+    let mut world = make_world(rt.alloc(), &[], &[], &[])?;
+    stops_in_a_change_of(&rt, rt.alloc(), &mut world)
 }
 
 static FILES: &[u8] = b"files = [];\nlocks = [];\n";
 
-// Whether a stop behind so many calls leaves no project or the whole one, once the disk is opened; at the end the whole one.
+// A stop behind so many calls leaves no project, or the whole one, as it must at the end.
 fn is_none_or_whole(
     rt: &impl Abort,
     alloc: Global,
     disk: &MemDisk,
     calls: u64,
     pick: Pick,
-) -> Result<bool, Fail> {
-    assert!(rt; calls <= disk.calls());
-    let mut left = disk.after_stop(alloc, calls, pick)?;
-    Vault::open(alloc, &mut left)?;
-    let project = Vault::get(alloc, &mut left, "project")?;
-    let files = Vault::get(alloc, &mut left, "files")?;
-    let is_none = project.is_empty() && files.is_empty() && calls < disk.calls();
-    Ok(is_none || (project.as_slice() == PROJECT && files.as_slice() == FILES))
+) -> Result<(), Fail> {
+    let left = files_left_behind(rt, alloc, disk, calls, pick, "files")?;
+    let is_none = left.0.is_empty() && left.1.is_empty() && calls < disk.calls();
+    assert!(rt; is_none || left.0.as_slice() == PROJECT && left.1.as_slice() == FILES);
+    Ok(())
 }
 
-#[test]
-fn a_stop_anywhere_leaves_no_project_or_the_whole_one(rt: HostRuntime) -> Result<(), Fail> {
-    let alloc = rt.alloc();
-    let mut world = make_world(alloc, &[], &[])?;
-    assert_eq!(rt; status_of_demo(alloc, &mut world)?, 0);
+fn stops_in_a_project(rt: &impl Abort, alloc: Global, world: &mut World) -> Result<(), Fail> {
+    ends_so(rt, alloc, world, &alice("-npr demo", 0, CREATED))?;
     let last = world.disk.calls();
     assert!(rt; last < 100);
     for calls in 0..last + 1 {
         for pick in [Pick::Old, Pick::New, Pick::Zeros, Pick::Ones] {
-            assert!(rt; is_none_or_whole(&rt, alloc, &world.disk, calls, pick)?);
+            is_none_or_whole(rt, alloc, &world.disk, calls, pick)?;
         }
     }
     Ok(())
 }
 
-// What `-npr other` by bob is told over the disk of a world.
-fn is_told_other(
+#[test]
+fn a_stop_anywhere_leaves_no_project_or_the_whole_one(rt: HostRuntime) -> Result<(), Fail> {
+    let mut world = make_world(rt.alloc(), &[], &[], &[])?;
+    stops_in_a_project(&rt, rt.alloc(), &mut world)
+}
+
+// `-npr other` by bob over the disk of a world.
+fn asks_for_other(
     rt: &impl Abort,
     alloc: Global,
     world: &mut World,
     status: u8,
-    message: &[u8],
+    told: &str,
 ) -> Result<(), Fail> {
-    let before = world.err.taken().len();
-    assert_eq!(rt;
-        status_of(alloc, world, &["-npr", "other"], "bob", 0)?,
-        status
-    );
-    assert!(rt; before <= world.err.taken().len());
-    assert_eq!(rt; &world.err.taken()[before..], message);
-    Ok(())
+    let call = Call {
+        who: "bob",
+        line: "-npr other",
+        status,
+        told,
+    };
+    ends_so(rt, alloc, world, &call)
+}
+
+fn finds_no_fields(rt: &impl Abort, alloc: Global, world: &mut World) -> Result<(), Fail> {
+    world.disk.write_at("project", 0, b"format = 1;")?;
+    asks_for_other(rt, alloc, world, 7, "aegis: \"project\" is damaged\n")
 }
 
 #[test]
 fn a_project_without_its_fields_is_damaged(rt: HostRuntime) -> Result<(), Fail> {
-    let alloc = rt.alloc();
-    let mut world = make_world(alloc, &[], &[])?;
-    world.disk.write_at("project", 0, b"format = 1;")?;
-    is_told_other(
-        &rt,
-        alloc,
-        &mut world,
-        7,
-        b"aegis: \"project\" is damaged\n",
-    )
+    let mut world = make_world(rt.alloc(), &[], &[], &[])?;
+    finds_no_fields(&rt, rt.alloc(), &mut world)
+}
+
+fn finds_no_files(rt: &impl Abort, alloc: Global, world: &mut World) -> Result<(), Fail> {
+    ends_so(rt, alloc, world, &alice("-npr demo", 0, CREATED))?;
+    world.disk.cut("files", 0)?;
+    asks_for_other(rt, alloc, world, 7, "aegis: \"files\" is damaged\n")
 }
 
 #[test]
 fn files_cut_to_nothing_are_damaged(rt: HostRuntime) -> Result<(), Fail> {
-    let alloc = rt.alloc();
-    let mut world = make_world(alloc, &[], &[])?;
-    assert_eq!(rt; status_of_demo(alloc, &mut world)?, 0);
-    world.disk.cut("files", 0)?;
-    is_told_other(&rt, alloc, &mut world, 7, b"aegis: \"files\" is damaged\n")
+    let mut world = make_world(rt.alloc(), &[], &[], &[])?;
+    finds_no_files(&rt, rt.alloc(), &mut world)
+}
+
+fn finds_no_project(rt: &impl Abort, alloc: Global, world: &mut World) -> Result<(), Fail> {
+    ends_so(rt, alloc, world, &alice("-npr demo", 0, CREATED))?;
+    world.disk.cut("project", 0)?;
+    asks_for_other(rt, alloc, world, 0, "aegis: project \"other\": created\n")
 }
 
 #[test]
 fn a_project_cut_to_nothing_is_none(rt: HostRuntime) -> Result<(), Fail> {
-    let alloc = rt.alloc();
-    let mut world = make_world(alloc, &[], &[])?;
-    assert_eq!(rt; status_of_demo(alloc, &mut world)?, 0);
-    world.disk.cut("project", 0)?;
-    is_told_other(
-        &rt,
-        alloc,
-        &mut world,
-        0,
-        b"aegis: project \"other\": created\n",
-    )
+    let mut world = make_world(rt.alloc(), &[], &[], &[])?;
+    finds_no_project(&rt, rt.alloc(), &mut world)
+}
+
+fn finds_an_open_gate(rt: &impl Abort, alloc: Global, world: &mut World) -> Result<(), Fail> {
+    world.disk.write_at("gate", 0, &[1])?;
+    asks_for_other(rt, alloc, world, 7, "aegis: \"body\" is damaged\n")
 }
 
 #[test]
 fn an_open_gate_without_a_body_is_damaged(rt: HostRuntime) -> Result<(), Fail> {
-    let alloc = rt.alloc();
-    let mut world = make_world(alloc, &[], &[])?;
-    world.disk.write_at("gate", 0, &[1])?;
-    is_told_other(&rt, alloc, &mut world, 7, b"aegis: \"body\" is damaged\n")
+    let mut world = make_world(rt.alloc(), &[], &[], &[])?;
+    finds_an_open_gate(&rt, rt.alloc(), &mut world)
 }

@@ -1,4 +1,4 @@
-use Rattle.std.proofs.Common.{◌≡◌, refl, ap, Err}
+use Rattle.std.proofs.Common.{refl, ap, Err}
 use Rattle.ae_exec.specs.Endings.{damaged, disk_fault, memory}
 use Rattle.ae_exec.proofs.Stores.{named_at}
 use Rattle.ae_exec.proofs.load.load_state.Goals as goal

@@ -1,4 +1,4 @@
-use Rattle.std.proofs.Common.{◌≡◌, ◌∙◌}
+use Rattle.std.proofs.Common.{◌∙◌}
 use Rattle.ae_exec.specs.Endings.{damaged, memory}
 use Rattle.ae_exec.proofs.open.damaged_body.Goals as goal
 

@@ -1,5 +1,4 @@
-use Rattle.std.proofs.Common.{ℕ, List, Option, Some, None}
-use Rattle.ae_types.specs.Observation.{Observation}
+use Rattle.std.proofs.Common.{ℕ, List, Some}
 use Rattle.ae_machine.specs.Accepted.{IsDecided, decided}
 use Rattle.ae_machine.specs.Legal.{Occasion}
 use Rattle.ae_machine.specs.Space.{placing}

@@ -1,4 +1,4 @@
-use Rattle.std.proofs.Common.{rules, ◌≡◌, ◌∙◌, sym, subst, Option, Err}
+use Rattle.std.proofs.Common.{rules, ◌≡◌, subst, Option, Err}
 use Rattle.std.specs.Prelude.{option_copied}
 use Rattle.ae_outside.specs.State.{reads}
 use Rattle.ae_store.specs.Records.{Stands}

@@ -1,6 +1,5 @@
-use Rattle.std.proofs.Common.{rules, ◌≡◌, ◌∙◌, sym, ap, Option, Some, Err}
+use Rattle.std.proofs.Common.{rules, ◌≡◌, ◌∙◌, sym, ap, Err}
 use Rattle.std.specs.Prelude.{option_copied}
-use Rattle.ae_machine.specs.declared.view.View.{View}
 use Rattle.ae_exec.specs.declared.stop.Stop.TheVariants as stop
 use Rattle.ae_exec.specs.Endings.{refused, memory}
 use Rattle.ae_exec.specs.Seen.{occasion_at, only_attributes, attributes_seen}

@@ -1,4 +1,4 @@
-use Rattle.std.proofs.Common.{◌≡◌, ◌∙◌}
+use Rattle.std.proofs.Common.{◌∙◌}
 use Rattle.std.specs.Prelude.{option_copied}
 use Rattle.ae_machine.specs.Replies.{next_delta}
 use Rattle.ae_exec.proofs.Lines.{line_is, same_line}

@@ -1,15 +1,18 @@
-use Rattle.std.proofs.Common.{◌≡◌, ℕ, List, map, string_bytes, inl, inr, sym, ap, subst, Err}
+use Rattle.std.proofs.Common.{ℕ, List, map, string_bytes, inl, inr, ap, subst, Err}
 use Rattle.ae_outside.specs.Causes.{HasRisen}
 use Rattle.ae_outside.specs.State.{reads, MayLeave}
 use Rattle.ae_vault.specs.Commit.{IsSettled}
 use Rattle.ae_words.specs.declared.command.Command.{Command}
-use Rattle.ae_machine.specs.declared.verdict.Verdict.TheVariants.{Accept}
-use Rattle.ae_machine.specs.Legal.{verdict_after}
+use Rattle.ae_log.specs.Observed.{observation}
+use Rattle.ae_store.specs.Records.{Stands}
+use Rattle.ae_exec.specs.Refined.{Refined}
+use Rattle.ae_exec.specs.Step.{step}
 use Rattle.ae_exec.specs.Seen.{occasion_at}
 use Rattle.ae_session.specs.Request.{AsksFor}
 use Rattle.ae_session.specs.Answers.{bad_words, performs_so, memory, Performs, IsReply}
 use Rattle.ae_session.proofs.Asking.{asks_once, asks_or_bad, said_by}
-use Rattle.ae_session.proofs.Endings.{message_on, still}
+use Rattle.ae_session.proofs.Endings.{message_on}
+use Rattle.ae_session.proofs.Refining.{still_refined}
 use Rattle.ae_session.proofs.session.decide.Goals as goal
 
 pub returns-in-Ok-clause-ends : goal.returns-in-Ok-clause-ends
@@ -34,16 +37,6 @@ returns-in-Ok-clause-text g c =
 pub returns-in-Ok-clause-not_called : goal.returns-in-Ok-clause-not_called
 returns-in-Ok-clause-not_called g c = λ place bad. absurd (asks_or_bad _ _ _ place _ c.in-Ok.ensures.asks bad)
 
-pub returns-in-Ok-clause-left : goal.returns-in-Ok-clause-left
-returns-in-Ok-clause-left g c = λ tells shown command held log events asks holds stands legal accepted.
-    c.perform_it.ensures.left tells shown held log events holds stands legal
-    (said_by (λ (said : Command) (who : List ℕ). verdict_after log (occasion_at said who c.args.now (g.S.Site.state c.args.site.now)) ≡ Accept events) command _ _ _ (asks_once _ _ _ _ _ asks c.in-Ok.ensures.asks) (sym c.in-Ok.ensures.who) accepted)
-
-pub returns-in-Ok-clause-made : goal.returns-in-Ok-clause-made
-returns-in-Ok-clause-made g c = λ done tells shown command held log events asks holds stands legal accepted.
-    c.perform_it.ensures.made done tells shown held log events holds stands legal
-    (said_by (λ (said : Command) (who : List ℕ). verdict_after log (occasion_at said who c.args.now (g.S.Site.state c.args.site.now)) ≡ Accept events) command _ _ _ (asks_once _ _ _ _ _ asks c.in-Ok.ensures.asks) (sym c.in-Ok.ensures.who) accepted)
-
 pub returns-in-Err-Bad-clause-text : goal.returns-in-Err-Bad-clause-text
 returns-in-Err-Bad-clause-text g c = message_on _ _ _ _ (λ done text none. absurd none) c.bad_words.ensures.text
 
@@ -53,12 +46,18 @@ returns-in-Err-Bad-clause-ends g c = elim c.bad_words.ensures.outcome [
   | inr is ↦ rw is memory
 ]
 
-pub returns-in-Err-Bad-clause-left : goal.returns-in-Err-Bad-clause-left
-returns-in-Err-Bad-clause-left g c = λ tells shown command held log events asks holds stands legal accepted.
-    absurd (asks_or_bad _ _ _ _ _ asks (c.in-Err-Bad.ensures.bad c.in-Err-Bad.place (ap Err c.in-Err-Bad.field-0-is)))
-
 pub returns-in-Err-Memory-clause-ends : goal.returns-in-Err-Memory-clause-ends
 returns-in-Err-Memory-clause-ends g c = rw c.bare.ensures.outcome memory
 
-pub returns-in-Err-Memory-clause-left : goal.returns-in-Err-Memory-clause-left
-returns-in-Err-Memory-clause-left g c = λ tells shown command held log events asks holds stands legal accepted. still _ held _ holds
+pub returns-in-Ok-clause-refined : goal.returns-in-Ok-clause-refined
+returns-in-Ok-clause-refined g c = λ tells shown command held log asks holds stands legal.
+    said_by (λ (said : Command) (who : List ℕ). Refined Stands (g.D.Disk.state c.args.disk.now) (g.D.Disk.state c.perform_it.new.disk) held (observation log) (observation (step log (occasion_at said who c.args.now (g.S.Site.state c.args.site.now)))) c.perform_it.result.outcome)
+    _ command _ _ (asks_once _ _ _ _ _ c.in-Ok.ensures.asks asks) c.in-Ok.ensures.who
+    (c.perform_it.ensures.refined tells shown held log holds stands legal)
+
+pub returns-in-Err-Bad-clause-refined : goal.returns-in-Err-Bad-clause-refined
+returns-in-Err-Bad-clause-refined g c = λ tells shown command held log asks holds stands legal.
+    absurd (asks_or_bad _ _ _ _ _ asks (c.in-Err-Bad.ensures.bad c.in-Err-Bad.place (ap Err c.in-Err-Bad.field-0-is)))
+
+pub returns-in-Err-Memory-clause-refined : goal.returns-in-Err-Memory-clause-refined
+returns-in-Err-Memory-clause-refined g c = λ tells shown command held log asks holds stands legal. rw c.bare.ensures.outcome (still_refined (g.D.Disk.state c.args.disk.now) held _ _ holds)
