@@ -1,6 +1,7 @@
 -- What calls leave, one after another.
-use Rattle.std.specs.Prelude.{◌≡◌, ◌⊎◌, true, false, ℕ, List, [], ◌∷◌, Contains}
-use Rattle.std.proofs.Common.{inl, inr, sym, ap, subst, ◌∙◌, arith}
+use Rattle.std.specs.Prelude.{◌≡◌, ◌⊎◌, true, false, ℕ, List, [], ◌∷◌, Contains, ◌≤◌}
+use Rattle.std.proofs.Common.{inl, inr, sym, ap, subst, ◌∙◌, arith, refl}
+use Rattle.std.proofs.lemmas.Bool.{cases_lt}
 use Rattle.std.proofs.lemmas.List.Elements.{Contains-append_left}
 use Rattle.ae_outside.specs.Image.{Image, IsSame}
 use Rattle.ae_outside.specs.State.{DiskState, reads, MayLeave, Continues, GoesOn}
@@ -89,3 +90,31 @@ opening_settled base disk (inr recovering) settled = (recovering.since disk.mome
 
 pub clean_settled : (disk : DiskState) → IsClean disk → IsSettled (reads disk) (MayLeave disk)
 clean_settled disk clean f g here there opened = absurd (let both : true ≡ false = sym opened ∙ clean f here in cc)
+
+-- ---- each moment of calls that change nothing
+
+-- no call
+pub open_now : (disk : DiskState) → IsSettled (reads disk) (MayLeave disk) → Throughout (OpenAt disk) disk.moment disk
+open_now disk settled u from till = subst (λ (v : ℕ). OpenAt disk (disk.reads_at v) (disk.image_at v)) (omega (arith, from, till)) now
+  where
+    now : OpenAt disk (reads disk) (MayLeave disk)
+    now = record { settled = settled; each = λ f is. (f, is, refl) }
+
+-- an opening, and a call that changes nothing
+pub open_still : (base mid disk : DiskState) → base.moment ≤ mid.moment → Throughout (OpenAt base) base.moment mid → GoesOn IsSame mid disk → Throughout (OpenAt base) base.moment disk
+open_still base mid disk later opening goes u from till = elim (cases_lt u mid.moment) [
+  | inl before ↦
+      let at : OpenAt base (mid.reads_at u) (mid.image_at u) = opening u from (omega (arith, before)) in
+      let was : (f : Image) → disk.image_at u f → mid.image_at u f = λ f is. goes.time.no_more u f (omega (arith, before)) is in
+      record {
+        settled = λ f g here there opened. subst (λ (i : Image). g body ≡ i body) (sym (goes.time.reads_stay u (omega (arith, before)))) (at.settled f g (was f here) (was g there) opened);
+        each = λ f is. at.each f (was f is);
+      }
+  | inr after ↦
+      let at : OpenAt base (reads mid) (MayLeave mid) = opening mid.moment later (omega arith) in
+      let was : (f : Image) → disk.image_at u f → MayLeave mid f = λ f is. let from_mid = goes.images_since u f after till is in subst (λ (g : Image). MayLeave mid g) (sym from_mid.2) from_mid.1 in
+      record {
+        settled = λ f g here there opened. subst (λ (i : Image). g body ≡ i body) (sym (goes.reads_since u after till)) (at.settled f g (was f here) (was g there) opened);
+        each = λ f is. at.each f (was f is);
+      }
+]

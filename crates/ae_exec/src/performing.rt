@@ -5,7 +5,7 @@ ghost use Rattle.ae_outside.specs.Causes.{HasRisen, HasCause};
 ghost use Rattle.ae_outside.specs.State.{reads, MayLeave, Continues};
 ghost use Rattle.ae_store.specs.Records.{Stands};
 ghost use Rattle.ae_types.specs.Observation.{Observation};
-ghost use Rattle.ae_vault.specs.Commit.{IsClean, IsSettled};
+ghost use Rattle.ae_vault.specs.Commit.{IsClean, IsSettled, OpenAt, Throughout};
 ghost use Rattle.ae_vault.specs.Kept.{Holds};
 ghost use Rattle.ae_vault.specs.Vault.{effective};
 ghost use Rattle.ae_log.specs.Log.{Log};
@@ -70,6 +70,7 @@ fn attempt<D: Disk, S: Site>(
     ensures ends { EndsAs (D.tells → IsSettled (reads (D.state disk.old)) (MayLeave (D.state disk.old)) → S.tells → IsAccepted (reads (D.state disk.old)) (occasion_at command.now who.now now (S.state site.old))) (λ refusal. D.tells → IsSettled (reads (D.state disk.old)) (MayLeave (D.state disk.old)) → S.tells → IsRefused (reads (D.state disk.old)) (occasion_at command.now who.now now (S.state site.old)) refusal) (λ name. D.tells → IsSettled (reads (D.state disk.old)) (MayLeave (D.state disk.old)) → IsDamagedAt (reads (D.state disk.old)) name) (HasRisen (D.faults disk.old) (D.faults disk.new)) (HasRisen (S.faults site.old) (S.faults site.new)) (outcome_of result) }
     ensures refined { D.tells → S.tells → (held : List (Option Observation)) (log : Log) → Holds Stands (D.state disk.old) held → Stands (reads (D.state disk.old)) (observation log) → Legal log → Refined Stands (D.state disk.old) (D.state disk.new) held (observation log) (observation (step log (occasion_at command.now who.now now (S.state site.old)))) (outcome_of result) }
     ensures kept { ChangesNothing (outcome_of result) → D.tells → (held : List (Option Observation)) → Holds Stands (D.state disk.old) held → Leaves Stands (D.state disk.old) (D.state disk.new) held }
+    ensures any_moment { ChangesNothing (outcome_of result) → D.tells → IsSettled (reads (D.state disk.old)) (MayLeave (D.state disk.old)) → Throughout (OpenAt (D.state disk.old)) (D.state disk.old).moment (D.state disk.new) }
     ensures unchanged { ChangesNothing (outcome_of result) → D.tells → IsSettled (reads (D.state disk.old)) (MayLeave (D.state disk.old)) → effective (reads (D.state disk.new)) ≡ effective (reads (D.state disk.old)) }
     ensures settled { D.tells → IsSettled (reads (D.state disk.old)) (MayLeave (D.state disk.old)) → IsSettled (reads (D.state disk.new)) (MayLeave (D.state disk.new)) }
     ensures others { D.tells → IsSettled (reads (D.state disk.old)) (MayLeave (D.state disk.old)) → OthersSame (effective (reads (D.state disk.old))) (effective (reads (D.state disk.new))) }
@@ -140,6 +141,7 @@ pub fn perform<D: Disk, S: Site>(
     ensures refined { D.tells → S.tells → (held : List (Option Observation)) (log : Log) → Holds Stands (D.state disk.old) held → Stands (reads (D.state disk.old)) (observation log) → Legal log → Refined Stands (D.state disk.old) (D.state disk.new) held (observation log) (observation (step log (occasion_at command.now who.now now (S.state site.old)))) result.outcome }
     ensures made { result.outcome ≡ Outcome.Done → D.tells → S.tells → (held : List (Option Observation)) (log : Log) → Holds Stands (D.state disk.old) held → Stands (reads (D.state disk.old)) (observation log) → Legal log → Holds Stands (D.state disk.new) (observation (step log (occasion_at command.now who.now now (S.state site.old))) ∷ []) }
     ensures kept { ChangesNothing result.outcome → D.tells → (held : List (Option Observation)) → Holds Stands (D.state disk.old) held → Leaves Stands (D.state disk.old) (D.state disk.new) held }
+    ensures any_moment { ChangesNothing result.outcome → D.tells → IsSettled (reads (D.state disk.old)) (MayLeave (D.state disk.old)) → Throughout (OpenAt (D.state disk.old)) (D.state disk.old).moment (D.state disk.new) }
     ensures unchanged { ChangesNothing result.outcome → D.tells → IsSettled (reads (D.state disk.old)) (MayLeave (D.state disk.old)) → effective (reads (D.state disk.new)) ≡ effective (reads (D.state disk.old)) }
     ensures settled { D.tells → IsSettled (reads (D.state disk.old)) (MayLeave (D.state disk.old)) → IsSettled (reads (D.state disk.new)) (MayLeave (D.state disk.new)) }
     ensures others { D.tells → IsSettled (reads (D.state disk.old)) (MayLeave (D.state disk.old)) → OthersSame (effective (reads (D.state disk.old))) (effective (reads (D.state disk.new))) }

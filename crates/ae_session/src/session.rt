@@ -4,7 +4,7 @@ ghost use Rattle.ae_outside.specs.Causes.{HasRisen};
 ghost use Rattle.ae_outside.specs.State.{reads, MayLeave};
 ghost use Rattle.ae_types.specs.Observation.{Observation};
 ghost use Rattle.ae_store.specs.Records.{Stands};
-ghost use Rattle.ae_vault.specs.Commit.{IsSettled};
+ghost use Rattle.ae_vault.specs.Commit.{IsSettled, OpenAt, Throughout};
 ghost use Rattle.ae_vault.specs.Kept.{Holds};
 ghost use Rattle.ae_vault.specs.Vault.{effective};
 ghost use Rattle.ae_words.specs.Formed.{IsFormed};
@@ -56,6 +56,7 @@ pub fn aegis<D: Disk, S: Site, I: Source, O: Sink, E: Sink>(
     ensures refined { D.tells → S.tells → (command : Command) (held : List (Option Observation)) (log : Log) → AsksFor (map string_bytes words.now) who.now now command → Holds Stands (D.state disk.old) held → Stands (reads (D.state disk.old)) (observation log) → Legal log → Refined Stands (D.state disk.old) (D.state disk.new) held (observation log) (observation (step log (occasion_at command who.now now (S.state site.old)))) result }
     ensures made { (result ≡ Outcome.Done) ⊎ (result ≡ Outcome.SinkFault) → D.tells → S.tells → (command : Command) (held : List (Option Observation)) (log : Log) → AsksFor (map string_bytes words.now) who.now now command → Holds Stands (D.state disk.old) held → Stands (reads (D.state disk.old)) (observation log) → Legal log → Holds Stands (D.state disk.new) (observation (step log (occasion_at command who.now now (S.state site.old))) ∷ []) }
     ensures kept { ChangesNothing result → D.tells → (held : List (Option Observation)) → Holds Stands (D.state disk.old) held → Leaves Stands (D.state disk.old) (D.state disk.new) held }
+    ensures any_moment { ChangesNothing result → D.tells → IsSettled (reads (D.state disk.old)) (MayLeave (D.state disk.old)) → Throughout (OpenAt (D.state disk.old)) (D.state disk.old).moment (D.state disk.new) }
     ensures unchanged { ChangesNothing result → D.tells → IsSettled (reads (D.state disk.old)) (MayLeave (D.state disk.old)) → effective (reads (D.state disk.new)) ≡ effective (reads (D.state disk.old)) }
     ensures settled { D.tells → IsSettled (reads (D.state disk.old)) (MayLeave (D.state disk.old)) → IsSettled (reads (D.state disk.new)) (MayLeave (D.state disk.new)) }
     ensures others { D.tells → IsSettled (reads (D.state disk.old)) (MayLeave (D.state disk.old)) → OthersSame (effective (reads (D.state disk.old))) (effective (reads (D.state disk.new))) }
@@ -86,6 +87,7 @@ fn decide<D: Disk, S: Site>(
     ensures not_called { (place : ℕ) → BadAt (map string_bytes words.now) who.now now place → (disk.new ≡ disk.old) × (site.new ≡ site.old) }
     ensures refined { D.tells → S.tells → (command : Command) (held : List (Option Observation)) (log : Log) → AsksFor (map string_bytes words.now) who.now now command → Holds Stands (D.state disk.old) held → Stands (reads (D.state disk.old)) (observation log) → Legal log → Refined Stands (D.state disk.old) (D.state disk.new) held (observation log) (observation (step log (occasion_at command who.now now (S.state site.old)))) result.outcome }
     ensures kept { ChangesNothing result.outcome → D.tells → (held : List (Option Observation)) → Holds Stands (D.state disk.old) held → Leaves Stands (D.state disk.old) (D.state disk.new) held }
+    ensures any_moment { ChangesNothing result.outcome → D.tells → IsSettled (reads (D.state disk.old)) (MayLeave (D.state disk.old)) → Throughout (OpenAt (D.state disk.old)) (D.state disk.old).moment (D.state disk.new) }
     ensures unchanged { ChangesNothing result.outcome → D.tells → IsSettled (reads (D.state disk.old)) (MayLeave (D.state disk.old)) → effective (reads (D.state disk.new)) ≡ effective (reads (D.state disk.old)) }
     ensures settled { D.tells → IsSettled (reads (D.state disk.old)) (MayLeave (D.state disk.old)) → IsSettled (reads (D.state disk.new)) (MayLeave (D.state disk.new)) }
     ensures others { D.tells → IsSettled (reads (D.state disk.old)) (MayLeave (D.state disk.old)) → OthersSame (effective (reads (D.state disk.old))) (effective (reads (D.state disk.new))) }
@@ -115,6 +117,7 @@ fn perform_it<D: Disk, S: Site>(
     ensures text { IsMessage (λ text. IsReply D.tells (IsSettled (reads (D.state disk.old)) (MayLeave (D.state disk.old))) S.tells (reads (D.state disk.old)) (occasion_at request.now.command request.now.who now (S.state site.old)) text) result.outcome (message_text result.outcome result.text) }
     ensures refined { D.tells → S.tells → (held : List (Option Observation)) (log : Log) → Holds Stands (D.state disk.old) held → Stands (reads (D.state disk.old)) (observation log) → Legal log → Refined Stands (D.state disk.old) (D.state disk.new) held (observation log) (observation (step log (occasion_at request.now.command request.now.who now (S.state site.old)))) result.outcome }
     ensures kept { ChangesNothing result.outcome → D.tells → (held : List (Option Observation)) → Holds Stands (D.state disk.old) held → Leaves Stands (D.state disk.old) (D.state disk.new) held }
+    ensures any_moment { ChangesNothing result.outcome → D.tells → IsSettled (reads (D.state disk.old)) (MayLeave (D.state disk.old)) → Throughout (OpenAt (D.state disk.old)) (D.state disk.old).moment (D.state disk.new) }
     ensures unchanged { ChangesNothing result.outcome → D.tells → IsSettled (reads (D.state disk.old)) (MayLeave (D.state disk.old)) → effective (reads (D.state disk.new)) ≡ effective (reads (D.state disk.old)) }
     ensures settled { D.tells → IsSettled (reads (D.state disk.old)) (MayLeave (D.state disk.old)) → IsSettled (reads (D.state disk.new)) (MayLeave (D.state disk.new)) }
     ensures others { D.tells → IsSettled (reads (D.state disk.old)) (MayLeave (D.state disk.old)) → OthersSame (effective (reads (D.state disk.old))) (effective (reads (D.state disk.new))) }

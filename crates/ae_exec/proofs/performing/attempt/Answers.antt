@@ -9,7 +9,7 @@ use Rattle.ae_exec.specs.Seen.{occasion_at}
 use Rattle.ae_exec.specs.Step.{step}
 use Rattle.ae_exec.proofs.Attempting.{risen_later, refused_at, accepted_at, said_at, refined_at, is_complete}
 use Rattle.ae_exec.proofs.Endings.{ends_for, ends_err}
-use Rattle.ae_exec.proofs.Leaving.{same_settled}
+use Rattle.ae_exec.proofs.Leaving.{open_still, same_settled}
 use Rattle.ae_exec.proofs.Refining.{opened_still, stopped_refined, fault_refined, done_refined, refined_err}
 use Rattle.ae_exec.proofs.Stores.{by_files, one, begun, read_before, damaged_by_files, others_same, others_then, same_files}
 use Rattle.ae_exec.proofs.performing.attempt.Goals as goal
@@ -89,3 +89,7 @@ returns-clause-refined g c = λ tells seen held log holds stands legal.
     (done_refined Stands by_files one (g.D.Disk.state c.args.disk.now) (g.D.Disk.state c.make_plan.new.disk) (g.D.Disk.state c.put_batch.new.disk) held plan.0 (Some plan.2.made.next) opened (c.put_batch.ensures.time tells)
     (c.put_batch.ensures.left tells plan.0 plan.2.made.next plan.2.made.step complete opened.holds)
     (c.in_ok-put_batch.ensures.made tells plan.0 plan.2.made.next plan.2.made.step complete opened.holds))
+
+pub returns-in_err-batch-clause-any_moment : goal.returns-in_err-batch-clause-any_moment
+returns-in_err-batch-clause-any_moment g c = λ nothing tells settled.
+    open_still (g.D.Disk.state c.args.disk.now) (g.D.Disk.state c.open_store.new.disk) (g.D.Disk.state c.make_plan.new.disk) (c.open_store.ensures.time tells).later (c.open_store.ensures.any_moment tells settled) (c.make_plan.ensures.same tells)

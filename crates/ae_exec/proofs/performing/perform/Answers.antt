@@ -33,3 +33,6 @@ returns-clause-no_reply g c = λ other. c.ended.ensures.reply ∙ c.attempt-atte
 pub returns-clause-complete : goal.returns-clause-complete
 returns-clause-complete g c = λ tells settled seen log stands no_disk no_site.
     completes _ _ _ _ _ _ _ _ (returns-clause-ends g c) tells settled seen log stands no_disk no_site
+
+pub returns-clause-any_moment : goal.returns-clause-any_moment
+returns-clause-any_moment g c = λ nothing. c.attempt-attempt.ensures.any_moment (subst (λ (o : Outcome). ChangesNothing o) c.ended.ensures.outcome nothing)

@@ -58,3 +58,6 @@ returns-clause-complete g c = λ tells settled seen command log asks stands no_d
     (λ outcome so. said_by (λ (said : Command) (who : List ℕ). (outcome ≡ outcome_of_answer (verdict_after log (occasion_at said who c.args.now (g.S.Site.state c.args.site.now)))) ⊎ (outcome ≡ Memory)) so.0 command _ _ (asks_once _ _ _ _ _ so.1 asks) refl
     (completes _ _ _ _ _ _ _ _ so.2 tells settled seen log stands no_disk no_site))
     (inr refl)
+
+pub returns-clause-any_moment : goal.returns-clause-any_moment
+returns-clause-any_moment g c = λ nothing. c.decide-reply.ensures.any_moment (changed_nothing _ _ _ c.tell.ensures.outcome nothing)

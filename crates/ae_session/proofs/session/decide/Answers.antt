@@ -12,6 +12,7 @@ use Rattle.ae_session.specs.Request.{AsksFor}
 use Rattle.ae_session.specs.Answers.{bad_words, performs_so, memory, Performs, IsReply}
 use Rattle.ae_session.proofs.Asking.{asks_once, asks_or_bad, said_by}
 use Rattle.ae_session.proofs.Endings.{message_on}
+use Rattle.ae_exec.proofs.Leaving.{open_now}
 use Rattle.ae_session.proofs.Refining.{still_refined}
 use Rattle.ae_session.proofs.session.decide.Goals as goal
 
@@ -61,3 +62,9 @@ returns-in-Err-Bad-clause-refined g c = λ tells shown command held log asks hol
 
 pub returns-in-Err-Memory-clause-refined : goal.returns-in-Err-Memory-clause-refined
 returns-in-Err-Memory-clause-refined g c = λ tells shown command held log asks holds stands legal. rw c.bare.ensures.outcome (still_refined (g.D.Disk.state c.args.disk.now) held _ _ holds)
+
+pub returns-in-Err-Bad-clause-any_moment : goal.returns-in-Err-Bad-clause-any_moment
+returns-in-Err-Bad-clause-any_moment g c = λ nothing tells settled. open_now (g.D.Disk.state c.args.disk.now) settled
+
+pub returns-in-Err-Memory-clause-any_moment : goal.returns-in-Err-Memory-clause-any_moment
+returns-in-Err-Memory-clause-any_moment g c = λ nothing tells settled. open_now (g.D.Disk.state c.args.disk.now) settled

@@ -29,3 +29,6 @@ returns-clause-unchanged g c = λ nothing. c.perform-done.ensures.unchanged (not
 
 pub told-requires : goal.told-requires
 told-requires g c = record { so = may_end _ _ _ _ _ _ _ _ c.perform-done.ensures.ends }
+
+pub returns-clause-any_moment : goal.returns-clause-any_moment
+returns-clause-any_moment g c = λ nothing. c.perform-done.ensures.any_moment (nothing_performed _ _ _ _ _ _ _ _ c.perform-done.ensures.ends (nothing_told _ _ c.told.ensures.outcome nothing))
