@@ -134,24 +134,30 @@ changes = [];
 deltas = [];
 ";
 
-// A file of the disk has these bytes.
-fn has_file(
+// The file `project` of the disk has these bytes.
+fn has_project(
     rt: &impl Abort,
     alloc: Global,
     disk: &mut MemDisk,
-    name: &str,
     bytes: &[u8],
 ) -> Result<(), Fail> {
-    let found = disk.read_at(alloc, name, 0, 1000)?;
+    let found = disk.read_at(alloc, "project", 0, 1000)?;
     assert_eq!(rt; found.as_slice(), bytes);
+    Ok(())
+}
+
+// And `files` is the table of a new project.
+fn has_new_table(rt: &impl Abort, alloc: Global, disk: &mut MemDisk) -> Result<(), Fail> {
+    let found = disk.read_at(alloc, "files", 0, 1000)?;
+    assert_eq!(rt; found.as_slice(), FILES);
     Ok(())
 }
 
 // The project is made, and has the canonical files; memory is there for all of it.
 fn makes_demo(rt: &impl Abort, alloc: Global, world: &mut World) -> Result<(), Fail> {
     ends_so(rt, alloc, world, &alice("-npr demo", 0, CREATED))?;
-    has_file(rt, alloc, &mut world.disk, "project", PROJECT)?;
-    has_file(rt, alloc, &mut world.disk, "files", FILES)?;
+    has_project(rt, alloc, &mut world.disk, PROJECT)?;
+    has_new_table(rt, alloc, &mut world.disk)?;
     assert_eq!(rt; world.out.taken(), b"".as_slice());
     assert_eq!(rt; world.disk.starved(), 0);
     assert_eq!(rt; world.err.starved(), 0);
@@ -255,7 +261,7 @@ fn makes_none(rt: &impl Abort, alloc: Global, world: &mut World) -> Result<(), F
         world,
         &alice("-npr demo", 3, "aegis: disk fault\n"),
     )?;
-    has_file(rt, alloc, &mut world.disk, "project", b"")
+    has_project(rt, alloc, &mut world.disk, b"")
 }
 
 #[test]
@@ -267,7 +273,7 @@ fn a_disk_that_fails_makes_no_project(rt: HostRuntime) -> Result<(), Fail> {
 // The project is made, but its reply isn't written.
 fn makes_untold(rt: &impl Abort, alloc: Global, world: &mut World) -> Result<(), Fail> {
     ends_so(rt, alloc, world, &alice("-npr demo", 5, ""))?;
-    has_file(rt, alloc, &mut world.disk, "project", PROJECT)
+    has_project(rt, alloc, &mut world.disk, PROJECT)
 }
 
 #[test]
@@ -393,32 +399,39 @@ fn each_call_of_the_disk_may_fail(rt: HostRuntime) -> Result<(), Fail> {
     Ok(())
 }
 
-// What a stop behind so many calls leaves, once the disk is opened: the file of this name beside `project`.
-fn files_left(
-    rt: &impl Abort,
-    alloc: Global,
-    left: &mut MemDisk,
-    name: &str,
-) -> Result<(Vec<u8>, Vec<u8>), Fail> {
-    Vault::open(alloc, left)?;
-    let project = Vault::get(alloc, left, "project")?;
-    let other = Vault::get(alloc, left, name)?;
-    assert_eq!(rt; left.starved(), 0);
-    Ok((project, other))
+// The files of a store.
+#[derive(Drop)]
+struct Left {
+    project: Vec<u8>,
+    files: Vec<u8>,
+    change: Vec<u8>,
 }
 
-// The same of a disk that was stopped.
-fn files_left_behind(
+// What a stop left, once the disk is opened.
+fn opened(rt: &impl Abort, alloc: Global, left: &mut MemDisk) -> Result<Left, Fail> {
+    Vault::open(alloc, left)?;
+    let project = Vault::get(alloc, left, "project")?;
+    let files = Vault::get(alloc, left, "files")?;
+    let change = Vault::get(alloc, left, "change.10")?;
+    assert_eq!(rt; left.starved(), 0);
+    Ok(Left {
+        project,
+        files,
+        change,
+    })
+}
+
+// What a stop behind so many calls leaves.
+fn left_behind(
     rt: &impl Abort,
     alloc: Global,
     disk: &MemDisk,
     calls: u64,
     pick: Pick,
-    name: &str,
-) -> Result<(Vec<u8>, Vec<u8>), Fail> {
+) -> Result<Left, Fail> {
     assert!(rt; calls <= disk.calls());
     let mut left = disk.after_stop(alloc, calls, pick)?;
-    files_left(rt, alloc, &mut left, name)
+    opened(rt, alloc, &mut left)
 }
 
 // The next command over what a stop leaves is done.
@@ -445,13 +458,14 @@ fn is_before_or_after(
     calls: u64,
     pick: Pick,
 ) -> Result<(), Fail> {
-    let whole = files_left_behind(rt, alloc, disk, disk.calls(), Pick::Old, "change.10")?;
-    let left = files_left_behind(rt, alloc, disk, calls, pick, "change.10")?;
-    let is_after = left.0.as_slice() == whole.0.as_slice()
-        && left.1.as_slice() == whole.1.as_slice();
-    let is_before = left.0.as_slice() == PROJECT && left.1.is_empty();
+    let whole = left_behind(rt, alloc, disk, disk.calls(), Pick::Old)?;
+    let left = left_behind(rt, alloc, disk, calls, pick)?;
+    let is_after = left.project.as_slice() == whole.project.as_slice()
+        && left.change.as_slice() == whole.change.as_slice();
+    let is_before = left.project.as_slice() == PROJECT && left.change.is_empty();
     assert!(rt; is_after || is_before && calls < disk.calls());
-    assert!(rt; !whole.1.is_empty());
+    assert!(rt; !whole.change.is_empty());
+    assert_eq!(rt; left.files.as_slice(), FILES);
     next_is_done(rt, alloc, disk, calls, pick)
 }
 
@@ -493,9 +507,9 @@ fn is_none_or_whole(
     calls: u64,
     pick: Pick,
 ) -> Result<(), Fail> {
-    let left = files_left_behind(rt, alloc, disk, calls, pick, "files")?;
-    let is_none = left.0.is_empty() && left.1.is_empty() && calls < disk.calls();
-    assert!(rt; is_none || left.0.as_slice() == PROJECT && left.1.as_slice() == FILES);
+    let left = left_behind(rt, alloc, disk, calls, pick)?;
+    let is_none = left.project.is_empty() && left.files.is_empty() && calls < disk.calls();
+    assert!(rt; is_none || left.project.as_slice() == PROJECT && left.files.as_slice() == FILES);
     Ok(())
 }
 
