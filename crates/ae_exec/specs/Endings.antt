@@ -42,6 +42,13 @@ pub data EndsAs (is_done : Type 0) (is_refused : Refusal → Type 0) (is_damaged
   site_fault : site_rose → EndsAs is_done is_refused is_damaged disk_rose site_rose SiteFault
   memory : EndsAs is_done is_refused is_damaged disk_rose site_rose Memory
 
+-- How a command may end, where the disk tells and is settled and the directories are told: done where it is accepted, refused
+-- where it is refused, a damaged store where that file is damaged, and a fault where that count rose.
+abbrev pub Performs : (tells settled shown : Type 0) → Image → Occasion → (disk_rose site_rose : Type 0) → Outcome → Type 0
+Performs tells settled shown image occasion disk_rose site_rose =
+    EndsAs (tells → settled → shown → IsAccepted image occasion) (λ (refusal : Refusal). tells → settled → shown → IsRefused image occasion refusal)
+    (λ (name : List ℕ). tells → settled → IsDamagedAt image name) disk_rose site_rose
+
 -- the outcomes of a command that changes nothing
 abbrev pub ChangesNothing : Outcome → Type 0
 ChangesNothing (Refused refusal) = Unit {0}

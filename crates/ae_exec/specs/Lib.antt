@@ -1,6 +1,6 @@
 pub mod Stops
-pub mod Step
 pub mod Refined
+pub mod Step
 pub mod Seen
 pub mod Said
 pub mod Next

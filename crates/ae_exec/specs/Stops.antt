@@ -1,8 +1,13 @@
 -- What a call leaves, and what stops leave while it lasts.
 use Rattle.std.specs.Prelude.{ℕ, ◌≤◌, List}
 use Rattle.ae_outside.specs.Image.{Image}
-use Rattle.ae_outside.specs.State.{DiskState}
+use Rattle.ae_outside.specs.State.{DiskState, reads, MayLeave}
+use Rattle.ae_vault.specs.Commit.{IsSettled}
 use Rattle.ae_vault.specs.Kept.{StandsForOne, Holds}
+
+-- the disk is settled now
+abbrev pub IsSettledNow : DiskState → Type 0
+IsSettledNow disk = IsSettled (reads disk) (MayLeave disk)
 
 -- at each moment from one to another, a stop leaves what stands for one of these
 abbrev pub StopsBetween : {Log : Type 0} → (Image → Log → Type 0) → DiskState → ℕ → ℕ → List Log → Type 0

@@ -1,15 +1,15 @@
 // The store is opened.
 ghost use Rattle.std.specs.Prelude.{◌≡◌, ◌≤◌, ℕ, List, codes, Option, OnOk, IfErr};
 ghost use Rattle.ae_outside.specs.Causes.{HasRisen};
-ghost use Rattle.ae_outside.specs.State.{reads, MayLeave, Continues};
+ghost use Rattle.ae_outside.specs.State.{reads, Continues};
 ghost use Rattle.ae_store.specs.Records.{Stands};
 ghost use Rattle.ae_types.specs.Observation.{Observation};
-ghost use Rattle.ae_vault.specs.Commit.{IsClean, IsSettled, OpenAt, Throughout};
+ghost use Rattle.ae_vault.specs.Commit.{IsClean, OpenAt, Throughout};
 ghost use Rattle.ae_vault.specs.Kept.{Holds};
 ghost use Rattle.ae_vault.specs.Vault.{effective};
 ghost use Rattle.ae_exec.specs.Endings.{EndsAs, IsDamagedAt, outcome_of_stop};
 ghost use Rattle.ae_exec.specs.Refined.{IsOpened, Refined};
-ghost use Rattle.ae_exec.specs.Stops.{Leaves};
+ghost use Rattle.ae_exec.specs.Stops.{IsSettledNow, Leaves};
 
 use crate::stop::Stop;
 use ae_base::Text;
@@ -31,9 +31,9 @@ fn damaged_body(alloc: Global) -> Stop
 pub(crate) fn open_store<D: Disk>(alloc: Global, disk: &mut D) -> Result<(), Stop>
     ensures clean { OnOk result (D.tells → IsClean (D.state disk.new)) }
     ensures time { D.tells → Continues (D.state disk.old) (D.state disk.new) }
-    ensures any_moment { D.tells → IsSettled (reads (D.state disk.old)) (MayLeave (D.state disk.old)) → Throughout (OpenAt (D.state disk.old)) (D.state disk.old).moment (D.state disk.new) }
-    ensures files { D.tells → IsSettled (reads (D.state disk.old)) (MayLeave (D.state disk.old)) → effective (reads (D.state disk.new)) ≡ effective (reads (D.state disk.old)) }
-    ensures settled { D.tells → IsSettled (reads (D.state disk.old)) (MayLeave (D.state disk.old)) → IsSettled (reads (D.state disk.new)) (MayLeave (D.state disk.new)) }
+    ensures any_moment { D.tells → IsSettledNow (D.state disk.old) → Throughout (OpenAt (D.state disk.old)) (D.state disk.old).moment (D.state disk.new) }
+    ensures files { D.tells → IsSettledNow (D.state disk.old) → effective (reads (D.state disk.new)) ≡ effective (reads (D.state disk.old)) }
+    ensures settled { D.tells → IsSettledNow (D.state disk.old) → IsSettledNow (D.state disk.new) }
     ensures left { D.tells → (held : List (Option Observation)) → Holds Stands (D.state disk.old) held → Leaves Stands (D.state disk.old) (D.state disk.new) held }
     ensures opened { OnOk result (D.tells → (held : List (Option Observation)) (o : Option Observation) → Holds Stands (D.state disk.old) held → Stands (reads (D.state disk.old)) o → IsOpened Stands (D.state disk.old) (D.state disk.new) held o) }
     ensures refined { IfErr result (λ stop. D.tells → (held : List (Option Observation)) (o next : Option Observation) → Holds Stands (D.state disk.old) held → Stands (reads (D.state disk.old)) o → Refined Stands (D.state disk.old) (D.state disk.new) held o next (outcome_of_stop stop)) }

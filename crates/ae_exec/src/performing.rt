@@ -2,26 +2,25 @@
 ghost use Rattle.std.specs.Prelude.{◌≡◌, ◌≢◌, ◌≤◌, ◌⊎◌, ◌∷◌, [], ℕ, true, false, List, Option, Some, OnOk};
 ghost use Rattle.ae_base.specs.declared.outcome.Outcome.{Outcome};
 ghost use Rattle.ae_outside.specs.Causes.{HasRisen, HasCause};
-ghost use Rattle.ae_outside.specs.State.{reads, MayLeave, Continues};
+ghost use Rattle.ae_outside.specs.State.{reads, Continues};
 ghost use Rattle.ae_store.specs.Records.{Stands};
 ghost use Rattle.ae_types.specs.Observation.{Observation};
-ghost use Rattle.ae_vault.specs.Commit.{IsClean, IsSettled, OpenAt, Throughout};
+ghost use Rattle.ae_vault.specs.Commit.{IsClean, OpenAt, Throughout};
 ghost use Rattle.ae_vault.specs.Kept.{Holds};
 ghost use Rattle.ae_vault.specs.Vault.{effective};
 ghost use Rattle.ae_log.specs.Log.{Log};
 ghost use Rattle.ae_log.specs.Observed.{observation};
 ghost use Rattle.ae_words.specs.Formed.{IsFormed};
-ghost use Rattle.ae_machine.specs.Legal.{Legal, verdict_after};
+ghost use Rattle.ae_machine.specs.Legal.{verdict_after};
 ghost use Rattle.ae_machine.specs.Replies.{reply};
 ghost use Rattle.ae_machine.specs.There.{is_there_yet};
-ghost use Rattle.ae_exec.specs.Endings.{EndsAs, IsAccepted, IsRefused, IsDamagedAt, ChangesNothing, OthersSame, outcome_of, outcome_of_stop, said_of};
+ghost use Rattle.ae_exec.specs.Endings.{ChangesNothing, Performs, OthersSame, outcome_of, outcome_of_stop, said_of};
 ghost use Rattle.ae_exec.specs.Next.{IsComplete};
 ghost use Rattle.ae_exec.specs.Plan.{IsStep};
-ghost use Rattle.ae_exec.specs.Refined.{Refined};
 ghost use Rattle.ae_exec.specs.Said.{reply_text};
 ghost use Rattle.ae_exec.specs.Seen.{occasion_at};
-ghost use Rattle.ae_exec.specs.Step.{outcome_of_answer, step};
-ghost use Rattle.ae_exec.specs.Stops.{Leaves};
+ghost use Rattle.ae_exec.specs.Step.{HoldsLog, RefinesStep, outcome_of_answer, step};
+ghost use Rattle.ae_exec.specs.Stops.{IsSettledNow, Leaves};
 
 use crate::open::open_store;
 use crate::plan::{Plan, make_plan};
@@ -47,7 +46,7 @@ fn put_batch<D: Disk>(disk: &mut D, batch: Batch) -> Result<(), Failed>
     ensures left { D.tells → (old : Option Observation) (next : Observation) → IsStep old next batch → IsComplete next → Holds Stands (D.state disk.old) (old ∷ []) → Leaves Stands (D.state disk.old) (D.state disk.new) (old ∷ Some next ∷ []) }
     ensures made { OnOk result (D.tells → (old : Option Observation) (next : Observation) → IsStep old next batch → IsComplete next → Holds Stands (D.state disk.old) (old ∷ []) → Holds Stands (D.state disk.new) (Some next ∷ [])) }
     ensures time { D.tells → Continues (D.state disk.old) (D.state disk.new) }
-    ensures settled { D.tells → IsSettled (reads (D.state disk.new)) (MayLeave (D.state disk.new)) }
+    ensures settled { D.tells → IsSettledNow (D.state disk.new) }
     ensures others { D.tells → (old : Option Observation) (next : Observation) → IsStep old next batch → OthersSame (effective (reads (D.state disk.old))) (effective (reads (D.state disk.new))) }
     ensures cause { HasCause (D.faults disk.old) (D.faults disk.new) result }
 {
@@ -67,14 +66,14 @@ fn attempt<D: Disk, S: Site>(
     requires formed { IsFormed command.now }
     requires there { is_there_yet command.now.function ≡ true }
     requires moment { now ≤ 4102444799 }
-    ensures ends { EndsAs (D.tells → IsSettled (reads (D.state disk.old)) (MayLeave (D.state disk.old)) → S.tells → IsAccepted (reads (D.state disk.old)) (occasion_at command.now who.now now (S.state site.old))) (λ refusal. D.tells → IsSettled (reads (D.state disk.old)) (MayLeave (D.state disk.old)) → S.tells → IsRefused (reads (D.state disk.old)) (occasion_at command.now who.now now (S.state site.old)) refusal) (λ name. D.tells → IsSettled (reads (D.state disk.old)) (MayLeave (D.state disk.old)) → IsDamagedAt (reads (D.state disk.old)) name) (HasRisen (D.faults disk.old) (D.faults disk.new)) (HasRisen (S.faults site.old) (S.faults site.new)) (outcome_of result) }
-    ensures refined { D.tells → S.tells → (held : List (Option Observation)) (log : Log) → Holds Stands (D.state disk.old) held → Stands (reads (D.state disk.old)) (observation log) → Legal log → Refined Stands (D.state disk.old) (D.state disk.new) held (observation log) (observation (step log (occasion_at command.now who.now now (S.state site.old)))) (outcome_of result) }
+    ensures ends { Performs D.tells (IsSettledNow (D.state disk.old)) S.tells (reads (D.state disk.old)) (occasion_at command.now who.now now (S.state site.old)) (HasRisen (D.faults disk.old) (D.faults disk.new)) (HasRisen (S.faults site.old) (S.faults site.new)) (outcome_of result) }
+    ensures refined { D.tells → S.tells → (held : List (Option Observation)) (log : Log) → HoldsLog (D.state disk.old) held log → RefinesStep (D.state disk.old) (D.state disk.new) held log (occasion_at command.now who.now now (S.state site.old)) (outcome_of result) }
     ensures kept { ChangesNothing (outcome_of result) → D.tells → (held : List (Option Observation)) → Holds Stands (D.state disk.old) held → Leaves Stands (D.state disk.old) (D.state disk.new) held }
-    ensures any_moment { ChangesNothing (outcome_of result) → D.tells → IsSettled (reads (D.state disk.old)) (MayLeave (D.state disk.old)) → Throughout (OpenAt (D.state disk.old)) (D.state disk.old).moment (D.state disk.new) }
-    ensures unchanged { ChangesNothing (outcome_of result) → D.tells → IsSettled (reads (D.state disk.old)) (MayLeave (D.state disk.old)) → effective (reads (D.state disk.new)) ≡ effective (reads (D.state disk.old)) }
-    ensures settled { D.tells → IsSettled (reads (D.state disk.old)) (MayLeave (D.state disk.old)) → IsSettled (reads (D.state disk.new)) (MayLeave (D.state disk.new)) }
-    ensures others { D.tells → IsSettled (reads (D.state disk.old)) (MayLeave (D.state disk.old)) → OthersSame (effective (reads (D.state disk.old))) (effective (reads (D.state disk.new))) }
-    ensures reply { (outcome_of result) ≡ Outcome.Done → D.tells → IsSettled (reads (D.state disk.old)) (MayLeave (D.state disk.old)) → S.tells → (log : Log) → Stands (reads (D.state disk.old)) (observation log) → said_of result ≡ reply_text status_line (reply (observation log) (verdict_after log (occasion_at command.now who.now now (S.state site.old)))) }
+    ensures any_moment { ChangesNothing (outcome_of result) → D.tells → IsSettledNow (D.state disk.old) → Throughout (OpenAt (D.state disk.old)) (D.state disk.old).moment (D.state disk.new) }
+    ensures unchanged { ChangesNothing (outcome_of result) → D.tells → IsSettledNow (D.state disk.old) → effective (reads (D.state disk.new)) ≡ effective (reads (D.state disk.old)) }
+    ensures settled { D.tells → IsSettledNow (D.state disk.old) → IsSettledNow (D.state disk.new) }
+    ensures others { D.tells → IsSettledNow (D.state disk.old) → OthersSame (effective (reads (D.state disk.old))) (effective (reads (D.state disk.new))) }
+    ensures reply { (outcome_of result) ≡ Outcome.Done → D.tells → IsSettledNow (D.state disk.old) → S.tells → (log : Log) → Stands (reads (D.state disk.old)) (observation log) → said_of result ≡ reply_text status_line (reply (observation log) (verdict_after log (occasion_at command.now who.now now (S.state site.old)))) }
     ensures no_reply { (outcome_of result) ≢ Outcome.Done → said_of result ≡ [] }
     ensures site { S.tells → S.state site.new ≡ S.state site.old }
     ensures disk_faults { D.faults disk.old ≤ D.faults disk.new }
@@ -131,23 +130,23 @@ pub fn perform<D: Disk, S: Site>(
     requires there { is_there_yet command.now.function ≡ true }
     requires moment { now ≤ 4102444799 }
     // How it ends, each outcome with its cause.
-    ensures ends { EndsAs (D.tells → IsSettled (reads (D.state disk.old)) (MayLeave (D.state disk.old)) → S.tells → IsAccepted (reads (D.state disk.old)) (occasion_at command.now who.now now (S.state site.old))) (λ refusal. D.tells → IsSettled (reads (D.state disk.old)) (MayLeave (D.state disk.old)) → S.tells → IsRefused (reads (D.state disk.old)) (occasion_at command.now who.now now (S.state site.old)) refusal) (λ name. D.tells → IsSettled (reads (D.state disk.old)) (MayLeave (D.state disk.old)) → IsDamagedAt (reads (D.state disk.old)) name) (HasRisen (D.faults disk.old) (D.faults disk.new)) (HasRisen (S.faults site.old) (S.faults site.new)) result.outcome }
+    ensures ends { Performs D.tells (IsSettledNow (D.state disk.old)) S.tells (reads (D.state disk.old)) (occasion_at command.now who.now now (S.state site.old)) (HasRisen (D.faults disk.old) (D.faults disk.new)) (HasRisen (S.faults site.old) (S.faults site.new)) result.outcome }
     // Where no count rises it ends as the verdict says, but for want of memory.
-    ensures complete { D.tells → IsSettled (reads (D.state disk.old)) (MayLeave (D.state disk.old)) → S.tells → (log : Log) → Stands (reads (D.state disk.old)) (observation log) → (HasRisen (D.faults disk.old) (D.faults disk.new) → ⊥) → (HasRisen (S.faults site.old) (S.faults site.new) → ⊥) → (result.outcome ≡ outcome_of_answer (verdict_after log (occasion_at command.now who.now now (S.state site.old)))) ⊎ (result.outcome ≡ Outcome.Memory) }
+    ensures complete { D.tells → IsSettledNow (D.state disk.old) → S.tells → (log : Log) → Stands (reads (D.state disk.old)) (observation log) → (HasRisen (D.faults disk.old) (D.faults disk.new) → ⊥) → (HasRisen (S.faults site.old) (S.faults site.new) → ⊥) → (result.outcome ≡ outcome_of_answer (verdict_after log (occasion_at command.now who.now now (S.state site.old)))) ⊎ (result.outcome ≡ Outcome.Memory) }
 
     // However it ends and wherever it stops, what is left stands for a log that was held until the store is opened, and from
     // then on for the log that is read; once the command is done, for that with its events, and where the disk failed, for one
     // of the two. The disk holds just what may still be left. The log is any legal one that the disk reads.
-    ensures refined { D.tells → S.tells → (held : List (Option Observation)) (log : Log) → Holds Stands (D.state disk.old) held → Stands (reads (D.state disk.old)) (observation log) → Legal log → Refined Stands (D.state disk.old) (D.state disk.new) held (observation log) (observation (step log (occasion_at command.now who.now now (S.state site.old)))) result.outcome }
-    ensures made { result.outcome ≡ Outcome.Done → D.tells → S.tells → (held : List (Option Observation)) (log : Log) → Holds Stands (D.state disk.old) held → Stands (reads (D.state disk.old)) (observation log) → Legal log → Holds Stands (D.state disk.new) (observation (step log (occasion_at command.now who.now now (S.state site.old))) ∷ []) }
+    ensures refined { D.tells → S.tells → (held : List (Option Observation)) (log : Log) → HoldsLog (D.state disk.old) held log → RefinesStep (D.state disk.old) (D.state disk.new) held log (occasion_at command.now who.now now (S.state site.old)) result.outcome }
+    ensures made { result.outcome ≡ Outcome.Done → D.tells → S.tells → (held : List (Option Observation)) (log : Log) → HoldsLog (D.state disk.old) held log → Holds Stands (D.state disk.new) (observation (step log (occasion_at command.now who.now now (S.state site.old))) ∷ []) }
     ensures kept { ChangesNothing result.outcome → D.tells → (held : List (Option Observation)) → Holds Stands (D.state disk.old) held → Leaves Stands (D.state disk.old) (D.state disk.new) held }
-    ensures any_moment { ChangesNothing result.outcome → D.tells → IsSettled (reads (D.state disk.old)) (MayLeave (D.state disk.old)) → Throughout (OpenAt (D.state disk.old)) (D.state disk.old).moment (D.state disk.new) }
-    ensures unchanged { ChangesNothing result.outcome → D.tells → IsSettled (reads (D.state disk.old)) (MayLeave (D.state disk.old)) → effective (reads (D.state disk.new)) ≡ effective (reads (D.state disk.old)) }
-    ensures settled { D.tells → IsSettled (reads (D.state disk.old)) (MayLeave (D.state disk.old)) → IsSettled (reads (D.state disk.new)) (MayLeave (D.state disk.new)) }
-    ensures others { D.tells → IsSettled (reads (D.state disk.old)) (MayLeave (D.state disk.old)) → OthersSame (effective (reads (D.state disk.old))) (effective (reads (D.state disk.new))) }
+    ensures any_moment { ChangesNothing result.outcome → D.tells → IsSettledNow (D.state disk.old) → Throughout (OpenAt (D.state disk.old)) (D.state disk.old).moment (D.state disk.new) }
+    ensures unchanged { ChangesNothing result.outcome → D.tells → IsSettledNow (D.state disk.old) → effective (reads (D.state disk.new)) ≡ effective (reads (D.state disk.old)) }
+    ensures settled { D.tells → IsSettledNow (D.state disk.old) → IsSettledNow (D.state disk.new) }
+    ensures others { D.tells → IsSettledNow (D.state disk.old) → OthersSame (effective (reads (D.state disk.old))) (effective (reads (D.state disk.new))) }
 
     // What is said of it.
-    ensures reply { result.outcome ≡ Outcome.Done → D.tells → IsSettled (reads (D.state disk.old)) (MayLeave (D.state disk.old)) → S.tells → (log : Log) → Stands (reads (D.state disk.old)) (observation log) → result.reply ≡ reply_text status_line (reply (observation log) (verdict_after log (occasion_at command.now who.now now (S.state site.old)))) }
+    ensures reply { result.outcome ≡ Outcome.Done → D.tells → IsSettledNow (D.state disk.old) → S.tells → (log : Log) → Stands (reads (D.state disk.old)) (observation log) → result.reply ≡ reply_text status_line (reply (observation log) (verdict_after log (occasion_at command.now who.now now (S.state site.old)))) }
     ensures no_reply { result.outcome ≢ Outcome.Done → result.reply ≡ [] }
 
     // The directories are only read.

@@ -5,7 +5,8 @@ use Rattle.ae_base.specs.declared.outcome.Outcome.TheVariants.{Done, RunFailed, 
 use Rattle.ae_outside.specs.Image.{Image}
 use Rattle.ae_machine.specs.Legal.{Occasion}
 use Rattle.ae_exec.specs.Endings as performed
-use Rattle.ae_session.specs.Answers.{EndsAs, bad_words, performs_so, sink_fault, memory, Performs, MayEnd, ChangesNothing, unless_told, IsMessage}
+use Rattle.ae_exec.specs.Endings.{Performs}
+use Rattle.ae_session.specs.Answers.{EndsAs, bad_words, performs_so, sink_fault, memory, MayEnd, ChangesNothing, unless_told, IsMessage}
 
 pub ends_on : (bad : ℕ → Type 0) (performs : Outcome → Type 0) (rose : Type 0) (o : Outcome) → EndsAs bad performs ⊥ o → EndsAs bad performs rose o
 ends_on bad performs rose _ (bad_words place is) = bad_words place is

@@ -12,11 +12,12 @@ use Rattle.ae_machine.specs.declared.verdict.Verdict.{Verdict}
 use Rattle.ae_machine.specs.Legal.{Occasion}
 use Rattle.ae_store.specs.Records.{Stands}
 use Rattle.ae_exec.specs.Endings as performed
+use Rattle.ae_exec.specs.Endings.{Performs}
 use Rattle.ae_exec.specs.Refined.{Refined, synced, unsynced}
 use Rattle.ae_exec.specs.Step.{step, log_after}
 use Rattle.ae_exec.proofs.Leaving.{leaves_still}
 use Rattle.ae_exec.proofs.Stores.{by_files, one}
-use Rattle.ae_session.specs.Answers.{EndsAs, bad_words, performs_so, sink_fault, memory, Performs, ChangesNothing, unless_told}
+use Rattle.ae_session.specs.Answers.{EndsAs, bad_words, performs_so, sink_fault, memory, ChangesNothing, unless_told}
 use Rattle.ae_session.proofs.Endings.{nothing_performed}
 
 module _ (base disk : DiskState) (held : List (Option Observation)) where

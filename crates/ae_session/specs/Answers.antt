@@ -12,7 +12,6 @@ use Rattle.ae_log.specs.Observed.{observation}
 use Rattle.ae_machine.specs.Legal.{Occasion, verdict_after}
 use Rattle.ae_machine.specs.Replies.{reply}
 use Rattle.ae_store.specs.Records.{Stands}
-use Rattle.ae_exec.specs.Endings as performed
 use Rattle.ae_exec.specs.Said.{reply_text}
 
 -- How a call may end: bad words at such a place; as the command may that is performed; with a sink's fault, where its count
@@ -22,13 +21,6 @@ pub data EndsAs (bad : ℕ → Type 0) (performs : Outcome → Type 0) (sink_ros
   performs_so : (outcome : Outcome) → performs outcome → EndsAs bad performs sink_rose outcome
   sink_fault : sink_rose → EndsAs bad performs sink_rose SinkFault
   memory : EndsAs bad performs sink_rose Memory
-
--- How a command may end, where the disk tells and is settled and the directories are told: done where it is accepted, refused
--- where it is refused, a damaged store where that file is damaged, and a fault where that count rose.
-abbrev pub Performs : (tells settled shown : Type 0) → Image → Occasion → (disk_rose site_rose : Type 0) → Outcome → Type 0
-Performs tells settled shown image occasion disk_rose site_rose =
-    performed.EndsAs (tells → settled → shown → performed.IsAccepted image occasion) (λ refusal. tells → settled → shown → performed.IsRefused image occasion refusal)
-    (λ name. tells → settled → performed.IsDamagedAt image name) disk_rose site_rose
 
 -- the lines of the command's reply, after each log that the files stand for
 abbrev pub IsReply : (tells settled shown : Type 0) → Image → Occasion → List ℕ → Type 0

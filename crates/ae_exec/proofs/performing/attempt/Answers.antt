@@ -57,35 +57,35 @@ pub returns-clause-reply : goal.returns-clause-reply
 returns-clause-reply g c = λ is_done tells settled seen log stands. said_at (g.D.Disk.state c.args.disk.now) _ c.in_ok-batch.ensures.planned.0 (occasion_at c.args.command.now c.args.who.now c.args.now (g.S.Site.state c.args.site.now)) _ _ _ c.in_ok-batch.ensures.planned.2 (read_before (g.D.Disk.state c.args.disk.now) (g.D.Disk.state c.open_store.new.disk) c.in_ok-batch.ensures.planned.0 (c.open_store.ensures.files tells settled) (c.in_ok-batch.ensures.planned.1 tells)) seen log stands
 
 pub returns-in_err-open_store-clause-refined : goal.returns-in_err-open_store-clause-refined
-returns-in_err-open_store-clause-refined g c = λ tells seen held log holds stands legal.
+returns-in_err-open_store-clause-refined g c = λ tells seen held log is.
     refined_err Stands by_files one (g.D.Disk.state c.args.disk.now) (g.D.Disk.state c.open_store.new.disk) held (observation log) (observation (step log (occasion_at c.args.command.now c.args.who.now c.args.now (g.S.Site.state c.args.site.now)))) _ c.in_err-open_store.field-0.0 (search rules)
-    (c.in_err-open_store.ensures.refined tells held (observation log) (observation (step log (occasion_at c.args.command.now c.args.who.now c.args.now (g.S.Site.state c.args.site.now)))) holds stands)
+    (c.in_err-open_store.ensures.refined tells held (observation log) (observation (step log (occasion_at c.args.command.now c.args.who.now c.args.now (g.S.Site.state c.args.site.now)))) is.holds is.stands)
 
 pub returns-in_err-batch-clause-refined : goal.returns-in_err-batch-clause-refined
-returns-in_err-batch-clause-refined g c = λ tells seen held log holds stands legal.
+returns-in_err-batch-clause-refined g c = λ tells seen held log is.
     refined_err Stands by_files one (g.D.Disk.state c.args.disk.now) (g.D.Disk.state c.make_plan.new.disk) held (observation log) (observation (step log (occasion_at c.args.command.now c.args.who.now c.args.now (g.S.Site.state c.args.site.now)))) _ c.in_err-batch.field-0.0 (search rules)
     (stopped_refined Stands by_files one (g.D.Disk.state c.args.disk.now) (g.D.Disk.state c.make_plan.new.disk) held (observation log) (observation (step log (occasion_at c.args.command.now c.args.who.now c.args.now (g.S.Site.state c.args.site.now)))) c.in_err-batch.field-0.0
-    (opened_still Stands by_files one (g.D.Disk.state c.args.disk.now) (g.D.Disk.state c.open_store.new.disk) (g.D.Disk.state c.make_plan.new.disk) held (observation log) (c.in_ok-open_store.ensures.opened tells held (observation log) holds stands) (c.make_plan.ensures.same tells)))
+    (opened_still Stands by_files one (g.D.Disk.state c.args.disk.now) (g.D.Disk.state c.open_store.new.disk) (g.D.Disk.state c.make_plan.new.disk) held (observation log) (c.in_ok-open_store.ensures.opened tells held (observation log) is.holds is.stands) (c.make_plan.ensures.same tells)))
 
 pub returns-in_err-put_batch-clause-refined : goal.returns-in_err-put_batch-clause-refined
-returns-in_err-put_batch-clause-refined g c = λ tells seen held log holds stands legal.
+returns-in_err-put_batch-clause-refined g c = λ tells seen held log is.
     let plan = c.in_ok-batch.ensures.planned in
-    let read = read_before (g.D.Disk.state c.args.disk.now) (g.D.Disk.state c.open_store.new.disk) plan.0 (c.open_store.ensures.files tells holds.settled) (plan.1 tells) in
+    let read = read_before (g.D.Disk.state c.args.disk.now) (g.D.Disk.state c.open_store.new.disk) plan.0 (c.open_store.ensures.files tells is.holds.settled) (plan.1 tells) in
     let decided : IsDecided (occasion_at c.args.command.now c.args.who.now c.args.now (g.S.Site.state c.args.site.now)) = (record { formed = c.requires.formed; moment = c.requires.moment; there = c.requires.there }) in
-    let opened = opened_still Stands by_files one (g.D.Disk.state c.args.disk.now) (g.D.Disk.state c.open_store.new.disk) (g.D.Disk.state c.make_plan.new.disk) held plan.0 (c.in_ok-open_store.ensures.opened tells held plan.0 holds read) (c.make_plan.ensures.same tells) in
+    let opened = opened_still Stands by_files one (g.D.Disk.state c.args.disk.now) (g.D.Disk.state c.open_store.new.disk) (g.D.Disk.state c.make_plan.new.disk) held plan.0 (c.in_ok-open_store.ensures.opened tells held plan.0 is.holds read) (c.make_plan.ensures.same tells) in
     refined_err Stands by_files one (g.D.Disk.state c.args.disk.now) (g.D.Disk.state c.put_batch.new.disk) held (observation log) (observation (step log (occasion_at c.args.command.now c.args.who.now c.args.now (g.S.Site.state c.args.site.now)))) _ stop.DiskFault (search rules)
-    (refined_at (g.D.Disk.state c.args.disk.now) _ plan.0 (occasion_at c.args.command.now c.args.who.now c.args.now (g.S.Site.state c.args.site.now)) _ _ _ plan.2 read seen log decided stands legal (g.D.Disk.state c.put_batch.new.disk) held DiskFault
+    (refined_at (g.D.Disk.state c.args.disk.now) _ plan.0 (occasion_at c.args.command.now c.args.who.now c.args.now (g.S.Site.state c.args.site.now)) _ _ _ plan.2 read seen log decided is.stands is.legal (g.D.Disk.state c.put_batch.new.disk) held DiskFault
     (fault_refined Stands by_files one (g.D.Disk.state c.args.disk.now) (g.D.Disk.state c.make_plan.new.disk) (g.D.Disk.state c.put_batch.new.disk) held plan.0 (Some plan.2.made.next) opened (c.put_batch.ensures.time tells)
-    (c.put_batch.ensures.left tells plan.0 plan.2.made.next plan.2.made.step (is_complete (g.D.Disk.state c.args.disk.now) _ plan.0 (occasion_at c.args.command.now c.args.who.now c.args.now (g.S.Site.state c.args.site.now)) _ _ _ plan.2 read seen log decided stands legal) opened.holds)))
+    (c.put_batch.ensures.left tells plan.0 plan.2.made.next plan.2.made.step (is_complete (g.D.Disk.state c.args.disk.now) _ plan.0 (occasion_at c.args.command.now c.args.who.now c.args.now (g.S.Site.state c.args.site.now)) _ _ _ plan.2 read seen log decided is.stands is.legal) opened.holds)))
 
 pub returns-clause-refined : goal.returns-clause-refined
-returns-clause-refined g c = λ tells seen held log holds stands legal.
+returns-clause-refined g c = λ tells seen held log is.
     let plan = c.in_ok-batch.ensures.planned in
-    let read = read_before (g.D.Disk.state c.args.disk.now) (g.D.Disk.state c.open_store.new.disk) plan.0 (c.open_store.ensures.files tells holds.settled) (plan.1 tells) in
+    let read = read_before (g.D.Disk.state c.args.disk.now) (g.D.Disk.state c.open_store.new.disk) plan.0 (c.open_store.ensures.files tells is.holds.settled) (plan.1 tells) in
     let decided : IsDecided (occasion_at c.args.command.now c.args.who.now c.args.now (g.S.Site.state c.args.site.now)) = (record { formed = c.requires.formed; moment = c.requires.moment; there = c.requires.there }) in
-    let opened = opened_still Stands by_files one (g.D.Disk.state c.args.disk.now) (g.D.Disk.state c.open_store.new.disk) (g.D.Disk.state c.make_plan.new.disk) held plan.0 (c.in_ok-open_store.ensures.opened tells held plan.0 holds read) (c.make_plan.ensures.same tells) in
-    let complete = is_complete (g.D.Disk.state c.args.disk.now) _ plan.0 (occasion_at c.args.command.now c.args.who.now c.args.now (g.S.Site.state c.args.site.now)) _ _ _ plan.2 read seen log decided stands legal in
-    refined_at (g.D.Disk.state c.args.disk.now) _ plan.0 (occasion_at c.args.command.now c.args.who.now c.args.now (g.S.Site.state c.args.site.now)) _ _ _ plan.2 read seen log decided stands legal (g.D.Disk.state c.put_batch.new.disk) held Done
+    let opened = opened_still Stands by_files one (g.D.Disk.state c.args.disk.now) (g.D.Disk.state c.open_store.new.disk) (g.D.Disk.state c.make_plan.new.disk) held plan.0 (c.in_ok-open_store.ensures.opened tells held plan.0 is.holds read) (c.make_plan.ensures.same tells) in
+    let complete = is_complete (g.D.Disk.state c.args.disk.now) _ plan.0 (occasion_at c.args.command.now c.args.who.now c.args.now (g.S.Site.state c.args.site.now)) _ _ _ plan.2 read seen log decided is.stands is.legal in
+    refined_at (g.D.Disk.state c.args.disk.now) _ plan.0 (occasion_at c.args.command.now c.args.who.now c.args.now (g.S.Site.state c.args.site.now)) _ _ _ plan.2 read seen log decided is.stands is.legal (g.D.Disk.state c.put_batch.new.disk) held Done
     (done_refined Stands by_files one (g.D.Disk.state c.args.disk.now) (g.D.Disk.state c.make_plan.new.disk) (g.D.Disk.state c.put_batch.new.disk) held plan.0 (Some plan.2.made.next) opened (c.put_batch.ensures.time tells)
     (c.put_batch.ensures.left tells plan.0 plan.2.made.next plan.2.made.step complete opened.holds)
     (c.in_ok-put_batch.ensures.made tells plan.0 plan.2.made.next plan.2.made.step complete opened.holds))

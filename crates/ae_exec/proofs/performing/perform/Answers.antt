@@ -11,11 +11,11 @@ pub returns-clause-ends : goal.returns-clause-ends
 returns-clause-ends g c = rw c.ended.ensures.outcome c.attempt-attempt.ensures.ends
 
 pub returns-clause-refined : goal.returns-clause-refined
-returns-clause-refined g c = λ tells seen held log holds stands legal. rw c.ended.ensures.outcome (c.attempt-attempt.ensures.refined tells seen held log holds stands legal)
+returns-clause-refined g c = λ tells seen held log is. rw c.ended.ensures.outcome (c.attempt-attempt.ensures.refined tells seen held log is)
 
 pub returns-clause-made : goal.returns-clause-made
-returns-clause-made g c = λ is_done tells seen held log holds stands legal.
-    refined_made Stands by_files one _ _ held _ _ _ (sym c.ended.ensures.outcome ∙ is_done) (c.attempt-attempt.ensures.refined tells seen held log holds stands legal)
+returns-clause-made g c = λ is_done tells seen held log is.
+    refined_made Stands by_files one _ _ held _ _ _ (sym c.ended.ensures.outcome ∙ is_done) (c.attempt-attempt.ensures.refined tells seen held log is)
 
 pub returns-clause-kept : goal.returns-clause-kept
 returns-clause-kept g c = λ nothing. c.attempt-attempt.ensures.kept (subst (λ (o : Outcome). ChangesNothing o) c.ended.ensures.outcome nothing)

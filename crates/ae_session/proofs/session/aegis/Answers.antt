@@ -10,7 +10,7 @@ use Rattle.ae_store.specs.Records.{Stands}
 use Rattle.ae_exec.specs.Refined.{Refined}
 use Rattle.ae_machine.specs.Legal.{verdict_after}
 use Rattle.ae_exec.specs.Step.{outcome_of_answer, step}
-use Rattle.ae_session.specs.Answers.{Performs}
+use Rattle.ae_exec.specs.Endings.{Performs}
 use Rattle.ae_exec.specs.Seen.{occasion_at}
 use Rattle.ae_session.specs.Replies.{message_text}
 use Rattle.ae_session.proofs.Asking.{asks_or_bad, asks_once, said_by}
@@ -30,17 +30,17 @@ pub returns-clause-unchanged : goal.returns-clause-unchanged
 returns-clause-unchanged g c = λ nothing. c.decide-reply.ensures.unchanged (changed_nothing _ _ _ c.tell.ensures.outcome nothing)
 
 pub returns-clause-refined : goal.returns-clause-refined
-returns-clause-refined g c = λ tells shown command held log asks holds stands legal.
+returns-clause-refined g c = λ tells shown command held log asks is.
     as_meant _ _ (λ (o : Outcome). Refined Stands (g.D.Disk.state c.args.disk.now) (g.D.Disk.state c.decide-reply.new.disk) held (observation log) (observation (step log (occasion_at command c.args.who.now c.args.now (g.S.Site.state c.args.site.now)))) o) _ _ _
     c.decide-reply.ensures.ends (λ place bad. asks_or_bad _ _ _ place _ asks bad)
-    (λ outcome so meant how. refined_untold _ _ held _ _ _ _ (occasion_at command c.args.who.now c.args.now (g.S.Site.state c.args.site.now)) _ _ _ log outcome _ tells holds.settled shown stands
+    (λ outcome so meant how. refined_untold _ _ held _ _ _ _ (occasion_at command c.args.who.now c.args.now (g.S.Site.state c.args.site.now)) _ _ _ log outcome _ tells is.holds.settled shown is.stands
     (said_by (λ (said : Command) (who : List ℕ). Performs g.D.Disk.tells (IsSettled (reads (g.D.Disk.state c.args.disk.now)) (MayLeave (g.D.Disk.state c.args.disk.now))) g.S.Site.tells (reads (g.D.Disk.state c.args.disk.now)) (occasion_at said who c.args.now (g.S.Site.state c.args.site.now)) (HasRisen (g.D.Disk.faults c.args.disk.now) (g.D.Disk.faults c.decide-reply.new.disk)) (HasRisen (g.S.Site.faults c.args.site.now) (g.S.Site.faults c.decide-reply.new.site)) outcome) so.0 command _ _ (asks_once _ _ _ _ _ so.1 asks) refl so.2)
     meant how)
-    (c.decide-reply.ensures.refined tells shown command held log asks holds stands legal) c.tell.ensures.outcome
+    (c.decide-reply.ensures.refined tells shown command held log asks is) c.tell.ensures.outcome
 
 pub returns-clause-made : goal.returns-clause-made
-returns-clause-made g c = λ ended tells shown command held log asks holds stands legal.
-    refined_made _ _ held _ _ _ ended (returns-clause-refined g c tells shown command held log asks holds stands legal)
+returns-clause-made g c = λ ended tells shown command held log asks is.
+    refined_made _ _ held _ _ _ ended (returns-clause-refined g c tells shown command held log asks is)
 
 pub returns-clause-said : goal.returns-clause-said
 returns-clause-said g c = λ tells. record {

@@ -5,11 +5,12 @@ use Rattle.ae_vault.specs.Commit.{IsSettled}
 use Rattle.ae_words.specs.declared.command.Command.{Command}
 use Rattle.ae_log.specs.Observed.{observation}
 use Rattle.ae_store.specs.Records.{Stands}
+use Rattle.ae_exec.specs.Endings.{Performs}
 use Rattle.ae_exec.specs.Refined.{Refined}
 use Rattle.ae_exec.specs.Step.{step}
 use Rattle.ae_exec.specs.Seen.{occasion_at}
 use Rattle.ae_session.specs.Request.{AsksFor}
-use Rattle.ae_session.specs.Answers.{bad_words, performs_so, memory, Performs, IsReply}
+use Rattle.ae_session.specs.Answers.{bad_words, performs_so, memory, IsReply}
 use Rattle.ae_session.proofs.Asking.{asks_once, asks_or_bad, said_by}
 use Rattle.ae_session.proofs.Endings.{message_on}
 use Rattle.ae_exec.proofs.Leaving.{open_now}
@@ -51,17 +52,17 @@ pub returns-in-Err-Memory-clause-ends : goal.returns-in-Err-Memory-clause-ends
 returns-in-Err-Memory-clause-ends g c = rw c.bare.ensures.outcome memory
 
 pub returns-in-Ok-clause-refined : goal.returns-in-Ok-clause-refined
-returns-in-Ok-clause-refined g c = λ tells shown command held log asks holds stands legal.
+returns-in-Ok-clause-refined g c = λ tells shown command held log asks is.
     said_by (λ (said : Command) (who : List ℕ). Refined Stands (g.D.Disk.state c.args.disk.now) (g.D.Disk.state c.perform_it.new.disk) held (observation log) (observation (step log (occasion_at said who c.args.now (g.S.Site.state c.args.site.now)))) c.perform_it.result.outcome)
     _ command _ _ (asks_once _ _ _ _ _ c.in-Ok.ensures.asks asks) c.in-Ok.ensures.who
-    (c.perform_it.ensures.refined tells shown held log holds stands legal)
+    (c.perform_it.ensures.refined tells shown held log is)
 
 pub returns-in-Err-Bad-clause-refined : goal.returns-in-Err-Bad-clause-refined
-returns-in-Err-Bad-clause-refined g c = λ tells shown command held log asks holds stands legal.
+returns-in-Err-Bad-clause-refined g c = λ tells shown command held log asks is.
     absurd (asks_or_bad _ _ _ _ _ asks (c.in-Err-Bad.ensures.bad c.in-Err-Bad.place (ap Err c.in-Err-Bad.field-0-is)))
 
 pub returns-in-Err-Memory-clause-refined : goal.returns-in-Err-Memory-clause-refined
-returns-in-Err-Memory-clause-refined g c = λ tells shown command held log asks holds stands legal. rw c.bare.ensures.outcome (still_refined (g.D.Disk.state c.args.disk.now) held _ _ holds)
+returns-in-Err-Memory-clause-refined g c = λ tells shown command held log asks is. rw c.bare.ensures.outcome (still_refined (g.D.Disk.state c.args.disk.now) held _ _ is.holds)
 
 pub returns-in-Err-Bad-clause-any_moment : goal.returns-in-Err-Bad-clause-any_moment
 returns-in-Err-Bad-clause-any_moment g c = λ nothing tells settled. open_now (g.D.Disk.state c.args.disk.now) settled

@@ -18,8 +18,8 @@ returns-clause-text g c =
     (λ done text is tells settled shown log stands. is ∙ c.perform-done.ensures.reply (done_told _ _ c.told.ensures.outcome done) tells settled shown log stands) c.told.ensures.text
 
 pub returns-clause-refined : goal.returns-clause-refined
-returns-clause-refined g c = λ tells shown held log holds stands legal.
-    refined_told _ _ held _ _ _ _ _ _ _ _ _ _ _ c.perform-done.ensures.ends c.told.ensures.outcome (c.perform-done.ensures.refined tells shown held log holds stands legal)
+returns-clause-refined g c = λ tells shown held log is.
+    refined_told _ _ held _ _ _ _ _ _ _ _ _ _ _ c.perform-done.ensures.ends c.told.ensures.outcome (c.perform-done.ensures.refined tells shown held log is)
 
 pub returns-clause-kept : goal.returns-clause-kept
 returns-clause-kept g c = λ nothing. c.perform-done.ensures.kept (nothing_performed _ _ _ _ _ _ _ _ c.perform-done.ensures.ends (nothing_told _ _ c.told.ensures.outcome nothing))
