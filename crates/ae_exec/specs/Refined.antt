@@ -43,8 +43,10 @@ module _ {Log : Type 0} (Stands : Image → Log → Type 0) where
   held_by log next DiskFault = log ∷ next ∷ []
   held_by log next _ = log ∷ []
 
-  -- How a command that ends so is refined, which began at base, where the disk held one of these logs and read this one, after
-  -- which the next comes: not begun, where the store couldn't be opened; else kept since the sync.
+  -- Crash refinement of a command that began at base and ended with this outcome. At base the disk held one of the logs and read
+  -- `log`; `next` comes after the command.
   pub data Refined (base disk : DiskState) (held : List Log) (log next : Log) (outcome : Outcome) : Type 0 where
+    -- it ended before the gate was synced, and a stop leaves what stands for a log that was held
     unsynced : MayBeUnsynced outcome → Leaves Stands base disk held → Refined base disk held log next outcome
+    -- from that sync on a stop leaves what stands for the log that was read or for the next, as the outcome says
     synced : SinceSync base disk held (KeptBy disk log next outcome) → Holds Stands disk (held_by log next outcome) → Refined base disk held log next outcome
