@@ -21,6 +21,7 @@ use Rattle.ae_machine.specs.declared.verdict.Verdict.{Verdict}
 use Rattle.ae_machine.specs.declared.verdict.Verdict.TheVariants.{Accept, Refuse}
 use Rattle.ae_machine.specs.Accepted.{AppliesAll, AreStart, IsDecided, decided}
 use Rattle.ae_machine.specs.Call.{Given, given_of, first_of}
+use Rattle.ae_machine.specs.Called.{Called, answer_to, attributes_seen, occasion_after, only_attributes, answer_after, view}
 use Rattle.ae_machine.specs.Legal.{Legal, Occasion, verdict_after}
 use Rattle.ae_machine.specs.Space.{placing}
 use Rattle.ae_machine.specs.There.{is_there_yet}
@@ -28,15 +29,17 @@ use Rattle.std.specs.Option.{option_or}
 use Rattle.ae_base.specs.declared.refusal.Refusal.TheVariants.{NoProject, ProjectExists}
 use Rattle.ae_words.specs.declared.command.Command.{Command}
 use Rattle.ae_machine.specs.declared.view.View.{View}
-use Rattle.ae_machine.specs.Verdict.{verdict_on, answer, refusal, refusal_before, refused_before, asked_of_sight, new_project, events_of, event_of, kinds_of, is_new_project, change_of_events}
+use Rattle.ae_machine.specs.Verdict.{answer, refusal, refusal_before, refused_before, asked_of_sight, new_project, events_of, event_of, kinds_of, is_new_project, change_of_events, verdict, verdict_on}
 use Rattle.ae_exec.specs.Next.{next_of, MayBegin, MayFollow, AreMade, IfAccepted, IsComplete}
 use Rattle.ae_exec.specs.Plan.{IsPlanned, IsStep}
-use Rattle.ae_exec.specs.Seen.{IsAnswer, occasion_of}
+use Rattle.ae_exec.specs.Bytes.{HaveBytes, ShowsLog}
+use Rattle.ae_exec.specs.Seen.{IsAnswer, IsDecidedSo}
 use Rattle.ae_exec.specs.Said.{is_made}
 use Rattle.ae_machine.proofs.Accepted.{accepted-apply}
 use Rattle.ae_machine.proofs.AcceptedLogs.{accepted-starts, accepted-follow, first-follow, legal-stands}
 use Rattle.ae_exec.proofs.MadeKinds.{project-made, kinds-made}
 use Rattle.ae_exec.proofs.Numbered.{complete}
+use Rattle.ae_exec.proofs.Quiet.{quiet-view}
 use Rattle.ae_exec.proofs.Stores.{one}
 
 -- ---- the events of an accepted command
@@ -47,7 +50,7 @@ no_bytes number = []
 may-begin : (events : List Event) → AreStart events → MayBegin events
 may-begin events start = subst MayBegin (sym start.only) start.starts
 
-pub may-follow : (o : Option Observation) (occasion : Occasion) (v : Verdict) → IfSome o Sound → IsDecided occasion → IsAnswer o occasion v → IfAccepted v (MayFollow o)
+pub may-follow : (o : Option Observation) (occasion : Occasion) (v : Verdict) → IfSome o Sound → IsDecided occasion → IsDecidedSo o occasion.command occasion.who occasion.when occasion.view v → IfAccepted v (MayFollow o)
 may-follow None occasion (Accept events) sound is answers = may-begin events (accepted-starts no_bytes occasion events (answers no_bytes))
 may-follow (Some o) occasion (Accept events) sound is answers = accepted-apply o no_bytes occasion events sound is (answers no_bytes)
 may-follow o occasion (Refuse refusal) sound is answers = tt
@@ -73,7 +76,7 @@ events-made given there =
     All-map (λ (event : Event). is_made event.what ≡ true) (event_of given.call.who given.when (change_of_events given.call.command.function given.call)) (kinds_of given.call.command.function given)
     (kinds-made given.call.command.function given there)
 
-pub all-made : (o : Option Observation) (occasion : Occasion) (v : Verdict) → IsDecided occasion → IsAnswer o occasion v → IfAccepted v AreMade
+pub all-made : (o : Option Observation) (occasion : Occasion) (v : Verdict) → IsDecided occasion → IsDecidedSo o occasion.command occasion.who occasion.when occasion.view v → IfAccepted v AreMade
 all-made None occasion (Accept events) is answers = start-made events (accepted-starts no_bytes occasion events (answers no_bytes))
 all-made (Some o) occasion (Accept events) is answers =
     let given = given_of placing o no_bytes occasion.command occasion.who occasion.when occasion.view in
@@ -91,16 +94,22 @@ first_on_none : (b : Bool) (v : Verdict) (refusal : Refusal) → (if b then None
 first_on_none true v refusal is = cc
 first_on_none false v refusal is = cc
 
-pub refused_first : (o : Option Observation) (occasion : Occasion) (refusal : Refusal) → refused_before o occasion.command occasion.who ≡ Some refusal → IsAnswer o occasion (Refuse refusal)
-refused_first None occasion refusal is bytes = first_on_none (is_new_project occasion.command.function) (new_project occasion.command occasion.who occasion.when occasion.view) refusal is
-refused_first (Some o) occasion refusal is bytes = first_on (is_new_project occasion.command.function) (given_of placing o bytes occasion.command occasion.who occasion.when occasion.view) refusal is
+pub refused_first : (files : Option Image) (o : Option Observation) (called : Called) (refusal : Refusal) → refused_before o called.command called.who ≡ Some refusal → IsAnswer files o called (Refuse refusal)
+refused_first files None called refusal is bytes have = first_on_none (is_new_project called.command.function) (new_project called.command called.who called.when (view None bytes called)) refusal is
+refused_first files (Some o) called refusal is bytes have = first_on (is_new_project called.command.function) (given_of placing o bytes called.command called.who called.when (view (Some o) bytes called)) refusal is
 
 -- ---- from the answers of calls
 
 -- the answer with an equal view
-pub same_answer : (o : Option Observation) (command : Command) (who : List ℕ) (when : ℕ) (view other : View) (v w : Verdict) → view ≡ other → v ≡ w → IsAnswer o (occasion_of command who when view) v → IsAnswer o (occasion_of command who when other) w
-same_answer o command who when view other v w same_view same_v answers =
-    subst (λ (x : Verdict). IsAnswer o (occasion_of command who when other) x) same_v (subst (λ (x : View). IsAnswer o (occasion_of command who when x) v) same_view answers)
+pub same_answer : (o : Option Observation) (command : Command) (who : List ℕ) (when : ℕ) (seen other : View) (v w : Verdict) → seen ≡ other → v ≡ w → IsDecidedSo o command who when seen v → IsDecidedSo o command who when other w
+same_answer o command who when seen other v w same_view same_v answers =
+    subst (λ (x : Verdict). IsDecidedSo o command who when other x) same_v (subst (λ (x : View). IsDecidedSo o command who when x v) same_view answers)
+
+-- the answer with what is seen
+pub seen_answer : (files : Option Image) (o : Option Observation) (called : Called) (v : Verdict) → is_there_yet called.command.function ≡ true
+    → IsDecidedSo o called.command called.who called.when (only_attributes (attributes_seen called.before called.command.attributes)) v → IsAnswer files o called v
+seen_answer files o called v there answers bytes have =
+    subst (λ (x : View). verdict placing o bytes called.command called.who called.when x ≡ v) (sym (quiet-view o bytes called there)) (answers bytes)
 
 pub if_answered : {E : Type 0} (result : Result Verdict E) (f : (ℕ → List ℕ) → Verdict) → ((bytes : ℕ → List ℕ) → IfOk result (λ v. v ≡ f bytes)) → IfOk result (λ v. (bytes : ℕ → List ℕ) → f bytes ≡ v)
 if_answered (Ok v) f is = λ bytes. sym (is bytes)
@@ -125,12 +134,12 @@ may_apply o events rest event is applies sound =
     let here : AppliesAll o (event ∷ rest) = subst (λ (es : List Event). AppliesAll o es) is applies in
     may-be-applied o event sound here.0
 
-pub step_made : {E : Type 0} (result : Result BatchRecord E) (old : Option Observation) (events : List Event) (next : Observation) → next_of old events ≡ Some next → IfOk result (λ batch. batch.pieces ≡ [])
+pub step_made : {E : Type 0} (result : Result BatchRecord E) (old : Option Observation) (events : List Event) (next : Observation) → next_of old events ≡ Some next
     → IfOk result (λ batch. (name : List ℕ) → content_of batch.entries name ≡ entry_for old next name)
     → IfOk result (λ batch. (files : Image) → IsComplete next → StandsFor files old → StandsFor (put batch.entries files) (Some next))
     → IfOk result (λ batch. (x : Observation) × (next_of old events ≡ Some x) × IsStep old x batch)
-step_made (Ok batch) old events next is pieces entries stands = (next, is, record { pieces = pieces; entries = entries; stands = stands })
-step_made (Err error) old events next is pieces entries stands = tt
+step_made (Ok batch) old events next is entries stands = (next, is, record { entries = entries; stands = stands })
+step_made (Err error) old events next is entries stands = tt
 
 -- ---- what stands after a log
 
@@ -163,25 +172,27 @@ follow-by (Some o) log occasion events next stands sound legal is accepted follo
 
 -- ---- what a command that is planned makes of a log
 
--- the answer after a log that the files stand for
-pub answer-after : (image : Image) (log : Log) (o : Option Observation) (occasion : Occasion) (v : Verdict) → Stands image o → Stands image (observation log) → IsAnswer o occasion v → verdict_after log occasion ≡ v
-answer-after image log o occasion v stands log_stands answers =
-    subst (λ (x : Option Observation). decided x (version_bytes log) occasion ≡ v) (one image o (observation log) stands log_stands) (answers (version_bytes log))
+-- the answer after a log that the files show
+pub answer-after : (image : Image) (log : Log) (o : Option Observation) (called : Called) (v : Verdict) → Stands image o → ShowsLog image log → IsAnswer (effective image) o called v → answer_after log called ≡ v
+answer-after image log o called v stands shows answers =
+    let same : o ≡ observation log = one image o (observation log) stands shows.stands in
+    subst (λ (x : Option Observation). answer_to x (version_bytes log) called ≡ v) same
+    (answers (version_bytes log) (subst (λ (x : Option Observation). HaveBytes (effective image) x (version_bytes log)) (sym same) shows.bytes_are))
 
-module _ (image : Image) (told : Type 0) (o : Option Observation) (occasion : Occasion) (status : Bool) (batch : BatchRecord) (said : List ℕ) (plan : IsPlanned told o occasion status batch said) where
-  same-events : (log : Log) (events : List Event) → told → Stands image o → Stands image (observation log) → verdict_after log occasion ≡ Accept events → plan.events ≡ events
-  same-events log events tells stands log_stands accepted =
-      let answered : verdict_after log occasion ≡ Accept plan.events = answer-after image log o occasion (Accept plan.events) stands log_stands (plan.accepted tells) in
+module _ (image : Image) (told : Type 0) (o : Option Observation) (called : Called) (status : Bool) (batch : BatchRecord) (said : List ℕ) (plan : IsPlanned told (effective image) o called status batch said) where
+  same-events : (log : Log) (events : List Event) → told → Stands image o → ShowsLog image log → answer_after log called ≡ Accept events → plan.events ≡ events
+  same-events log events tells stands shows accepted =
+      let answered : answer_after log called ≡ Accept plan.events = answer-after image log o called (Accept plan.events) stands shows (plan.accepted tells) in
       let same : Accept plan.events ≡ Accept events = sym answered ∙ accepted in
       cc
 
-  pub planned-follows : (log : Log) (events : List Event) → told → Stands image o → Stands image (observation log) → Legal log → IsDecided occasion → verdict_after log occasion ≡ Accept events
+  pub planned-follows : (log : Log) (events : List Event) → told → Stands image o → ShowsLog image log → Legal log → IsDecided (occasion_after log called) → answer_after log called ≡ Accept events
       → observation (followed log events) ≡ Some plan.made.next
-  planned-follows log events tells stands log_stands legal is accepted =
-      let same_stands : o ≡ observation log = one image o (observation log) stands log_stands in
-      let same : plan.events ≡ events = same-events log events tells stands log_stands accepted in
+  planned-follows log events tells stands shows legal is accepted =
+      let same_stands : o ≡ observation log = one image o (observation log) stands shows.stands in
+      let same : plan.events ≡ events = same-events log events tells stands shows accepted in
       let follows : next_of (observation log) events ≡ Some plan.made.next = subst (λ (x : Option Observation). next_of x events ≡ Some plan.made.next) same_stands (subst (λ (es : List Event). next_of o es ≡ Some plan.made.next) same plan.made.follows) in
-      follow-by (observation log) log occasion events plan.made.next refl (sound-at image (observation log) log_stands) legal is accepted follows
+      follow-by (observation log) log (occasion_after log called) events plan.made.next refl (sound-at image (observation log) shows.stands) legal is accepted follows
 
   pub planned-complete : (log : Log) (events : List Event) → observation (followed log events) ≡ Some plan.made.next → IsComplete plan.made.next
   planned-complete log events is = complete (followed log events) plan.made.next is

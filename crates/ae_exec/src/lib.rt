@@ -1,6 +1,8 @@
 //! One command, from the store to the reply.
 #![tactic(auto)]
 
+mod directories;
+mod freezing;
 mod laws;
 mod load;
 mod next;
@@ -10,9 +12,15 @@ mod plan;
 mod reply;
 mod sight;
 mod stop;
+mod version;
 
-pub use laws::performed_is_legal;
+pub use freezing::{Frozen, freeze};
+pub use laws::{
+    end_is_placed_last, legal_logs_are_held, note_shown, note_whole, performed_is_legal,
+    placing_is_in_space, versions_are_carried,
+};
 pub use performing::{Performed, perform};
+pub use version::read_version;
 
 #[cfg(test)]
 mod tests;

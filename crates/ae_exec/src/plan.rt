@@ -1,19 +1,26 @@
 // What is put and what is said of a command, made ready before anything is changed.
-ghost use Rattle.std.specs.Prelude.{◌≡◌, ◌≤◌, true, Option, Some, None, IfOk, IfErr, option_copied};
+ghost use Rattle.std.specs.Prelude.{◌≡◌, ◌≤◌, true, Option, Some, None, IfOk, IfErr, IsSomeAnd, option_copied};
 ghost use Rattle.ae_outside.specs.Causes.{HasRisen};
 ghost use Rattle.ae_outside.specs.Image.{IsSame};
 ghost use Rattle.ae_outside.specs.State.{reads, GoesOn};
 ghost use Rattle.ae_store.specs.Records.{Stands};
 ghost use Rattle.ae_types.specs.Observation.{Observation};
 ghost use Rattle.ae_vault.specs.Commit.{IsClean};
+ghost use Rattle.ae_vault.specs.Vault.{effective};
 ghost use Rattle.ae_words.specs.Formed.{IsFormed};
 ghost use Rattle.ae_machine.specs.declared.verdict.Verdict.TheVariants.{Refuse};
+ghost use Rattle.ae_machine.specs.Called.{called};
 ghost use Rattle.ae_machine.specs.There.{is_there_yet};
-ghost use Rattle.ae_exec.specs.Endings.{EndsAs, IsDamagedAt, outcome_of_stop};
+ghost use Rattle.ae_machine.specs.Verdict.{refused_before};
+ghost use Rattle.ae_exec.specs.Carried.{pieces_of};
+ghost use Rattle.ae_exec.specs.Directories.{LeavesDirs};
+ghost use Rattle.ae_exec.specs.Endings.{EndsAs, IsDamagedFor, outcome_of, outcome_of_stop};
 ghost use Rattle.ae_exec.specs.Next.{MayFollow, AreMade, IfAccepted, next_of};
-ghost use Rattle.ae_exec.specs.Plan.{IsStep, IsMade, IsPlanned, IsAnsweredAt};
-ghost use Rattle.ae_exec.specs.Seen.{IsAnswer, occasion_at, occasion_of};
+ghost use Rattle.ae_exec.specs.Plan.{IsStep, IsMade, IsPlanned};
+ghost use Rattle.ae_exec.specs.Reading.{IsOneDamaged, versions_read};
+ghost use Rattle.ae_exec.specs.Seen.{IsAnswer, IsAnsweredAt, IsDecidedSo, ReadsSite};
 
+use crate::directories::change_directories;
 use crate::load::load_state;
 use crate::next::next_state;
 use crate::reply::reply;
@@ -40,7 +47,8 @@ pub struct Plan {
 fn next_batch(alloc: Global, old: Option<&State>, events: EventList) -> Result<Batch, AllocError>
     requires follow { MayFollow (option_copied old) events }
     requires made { AreMade events }
-    ensures { IfOk result (λ batch. (next : Observation) × (next_of (option_copied old.entry) events ≡ Some next) × IsStep (option_copied old.entry) next batch) }
+    ensures step { IfOk result (λ batch. (next : Observation) × (next_of (option_copied old.entry) events ≡ Some next) × IsStep (option_copied old.entry) next batch) }
+    ensures pieces { IfOk result (λ batch. batch.pieces ≡ pieces_of events) }
 {
     let new = next_state(alloc, old, events)?;
     batch(alloc, old, &new, PieceList::new(alloc))
@@ -74,7 +82,7 @@ fn answer_on(
     requires formed { IsFormed command.now }
     requires there { is_there_yet command.now.function ≡ true }
     requires moment { now ≤ 4102444799 }
-    ensures is { IfOk result (λ answer. IsAnswer (Some state.now) (occasion_of command.now who.now now view.now) answer) }
+    ensures is { IfOk result (λ answer. IsDecidedSo (Some state.now) command.now who.now now view.now answer) }
     ensures follow { IfOk result (λ answer. IfAccepted answer (MayFollow (Some state.now))) }
     ensures made { IfOk result (λ answer. IfAccepted answer AreMade) }
 {
@@ -93,7 +101,7 @@ fn first_answer(
     requires formed { IsFormed command.now }
     requires there { is_there_yet command.now.function ≡ true }
     requires moment { now ≤ 4102444799 }
-    ensures is { IfOk result (λ answer. IsAnswer None (occasion_of command.now who.now now view.now) answer) }
+    ensures is { IfOk result (λ answer. IsDecidedSo None command.now who.now now view.now answer) }
     ensures follow { IfOk result (λ answer. IfAccepted answer (MayFollow None)) }
     ensures made { IfOk result (λ answer. IfAccepted answer AreMade) }
 {
@@ -112,7 +120,7 @@ fn answer(
     requires formed { IsFormed command.now }
     requires there { is_there_yet command.now.function ≡ true }
     requires moment { now ≤ 4102444799 }
-    ensures is { IfOk result (λ answer. IsAnswer (option_copied old.entry) (occasion_of command.now who.now now view.now) answer) }
+    ensures is { IfOk result (λ answer. IsDecidedSo (option_copied old.entry) command.now who.now now view.now answer) }
     ensures follow { IfOk result (λ answer. IfAccepted answer (MayFollow (option_copied old.entry))) }
     ensures made { IfOk result (λ answer. IfAccepted answer AreMade) }
 {
@@ -122,35 +130,42 @@ fn answer(
     }
 }
 
-// What is put and said of the command, where this stands.
-fn plan_on<S: Site>(
+// What is put and said of the command, where this stands. The directories are changed as it asks.
+fn plan_on<D: Disk, S: Site>(
     alloc: Global,
     old: Option<&State>,
+    disk: &mut D,
     site: &mut S,
     command: &Command,
     who: &User,
     now: u64,
     status_line: bool,
 ) -> Result<Plan, Stop>
+    requires clean { D.tells → IsClean (D.state disk.old) }
     requires formed { IsFormed command.now }
     requires there { is_there_yet command.now.function ≡ true }
     requires moment { now ≤ 4102444799 }
-    ensures planned { IfOk result (λ plan. IsPlanned S.tells (option_copied old.entry) (occasion_at command.now who.now now (S.state site.old)) status_line plan.batch plan.reply) }
-    ensures stopped { IfErr result (λ stop. EndsAs ⊥ (λ refusal. S.tells → IsAnswer (option_copied old.entry) (occasion_at command.now who.now now (S.state site.old)) (Refuse refusal)) (λ name. ⊥) ⊥ (HasRisen (S.faults site.old) (S.faults site.new)) (outcome_of_stop stop)) }
-    ensures same { S.tells → S.state site.new ≡ S.state site.old }
-    ensures later { S.faults site.old ≤ S.faults site.new }
+    ensures planned { IfOk result (λ plan. IsPlanned (D.tells × S.tells) (effective (reads (D.state disk.old))) (option_copied old.entry) (called command.now who.now now (S.state site.old) (S.state site.new)) status_line plan.batch plan.reply) }
+    ensures stopped { IfErr result (λ stop. EndsAs ⊥ (λ refusal. S.tells → IsAnswer (effective (reads (D.state disk.old))) (option_copied old.entry) (called command.now who.now now (S.state site.old) (S.state site.new)) (Refuse refusal)) (λ name. D.tells → IsSomeAnd (option_copied old.entry) (λ o. IsOneDamaged (reads (D.state disk.old)) (versions_read command.now.function o) name)) (HasRisen (D.faults disk.old) (D.faults disk.new)) (HasRisen (S.faults site.old) (S.faults site.new) × (refused_before (option_copied old.entry) command.now who.now ≡ None)) (outcome_of_stop stop)) }
+    ensures directories { S.tells → LeavesDirs command.now (S.state site.old) (S.state site.new) (outcome_of result) }
+    ensures same { D.tells → GoesOn IsSame (D.state disk.old) (D.state disk.new) }
+    ensures disk_later { D.faults disk.old ≤ D.faults disk.new }
+    ensures site_later { S.faults site.old ≤ S.faults site.new }
 {
     if let Some(refusal) = before(alloc, old, command, who, now)? {
         return Err(Stop::Refused(refusal));
     }
     let view = look(alloc, site, command.attributes.as_ref())?;
     match answer(alloc, old, command, who, now, &view)? {
-        Verdict::Accept(events) => Ok(prepare(alloc, old, events, status_line)?),
+        Verdict::Accept(events) => {
+            change_directories(alloc, old, disk, site, command)?;
+            Ok(prepare(alloc, old, events, status_line)?)
+        }
         Verdict::Refuse(refusal) => Err(Stop::Refused(refusal)),
     }
 }
 
-/// What is put and said of the command, where the files of a clean disk stand.
+/// What is put and said of the command, where the files of a clean disk stand. The directories are changed as it asks.
 pub(crate) fn make_plan<D: Disk, S: Site>(
     alloc: Global,
     disk: &mut D,
@@ -164,13 +179,22 @@ pub(crate) fn make_plan<D: Disk, S: Site>(
     requires formed { IsFormed command.now }
     requires there { is_there_yet command.now.function ≡ true }
     requires moment { now ≤ 4102444799 }
-    ensures planned { IfOk result (λ plan. (o : Option Observation) × (D.tells → Stands (reads (D.state disk.old)) o) × IsPlanned S.tells o (occasion_at command.now who.now now (S.state site.old)) status_line plan.batch plan.reply) }
-    ensures stopped { IfErr result (λ stop. EndsAs ⊥ (λ refusal. D.tells → S.tells → IsAnsweredAt (reads (D.state disk.old)) (occasion_at command.now who.now now (S.state site.old)) (Refuse refusal)) (λ name. D.tells → IsDamagedAt (reads (D.state disk.old)) name) (HasRisen (D.faults disk.old) (D.faults disk.new)) (HasRisen (S.faults site.old) (S.faults site.new)) (outcome_of_stop stop)) }
+    ensures planned { IfOk result (λ plan. (o : Option Observation) × (D.tells → Stands (reads (D.state disk.old)) o) × IsPlanned (D.tells × S.tells) (effective (reads (D.state disk.old))) o (called command.now who.now now (S.state site.old) (S.state site.new)) status_line plan.batch plan.reply) }
+    ensures stopped { IfErr result (λ stop. EndsAs ⊥ (λ refusal. D.tells → S.tells → IsAnsweredAt (reads (D.state disk.old)) (called command.now who.now now (S.state site.old) (S.state site.new)) (Refuse refusal)) (λ name. D.tells → IsDamagedFor (reads (D.state disk.old)) command.now.function name) (HasRisen (D.faults disk.old) (D.faults disk.new)) (HasRisen (S.faults site.old) (S.faults site.new) × (D.tells → ReadsSite (reads (D.state disk.old)) command.now who.now)) (outcome_of_stop stop)) }
+    ensures directories { S.tells → LeavesDirs command.now (S.state site.old) (S.state site.new) (outcome_of result) }
     ensures same { D.tells → GoesOn IsSame (D.state disk.old) (D.state disk.new) }
-    ensures site { S.tells → S.state site.new ≡ S.state site.old }
     ensures disk_later { D.faults disk.old ≤ D.faults disk.new }
     ensures site_later { S.faults site.old ≤ S.faults site.new }
 {
     let state = load_state(alloc, disk)?;
-    plan_on(alloc, state.as_ref(), site, command, who, now, status_line)
+    plan_on(
+        alloc,
+        state.as_ref(),
+        disk,
+        site,
+        command,
+        who,
+        now,
+        status_line,
+    )
 }

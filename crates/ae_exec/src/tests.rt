@@ -3,9 +3,9 @@ ghost use Rattle.std.specs.Prelude.{IfOk, IfSome};
 ghost use Rattle.ae_words.specs.Formed.{IsFormed};
 
 use super::*;
-use ae_base::{Path, Text, User};
+use ae_base::{ChangeNo, Path, Text, User};
 use ae_machine::is_there_yet;
-use ae_outside::{Dir, Disk, MemDisk, MemRunList, MemSite, Site};
+use ae_outside::{Content, Dir, Disk, MemDisk, MemRunList, MemSite, Site};
 use ae_words::{Command, WordsError, read_words};
 use std::alloc::{AllocError, Global};
 use std::process::Abort;
@@ -151,5 +151,38 @@ fn the_status_stands_behind_the_reply(rt: HostRuntime) -> Result<(), Fail> {
         said.bytes(),
         b"aegis: project \"demo\": created\n= 0\n".as_slice()
     );
+    Ok(())
+}
+
+#[test]
+fn a_development_begins_in_an_empty_directory(rt: HostRuntime) -> Result<(), Fail> {
+    let alloc = rt.alloc();
+    let mut world = make_world(alloc, &[])?;
+    let made = b"aegis: project \"demo\": created\n";
+    is_told(&rt, alloc, &mut world, "-npr demo", 0, made)?;
+    assert!(rt; write_here(alloc, &mut world.site, b"c.attr", ATTRIBUTES)?);
+    let change = b"aegis: project \"demo\": change 10: created\n";
+    is_told(&rt, alloc, &mut world, "-nc -f c.attr", 0, change)?;
+    is_told(&rt, alloc, &mut world, "-db -c 10", 1, b"")?;
+    let added = b"aegis: project \"demo\": developer \"alice\" added\n";
+    is_told(&rt, alloc, &mut world, "-nd alice", 0, added)?;
+    let Some(path) = Path::read(alloc, b"left/over")? else {
+        assert!(rt; false);
+        return Ok(());
+    };
+    let number = ChangeNo::of(10);
+    assert!(rt; world.site.write(Dir::Develop(number), &path, b"x").is_ok());
+    let begun = b"aegis: project \"demo\": change 10: development begun\n";
+    is_told(&rt, alloc, &mut world, "-db -c 10", 0, begun)?;
+    assert!(rt;
+        matches!(
+            world.site.read(alloc, Dir::Develop(number), &path, 10),
+            Ok(Content::Absent)
+        )
+    );
+    is_told(&rt, alloc, &mut world, "-db -c 10", 1, b"")?;
+    let abandoned = b"aegis: project \"demo\": change 10: development abandoned\n";
+    is_told(&rt, alloc, &mut world, "-dbu -c 10", 0, abandoned)?;
+    is_told(&rt, alloc, &mut world, "-db -c 10", 0, begun)?;
     Ok(())
 }

@@ -6,6 +6,34 @@ pub mod AcceptedNumbers
 pub mod AcceptedRoles
 pub mod AcceptedPaths
 pub mod AcceptedIntegration
+pub mod Lists
+pub mod StoredVersions
+pub mod CandidateStands
+pub mod PassedBaseline
+pub mod RightRuns
+pub mod EndPlaces
 pub mod AcceptedEnd
 pub mod Accepted
 pub mod AcceptedLogs
+pub mod BasisSteps
+pub mod EndShape
+pub mod FactSteps
+pub mod AcceptedSeen
+pub mod Provided
+pub mod LegalRightly
+pub mod Reversing
+pub mod ReversedReviews
+pub mod ReversedBegins
+pub mod ReversedMaking
+pub mod ReversedPaths
+pub mod ReversedFiles
+pub mod ReversedRemovals
+pub mod ReversedEnd
+pub mod Reversed
+pub mod Making
+pub mod Entries
+mod PathSplits
+mod LeastClash
+mod PathsThere
+mod PathsUp
+mod ClashingPaths

@@ -1,7 +1,5 @@
 pub mod Call
 pub mod Sight
-pub mod Digest
-pub mod Config
 pub mod Attributes
 pub mod Runs
 pub mod Fits
@@ -17,3 +15,9 @@ pub mod Replies
 pub mod Laws
 pub mod There
 pub mod Accepted
+pub mod Facts
+pub mod Directories
+pub mod Called
+pub mod Real
+pub mod Filing
+pub mod LeastClash

@@ -2,10 +2,13 @@
 #![tactic(auto)]
 
 mod attributes;
+mod clashes;
 mod deciding;
+mod directories;
 mod events;
 mod laws;
 mod numbers;
+mod paths;
 mod permission;
 mod refusing;
 mod there;
@@ -13,8 +16,10 @@ mod verdict;
 mod view;
 
 pub use deciding::decide;
+pub use directories::{DirChange, DirChangeList, FileList};
 pub use laws::{
-    accepted_events_apply, accepted_events_follow, legal_logs_are_sound, note_refused_before,
+    accepted_events_apply, accepted_events_follow, commands_are_reversed, legal_logs_are_provided,
+    legal_logs_are_sound, legal_logs_have_facts, note_refused_before,
 };
 pub use refusing::before;
 pub use there::is_there_yet;

@@ -22,7 +22,8 @@ impl Vault {
         // and from the sync of the gate on those of a stop that left the gate as it is read.
         ensures synced { D.tells → IsSettled (reads (D.state disk.old)) (MayLeave (D.state disk.old)) → GoesOn IsSame (D.state disk.old) (D.state disk.new) ⊎ IsRecovering (D.state disk.old) (D.state disk.new) }
         ensures synced_ok { OnOk result (D.tells → IsSettled (reads (D.state disk.old)) (MayLeave (D.state disk.old)) → IsRecovering (D.state disk.old) (D.state disk.new)) }
-        ensures read { OnOk result (D.tells → IsSettled (reads (D.state disk.old)) (MayLeave (D.state disk.old)) → effective (reads (D.state disk.new)) ≡ effective (reads (D.state disk.old))) }
+        // However it ends, what is read are the files that were read before.
+        ensures read { D.tells → effective (reads (D.state disk.new)) ≡ effective (reads (D.state disk.old)) }
         ensures whole { OnOk result (D.tells → effective (reads (D.state disk.old)) ≢ None) }
         ensures damaged { IsErrOf result VaultError.Damaged → D.tells → effective (reads (D.state disk.old)) ≡ None }
         ensures unchanged { IsErrOf result VaultError.Damaged → D.tells → GoesOn IsSame (D.state disk.old) (D.state disk.new) }

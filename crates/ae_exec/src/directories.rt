@@ -1,0 +1,303 @@
+// The directories are changed as a command asks, before anything is put on the disk.
+ghost use Rattle.std.specs.Prelude.{◌≡◌, ◌≤◌, ◌++◌, ◌∷◌, [], ℕ, List, Option, Some, map, true, IfOk, IfErr, IsSomeAnd, OnOk, option_copied};
+ghost use Rattle.std.specs.List.{cons_option};
+ghost use Rattle.ae_outside.specs.Causes.{HasRisen};
+ghost use Rattle.std.specs.Option.{option_map};
+ghost use Rattle.ae_outside.specs.Image.{Image, IsSame};
+ghost use Rattle.ae_outside.specs.State.{reads, GoesOn};
+ghost use Rattle.ae_types.specs.Trees.{TreeRow, baseline_of, last_up_to, tree_of, tree_row};
+ghost use Rattle.ae_vault.specs.Commit.{IsClean};
+ghost use Rattle.ae_vault.specs.Vault.{effective};
+ghost use Rattle.ae_machine.specs.Called.{called};
+ghost use Rattle.ae_machine.specs.Directories.{removed};
+ghost use Rattle.ae_machine.specs.Real.{IsLeft};
+ghost use Rattle.ae_machine.specs.Sight.{row_at};
+ghost use Rattle.ae_machine.specs.There.{is_there_yet};
+ghost use Rattle.ae_words.specs.declared.table.Function.{Function};
+ghost use Rattle.ae_exec.specs.Bytes.{HaveBytes, row_of_path, row_version, rows_at};
+ghost use Rattle.ae_exec.specs.Directories.{AreChanges, AreOwn, LeavesDirs, makes_files, removes_files, puts_files, tree_put};
+ghost use Rattle.ae_exec.specs.Reading.{IsInside, IsOneDamaged, IsPackDamaged, versions_of, versions_kept, versions_read};
+ghost use Rattle.ae_exec.specs.Endings.{EndsAs, outcome_of, outcome_of_stop};
+
+use crate::stop::Stop;
+use crate::version::read_version;
+use ae_base::{Path, PathList, Text};
+use ae_dirs::change_dirs;
+use ae_files::entry_at;
+use ae_machine::{DirChange, DirChangeList, FileList};
+use ae_outside::{Dir, Disk, Site};
+use ae_types::{FileRow, FileVersion, State, VersionRef};
+use ae_words::{Command, Function};
+use std::alloc::{AllocError, Global};
+
+// Puts the file of a row at a delta behind the others, with its bytes, where it is there.
+fn push_file<D: Disk>(
+    alloc: Global,
+    disk: &mut D,
+    files: &mut FileList,
+    row: &FileRow,
+    delta: usize,
+) -> Result<(), Stop>
+    requires clean { D.tells → IsClean (D.state disk.old) }
+    requires inside { (file : TreeRow) → tree_row delta row.now ≡ Some file → IsInside file.version }
+    ensures pushed { OnOk result (D.tells → files.new ≡ files.old ++ rows_at (effective (reads (D.state disk.old))) (cons_option (tree_row delta row.now) [])) }
+    ensures same { D.tells → GoesOn IsSame (D.state disk.old) (D.state disk.new) }
+    ensures stopped { IfErr result (λ stop. EndsAs ⊥ (λ refusal. ⊥) (λ name. D.tells → (file : TreeRow) × (tree_row delta row.now ≡ Some file) × IsPackDamaged (reads (D.state disk.old)) file.version name) (HasRisen (D.faults disk.old) (D.faults disk.new)) ⊥ (outcome_of_stop stop)) }
+    ensures later { D.faults disk.old ≤ D.faults disk.new }
+{
+    let Some(entry) = entry_at(row.past.as_slice(), delta) else {
+        return Ok(());
+    };
+    let Some(version) = &entry.version else {
+        return Ok(());
+    };
+    let bytes = read_version(alloc, disk, version)?;
+    files.push((row.path.copy(alloc)?, Some(Text::of(bytes))))?;
+    Ok(())
+}
+
+// The baseline's files with their bytes.
+fn baseline_files<D: Disk>(alloc: Global, disk: &mut D, state: &State) -> Result<FileList, Stop>
+    requires clean { D.tells → IsClean (D.state disk.old) }
+    ensures rows { IfOk result (λ rows. D.tells → rows ≡ rows_at (effective (reads (D.state disk.old))) (baseline_of state.now)) }
+    ensures same { D.tells → GoesOn IsSame (D.state disk.old) (D.state disk.new) }
+    ensures stopped { IfErr result (λ stop. EndsAs ⊥ (λ refusal. ⊥) (λ name. D.tells → IsOneDamaged (reads (D.state disk.old)) (versions_of (baseline_of state.now)) name) (HasRisen (D.faults disk.old) (D.faults disk.new)) ⊥ (outcome_of_stop stop)) }
+    ensures later { D.faults disk.old ≤ D.faults disk.new }
+{
+    let delta = state.project().deltas.len();
+    let mut files = FileList::new(alloc);
+    for row in state.files() {
+        push_file(alloc, disk, &mut files, row, delta)?;
+    }
+    Ok(files)
+}
+
+// The changes of directories with which the development of a change begins.
+fn begin_changes<D: Disk>(
+    alloc: Global,
+    disk: &mut D,
+    state: &State,
+    command: &Command,
+) -> Result<DirChangeList, Stop>
+    requires clean { D.tells → IsClean (D.state disk.old) }
+    requires begin { command.now.function ≡ Function.DevelopBegin }
+    ensures changes { IfOk result (λ changes. D.tells → AreChanges (effective (reads (D.state disk.old))) state.now command.now changes) }
+    ensures own { IfOk result (λ changes. AreOwn command.now changes) }
+    ensures same { D.tells → GoesOn IsSame (D.state disk.old) (D.state disk.new) }
+    ensures stopped { IfErr result (λ stop. EndsAs ⊥ (λ refusal. ⊥) (λ name. D.tells → IsOneDamaged (reads (D.state disk.old)) (versions_read command.now.function state.now) name) (HasRisen (D.faults disk.old) (D.faults disk.new)) ⊥ (outcome_of_stop stop)) }
+    ensures later { D.faults disk.old ≤ D.faults disk.new }
+{
+    let mut changes = DirChangeList::new(alloc);
+    let Some(change) = command.change.and_then(|number| state.change(number)) else {
+        return Ok(changes);
+    };
+    let files = baseline_files(alloc, disk, state)?;
+    changes.push(DirChange::Fill(Dir::Develop(change.number), files))?;
+    Ok(changes)
+}
+
+// The paths once more.
+fn paths_copy(alloc: Global, paths: &PathList) -> Result<PathList, AllocError>
+    ensures { IfOk result (λ copy. copy ≡ paths.now) }
+{
+    let mut copy = PathList::new(alloc);
+    for path in paths.as_slice() {
+        copy.push(path.copy(alloc)?)?;
+    }
+    Ok(copy)
+}
+
+// No file at each of the paths.
+fn removed_files(alloc: Global, paths: &PathList) -> Result<FileList, AllocError>
+    ensures { IfOk result (λ rows. rows ≡ map removed paths.now) }
+{
+    let mut files = FileList::new(alloc);
+    for path in paths.as_slice() {
+        files.push((path.copy(alloc)?, None))?;
+    }
+    Ok(files)
+}
+
+// The changes of directories with which files are made.
+fn make_changes(
+    alloc: Global,
+    state: &State,
+    command: &Command,
+) -> Result<DirChangeList, AllocError>
+    requires makes { makes_files command.now.function ≡ true }
+    ensures changes { IfOk result (λ changes. (files : Option Image) → AreChanges files state.now command.now changes) }
+    ensures own { IfOk result (λ changes. AreOwn command.now changes) }
+{
+    let mut changes = DirChangeList::new(alloc);
+    let Some(change) = command.change.and_then(|number| state.change(number)) else {
+        return Ok(changes);
+    };
+    let paths = paths_copy(alloc, &command.paths)?;
+    changes.push(DirChange::Make(Dir::Develop(change.number), paths))?;
+    Ok(changes)
+}
+
+// The changes of directories with which files are removed.
+fn remove_changes(
+    alloc: Global,
+    state: &State,
+    command: &Command,
+) -> Result<DirChangeList, AllocError>
+    requires removes { removes_files command.now.function ≡ true }
+    ensures changes { IfOk result (λ changes. (files : Option Image) → AreChanges files state.now command.now changes) }
+    ensures own { IfOk result (λ changes. AreOwn command.now changes) }
+{
+    let mut changes = DirChangeList::new(alloc);
+    let Some(change) = command.change.and_then(|number| state.change(number)) else {
+        return Ok(changes);
+    };
+    let files = removed_files(alloc, &command.paths)?;
+    changes.push(DirChange::Put(Dir::Develop(change.number), files))?;
+    Ok(changes)
+}
+
+// The version of a path's file at a delta, where it is there.
+fn version_at<'a>(state: &'a State, delta: usize, path: &Path) -> Option<&'a VersionRef>
+    ensures { option_copied result ≡ option_map row_version (row_at (tree_of state.now delta) path.now) }
+{
+    let _project = state.project();
+    let row = state.row(path)?;
+    let entry = entry_at(row.past.as_slice(), delta)?;
+    entry.version.as_ref()
+}
+
+// Puts the path's file at a delta behind the others, with its bytes, or no file where it isn't there.
+fn push_file_at<D: Disk>(
+    alloc: Global,
+    disk: &mut D,
+    files: &mut FileList,
+    state: &State,
+    delta: usize,
+    path: &Path,
+) -> Result<(), Stop>
+    requires clean { D.tells → IsClean (D.state disk.old) }
+    ensures pushed { OnOk result (D.tells → files.new ≡ files.old ++ row_of_path (effective (reads (D.state disk.old))) (tree_of state.now delta) path.now ∷ []) }
+    ensures same { D.tells → GoesOn IsSame (D.state disk.old) (D.state disk.new) }
+    ensures stopped { IfErr result (λ stop. EndsAs ⊥ (λ refusal. ⊥) (λ name. D.tells → IsOneDamaged (reads (D.state disk.old)) (versions_kept state.now) name) (HasRisen (D.faults disk.old) (D.faults disk.new)) ⊥ (outcome_of_stop stop)) }
+    ensures later { D.faults disk.old ≤ D.faults disk.new }
+{
+    let _project = state.project();
+    match version_at(state, delta, path) {
+        Some(version) => {
+            let bytes = read_version(alloc, disk, version)?;
+            files.push((path.copy(alloc)?, Some(Text::of(bytes))))?;
+        }
+        None => files.push((path.copy(alloc)?, None))?,
+    }
+    Ok(())
+}
+
+// The files of the paths at a delta, with their bytes.
+fn files_at<D: Disk>(
+    alloc: Global,
+    disk: &mut D,
+    state: &State,
+    delta: usize,
+    paths: &PathList,
+) -> Result<FileList, Stop>
+    requires clean { D.tells → IsClean (D.state disk.old) }
+    ensures rows { IfOk result (λ rows. D.tells → rows ≡ map (row_of_path (effective (reads (D.state disk.old))) (tree_of state.now delta)) paths.now) }
+    ensures same { D.tells → GoesOn IsSame (D.state disk.old) (D.state disk.new) }
+    ensures stopped { IfErr result (λ stop. EndsAs ⊥ (λ refusal. ⊥) (λ name. D.tells → IsOneDamaged (reads (D.state disk.old)) (versions_kept state.now) name) (HasRisen (D.faults disk.old) (D.faults disk.new)) ⊥ (outcome_of_stop stop)) }
+    ensures later { D.faults disk.old ≤ D.faults disk.new }
+{
+    let mut files = FileList::new(alloc);
+    for path in paths.as_slice() {
+        push_file_at(alloc, disk, &mut files, state, delta, path)?;
+    }
+    Ok(files)
+}
+
+// The delta whose files a command puts: the one that it names, and the last where it names none, or gives files up.
+fn delta_put(state: &State, command: &Command) -> usize
+    ensures { tree_of state.now result ≡ tree_put command.now state.now }
+{
+    let last = state.project().deltas.len();
+    match (command.function, command.delta) {
+        (Function::CopyFile, Some(delta)) => usize::from(delta.number()),
+        _ => last,
+    }
+}
+
+// The changes of directories with which files are put as they are at a delta.
+fn put_changes<D: Disk>(
+    alloc: Global,
+    disk: &mut D,
+    state: &State,
+    command: &Command,
+) -> Result<DirChangeList, Stop>
+    requires clean { D.tells → IsClean (D.state disk.old) }
+    requires puts { puts_files command.now.function ≡ true }
+    ensures changes { IfOk result (λ changes. D.tells → AreChanges (effective (reads (D.state disk.old))) state.now command.now changes) }
+    ensures own { IfOk result (λ changes. AreOwn command.now changes) }
+    ensures same { D.tells → GoesOn IsSame (D.state disk.old) (D.state disk.new) }
+    ensures stopped { IfErr result (λ stop. EndsAs ⊥ (λ refusal. ⊥) (λ name. D.tells → IsOneDamaged (reads (D.state disk.old)) (versions_read command.now.function state.now) name) (HasRisen (D.faults disk.old) (D.faults disk.new)) ⊥ (outcome_of_stop stop)) }
+    ensures later { D.faults disk.old ≤ D.faults disk.new }
+{
+    let mut changes = DirChangeList::new(alloc);
+    let Some(change) = command.change.and_then(|number| state.change(number)) else {
+        return Ok(changes);
+    };
+    let delta = delta_put(state, command);
+    let files = files_at(alloc, disk, state, delta, &command.paths)?;
+    changes.push(DirChange::Put(Dir::Develop(change.number), files))?;
+    Ok(changes)
+}
+
+// The changes of directories that the command asks for.
+fn dir_changes<D: Disk>(
+    alloc: Global,
+    disk: &mut D,
+    state: &State,
+    command: &Command,
+) -> Result<DirChangeList, Stop>
+    requires clean { D.tells → IsClean (D.state disk.old) }
+    requires there { is_there_yet command.now.function ≡ true }
+    ensures changes { IfOk result (λ changes. D.tells → AreChanges (effective (reads (D.state disk.old))) state.now command.now changes) }
+    ensures own { IfOk result (λ changes. AreOwn command.now changes) }
+    ensures same { D.tells → GoesOn IsSame (D.state disk.old) (D.state disk.new) }
+    ensures stopped { IfErr result (λ stop. EndsAs ⊥ (λ refusal. ⊥) (λ name. D.tells → IsOneDamaged (reads (D.state disk.old)) (versions_read command.now.function state.now) name) (HasRisen (D.faults disk.old) (D.faults disk.new)) ⊥ (outcome_of_stop stop)) }
+    ensures later { D.faults disk.old ≤ D.faults disk.new }
+{
+    match command.function {
+        Function::DevelopBegin => begin_changes(alloc, disk, state, command),
+        Function::NewFile | Function::NewTest => Ok(make_changes(alloc, state, command)?),
+        Function::RemoveFile | Function::NewFileUndo | Function::NewTestUndo => {
+            Ok(remove_changes(alloc, state, command)?)
+        }
+        Function::CopyFile | Function::CopyFileUndo | Function::RemoveFileUndo => {
+            put_changes(alloc, disk, state, command)
+        }
+        _ => Ok(DirChangeList::new(alloc)),
+    }
+}
+
+/// Changes the directories as the command asks, where this stands.
+pub(crate) fn change_directories<D: Disk, S: Site>(
+    alloc: Global,
+    old: Option<&State>,
+    disk: &mut D,
+    site: &mut S,
+    command: &Command,
+) -> Result<(), Stop>
+    requires clean { D.tells → IsClean (D.state disk.old) }
+    requires there { is_there_yet command.now.function ≡ true }
+    ensures left { OnOk result (D.tells → S.tells → (bytes : ℕ → List ℕ) (who : List ℕ) (when : ℕ) → HaveBytes (effective (reads (D.state disk.old))) (option_copied old.entry) bytes → IsLeft (option_copied old.entry) bytes (called command.now who when (S.state site.old) (S.state site.new))) }
+    ensures directories { S.tells → LeavesDirs command.now (S.state site.old) (S.state site.new) (outcome_of result) }
+    ensures same { D.tells → GoesOn IsSame (D.state disk.old) (D.state disk.new) }
+    ensures stopped { IfErr result (λ stop. EndsAs ⊥ (λ refusal. ⊥) (λ name. D.tells → IsSomeAnd (option_copied old.entry) (λ o. IsOneDamaged (reads (D.state disk.old)) (versions_read command.now.function o) name)) (HasRisen (D.faults disk.old) (D.faults disk.new)) (HasRisen (S.faults site.old) (S.faults site.new)) (outcome_of_stop stop)) }
+    ensures disk_later { D.faults disk.old ≤ D.faults disk.new }
+    ensures site_later { S.faults site.old ≤ S.faults site.new }
+{
+    let Some(state) = old else {
+        return Ok(());
+    };
+    let changes = dir_changes(alloc, disk, state, command)?;
+    change_dirs(alloc, site, changes.as_slice())?;
+    Ok(())
+}
