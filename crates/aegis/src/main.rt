@@ -3,8 +3,10 @@
 
 mod disk;
 mod help;
+mod lock;
 mod places;
 mod site;
+mod store;
 mod streams;
 mod who;
 

@@ -63,8 +63,28 @@ pub fn refused() -> io::Error {
     io::Error::from(ErrorKind::Unsupported)
 }
 
-// A folder that is there stays as it is. Making one follows no link.
-fn make_folder(files: &impl Files, place: &str) -> io::Result<()> {
+/// The length of a regular file, and `None` where nothing is there. Anything else is an error.
+pub fn size_of_file(files: &impl Files, place: &str) -> io::Result<Option<u64>> {
+    match look(files, place)? {
+        Found::File(size) => Ok(Some(size)),
+        Found::Absent => Ok(None),
+        _ => Err(refused()),
+    }
+}
+
+/// Whether a folder holds nothing.
+pub fn is_empty_folder<R: Files + Alloc + Clone + Drop>(
+    files: &R,
+    place: &str,
+) -> io::Result<bool> {
+    match fs::read_dir(files, place)?.next() {
+        None => Ok(true),
+        Some(entry) => entry.map(|_| false),
+    }
+}
+
+/// Makes a folder. One that is there stays as it is. Making it follows no link.
+pub fn make_folder(files: &impl Files, place: &str) -> io::Result<()> {
     match fs::create_dir(files, place) {
         Err(e) if e.kind() != ErrorKind::AlreadyExists => return Err(e),
         _ => {}

@@ -1,0 +1,114 @@
+"""What the scripts share that run the program on real files.
+
+`run` runs a command as a process of its own. `traced` does so under a watch that sees each system call of the command once
+it looks at its folder, and may let one fail or stop the command there. That needs ptrace on x86-64 Linux.
+"""
+import ctypes
+import os
+import signal
+import subprocess
+import sys
+import tempfile
+
+MADE = 'aegis: project "demo": '
+NO_PROJECT = "aegis: 1: there is no project\n"
+DISK_FAULT = "aegis: disk fault\n"
+
+# The numbers of system calls.
+WRITE, PREAD, PWRITE, FLOCK, FSYNC, FDATASYNC, FTRUNCATE = 1, 17, 18, 73, 74, 75, 77
+MKDIR, GETDENTS, OPENAT, STATX = 83, 217, 257, 332
+WATCHED = {WRITE, PREAD, PWRITE, FLOCK, FSYNC, FDATASYNC, FTRUNCATE, MKDIR, GETDENTS, OPENAT, STATX}
+
+TRACEME, PEEKUSER, POKEUSER, SYSCALL, SETOPTIONS = 0, 3, 6, 24, 0x4200
+SEES_CALLS_ENDS_WITH_TRACER = 0x00100001
+NUMBER, ANSWER = 15 * 8, 10 * 8
+STOP = object()
+
+ptrace = ctypes.CDLL(None, use_errno=True).ptrace
+ptrace.argtypes = [ctypes.c_long, ctypes.c_long, ctypes.c_void_p, ctypes.c_void_p]
+ptrace.restype = ctypes.c_long
+
+
+def environment(who):
+    return {**os.environ, "AEGIS_USER": who}
+
+
+def run(program, top, who, words, **options):
+    """Runs one command in the folder. The words are a text, split at blanks, or a list."""
+    words = words.split() if isinstance(words, str) else words
+    options = {"capture_output": True, "text": True, "env": environment(who), **options}
+    return subprocess.run([program, *words], cwd=top, **options)
+
+
+def differs(found, status, said):
+    return (found.returncode, found.stdout, found.stderr) != (status, "", said)
+
+
+def has_project(program, top):
+    """Makes a project in the folder."""
+    assert not differs(run(program, top, "alice", "-npr demo"), 0, MADE + "created\n")
+
+
+def start_traced(program, top, who, words, err):
+    child = os.fork()
+    if child == 0:
+        try:
+            os.chdir(top)
+            os.dup2(err, 2)
+            if ptrace(TRACEME, 0, None, None) != 0:
+                os._exit(126)
+            os.execve(program, [program, *words.split()], environment(who))
+        finally:
+            os._exit(127)
+    return child
+
+
+def one_call(child):
+    """Lets the child go on to its next stop, and answers the status that waitpid gives."""
+    ptrace(SYSCALL, child, None, None)
+    return os.waitpid(child, 0)[1]
+
+
+def finish_call(child, failure):
+    """Lets a call end; where it is to fail, it isn't made."""
+    if failure is not None:
+        ptrace(POKEUSER, child, NUMBER, ctypes.c_void_p(-1))
+    status = one_call(child)
+    if failure is not None and os.WIFSTOPPED(status):
+        ptrace(POKEUSER, child, ANSWER, ctypes.c_void_p(-failure))
+    return status
+
+
+def follow(child, watch):
+    """Follows a child to its end. `watch` is asked at each watched call from the first STATX on."""
+    status = os.waitpid(child, 0)[1]
+    if os.WIFEXITED(status):
+        sys.exit("a process can't be traced here")
+    ptrace(SETOPTIONS, child, None, ctypes.c_void_p(SEES_CALLS_ENDS_WITH_TRACER))
+    count = 0
+    status = one_call(child)
+    while os.WIFSTOPPED(status):
+        number = ptrace(PEEKUSER, child, NUMBER, None)
+        failure = None
+        if number in WATCHED and (count or number == STATX):
+            count += 1
+            failure = watch(count, number)
+        if failure is STOP:
+            os.kill(child, signal.SIGKILL)
+            return os.waitpid(child, 0)[1]
+        status = finish_call(child, failure)
+        if os.WIFSTOPPED(status):
+            status = one_call(child)
+    return status
+
+
+def traced(program, top, who, words, watch):
+    """Runs one command, and answers its exit status (or minus the signal that ended it) and what it said.
+
+    `watch(count, number)` answers None where a call is to be made, an error number where it is to fail with that, and STOP
+    where the command is to be stopped before it.
+    """
+    with tempfile.TemporaryFile() as err:
+        status = follow(start_traced(program, top, who, words, err.fileno()), watch)
+        err.seek(0)
+        return os.waitstatus_to_exitcode(status), err.read().decode()
