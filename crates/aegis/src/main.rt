@@ -1,6 +1,7 @@
 //! The program: the real directories, files and streams, and what is done with them.
 #![tactic(auto)]
 
+mod descriptors;
 mod disk;
 mod help;
 mod lock;
@@ -26,10 +27,19 @@ const NOT_SAID: u8 = 5;
 // There is no memory to begin with.
 const NO_MEMORY: u8 = 8;
 
+// Says that there is no memory, where that can be said.
+fn starved(rt: &HostRuntime) -> ExitCode {
+    rt.stderr().write_all(b"aegis: out of memory\n").ok();
+    ExitCode::from(NO_MEMORY)
+}
+
 fn main(rt: HostRuntime) -> ExitCode {
+    if descriptors::fill(&rt).is_err() {
+        return ExitCode::from(NOT_SAID);
+    }
     let words = match who::words(&rt) {
         Ok(words) => words,
-        Err(e) if e.kind() == ErrorKind::OutOfMemory => return ExitCode::from(NO_MEMORY),
+        Err(e) if e.kind() == ErrorKind::OutOfMemory => return starved(&rt),
         Err(_) => {
             rt.stderr().write_all(b"aegis: a word is not UTF-8\n").ok();
             return ExitCode::from(BAD_WORDS);
@@ -42,7 +52,7 @@ fn main(rt: HostRuntime) -> ExitCode {
         };
     }
     let Ok(who) = who::user(&rt) else {
-        return ExitCode::from(NO_MEMORY);
+        return starved(&rt);
     };
     let outcome = aegis(
         rt.alloc(),
