@@ -3,7 +3,9 @@ ghost use Rattle.std.specs.Prelude.{⊤};
 ghost use Rattle.ae_outside.specs.Causes.{Counted, HasCause};
 ghost use Rattle.ae_outside.specs.Untold.{untold_site};
 
-use crate::places::{Found, look, make_folders, make_folders_to, refused, remove_empty_folders};
+use crate::places::{
+    Found, look, make_folders, make_folders_to, refused, remove_empty_folders, size_of_file,
+};
 use ae_base::{Path, Text};
 use ae_outside::{Content, Dir, Exit, Failed, Site, SiteError};
 use std::alloc::{AllocError, Global};
@@ -13,6 +15,9 @@ use std::os::unix::process::ExitStatusExt;
 use std::process::{Command, ExitStatus, Processes, Stdio};
 use std::rt::Files;
 use std::{fs, io};
+
+// A file is compared with what is to be written piece by piece.
+const PIECE: usize = 4096;
 
 /// Directories below `aegis.d`, and the current folder. It tells nothing of what they hold.
 #[derive(Drop)]
@@ -40,8 +45,27 @@ fn folder_of(alloc: Global, dir: Dir) -> Result<String, AllocError> {
     }
 }
 
+// Whether the path is that of the program's own folder in the current one, or below it.
+fn is_own(dir: Dir, path: &Path) -> bool {
+    let bytes = path.bytes();
+    dir == Dir::Here && (bytes == b"aegis.d".as_slice() || bytes.starts_with(b"aegis.d/"))
+}
+
 fn place_in(alloc: Global, folder: &str, path: &Path) -> Result<String, AllocError> {
     format!(in alloc; "{folder}/{path}")
+}
+
+// Whether the file begins with these bytes.
+fn begins_with(mut file: File, bytes: &[u8]) -> io::Result<bool> {
+    let mut piece = [0u8; PIECE];
+    for expected in bytes.chunks(PIECE) {
+        let found = &mut piece[..expected.len()];
+        file.read_exact(found)?;
+        if *found != *expected {
+            return Ok(false);
+        }
+    }
+    Ok(true)
 }
 
 // By its code, or by a signal.
@@ -103,16 +127,28 @@ impl<'a, R: Files<File = File> + Alloc + Processes> RealSite<'a, R> {
     }
 
     fn try_write(&self, dir: Dir, path: &Path, bytes: &[u8]) -> io::Result<()> {
+        if is_own(dir, path) {
+            return Err(refused());
+        }
         let folder = folder_of(self.alloc, dir)?;
         let place = place_in(self.alloc, folder.as_str(), path)?;
         make_folders_to(self.rt, place.as_str())?;
-        match look(self.rt, place.as_str())? {
-            Found::File(_) | Found::Absent => fs::write(self.rt, place, bytes),
-            _ => Err(refused()),
+        let there = size_of_file(self.rt, place.as_str())?;
+        if there == Some(bytes.len() as u64) && self.holds(place.as_str(), bytes).unwrap_or(false) {
+            return Ok(());
         }
+        fs::write(self.rt, place, bytes)
+    }
+
+    // Whether a file of this length can be read, and holds just these bytes: it then stays untouched, with its time of change.
+    fn holds(&self, place: &str, bytes: &[u8]) -> io::Result<bool> {
+        begins_with(File::open(self.rt, place)?, bytes)
     }
 
     fn try_remove(&self, dir: Dir, path: &Path) -> io::Result<()> {
+        if is_own(dir, path) {
+            return Err(refused());
+        }
         let is_here = dir == Dir::Here;
         let folder = folder_of(self.alloc, dir)?;
         let place = place_in(self.alloc, folder.as_str(), path)?;
@@ -144,17 +180,18 @@ impl<'a, R: Files<File = File> + Alloc + Processes> RealSite<'a, R> {
         let folder = folder_of(self.alloc, dir)?;
         make_folders(self.rt, folder.as_str())?;
         let log = format!(in self.alloc; "{folder}/aegis.log")?;
-        match look(self.rt, log.as_str())? {
-            Found::File(_) | Found::Absent => {}
-            _ => return Err(refused()),
-        }
+        size_of_file(self.rt, log.as_str())?;
         let out = OpenOptions::new()
             .append(true)
             .create(true)
             .open(self.rt, log)?;
         let err = out.try_clone()?;
         let mut shell = Command::new(self.alloc, "sh")?;
-        shell.arg("-c")?.arg(command)?.current_dir(folder)?;
+        shell
+            .arg("-c")?
+            .arg("--")?
+            .arg(command)?
+            .current_dir(folder)?;
         shell.stdin(Stdio::null()).stdout(out).stderr(err);
         exit_of(shell.status(self.rt)?)
     }

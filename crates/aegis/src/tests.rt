@@ -1,13 +1,13 @@
 // The disk and the directories over real files, each test in a folder of its own.
 use crate::disk::RealDisk;
 use crate::site::RealSite;
-use ae_base::{ChangeNo, Delta, Path, Text};
+use ae_base::{ChangeNo, Delta, Path};
 use ae_outside::{Content, Dir, Disk, Exit, Failed, Site};
-use ae_vault::{Batch, Entry, EntryList, PieceList, Vault, are_entries, no_entry_is_pack};
 use std::alloc::Global;
+use std::fs::OpenOptions;
 use std::os::unix::fs::symlink;
-use std::process::Abort;
 use std::test::*;
+use std::time::UNIX_EPOCH;
 use std::{env, fs, process};
 
 type TheDisk<'a> = RealDisk<'a, HostRuntime>;
@@ -105,40 +105,22 @@ fn the_disk_keeps_files(rt: HostRuntime) -> Result<(), Fail> {
     leave(&rt, folder)
 }
 
-// A write, a cut and a sync.
-fn changes(disk: &mut TheDisk<'_>) -> [Result<(), Failed>; 3] {
-    [
-        disk.write_at("x", 0, b"lost"),
-        disk.cut("x", 0),
-        disk.sync("x"),
-    ]
-}
-
 #[test]
-fn the_disk_follows_no_link(rt: HostRuntime) -> Result<(), Fail> {
-    let alloc = rt.alloc();
-    let folder = enter(&rt, "disk_link")?;
-    let mut disk = RealDisk::new(&rt, alloc);
-    fs::write(&rt, "outside", "kept")?;
-    assert_eq!(rt; disk.size("x"), Ok(0));
-    symlink(&rt, "../../outside", "aegis.d/store/x")?;
-    assert_eq!(rt; disk.size("x"), Ok(0));
-    assert_eq!(rt; disk.read_at(alloc, "x", 0, 9)?.as_slice(), b"".as_slice());
-    assert_eq!(rt; changes(&mut disk), [Err(Failed); 3]);
-    assert_eq!(rt; fs::read(&rt, "outside")?.as_slice(), b"kept".as_slice());
-    leave(&rt, folder)
-}
-
-#[test]
-fn one_disk_at_a_time_has_the_lock(rt: HostRuntime) -> Result<(), Fail> {
-    let folder = enter(&rt, "lock")?;
+fn a_store_that_appeared_is_another_process_s(rt: HostRuntime) -> Result<(), Fail> {
+    let folder = enter(&rt, "appeared")?;
     let mut first = RealDisk::new(&rt, rt.alloc());
     let mut second = RealDisk::new(&rt, rt.alloc());
     assert_eq!(rt; first.size("x"), Ok(0));
-    assert_eq!(rt; second.size("x"), Err(Failed));
-    assert_eq!(rt; second.size("x"), Err(Failed));
-    drop(first);
-    assert_eq!(rt; second.size("x"), Ok(0));
+    assert_eq!(rt; first.sync("x").and(first.cut("x", 0)), Ok(()));
+    assert!(rt; !fs::exists(&rt, "aegis.d")?);
+    assert_eq!(rt; second.write_at("x", 0, b"kept"), Ok(()));
+    assert_eq!(rt; first.write_at("x", 0, b"lost"), Err(Failed));
+    drop(second);
+    assert_eq!(rt; first.write_at("x", 0, b"lost"), Err(Failed));
+    assert_eq!(rt;
+        fs::read(&rt, "aegis.d/store/x")?.as_slice(),
+        b"kept".as_slice()
+    );
     leave(&rt, folder)
 }
 
@@ -159,6 +141,37 @@ fn the_site_keeps_files(rt: HostRuntime) -> Result<(), Fail> {
     assert_eq!(rt; write(alloc, &mut site, there, "a/b", b"hello!")?, Ok(()));
     let file = path(alloc, "a/b")?;
     assert!(rt; matches!(site.read(alloc, there, &file, 5), Ok(Content::TooLong)));
+    leave(&rt, folder)
+}
+
+// A text longer than the pieces that are compared, with this last byte.
+fn long_text(alloc: Global, last: u8) -> Result<Vec<u8>, Fail> {
+    let mut text = Vec::new(alloc);
+    text.resize(5000, b'x')?;
+    text.push(last)?;
+    Ok(text)
+}
+
+#[test]
+fn a_file_that_holds_the_bytes_stays_untouched(rt: HostRuntime) -> Result<(), Fail> {
+    let alloc = rt.alloc();
+    let folder = enter(&rt, "untouched")?;
+    let mut site = RealSite::new(&rt, alloc);
+    let there = Dir::Develop(ChangeNo::of(14));
+    let (old, new) = (long_text(alloc, b'y')?, long_text(alloc, b'z')?);
+    assert_eq!(rt; write(alloc, &mut site, there, "f", &old)?, Ok(()));
+    let file = OpenOptions::new()
+        .write(true)
+        .open(&rt, "aegis.d/develop.14/f")?;
+    file.set_modified(UNIX_EPOCH)?;
+    assert_eq!(rt; write(alloc, &mut site, there, "f", &old)?, Ok(()));
+    assert_eq!(rt; file.metadata()?.modified()?, UNIX_EPOCH);
+    assert_eq!(rt; write(alloc, &mut site, there, "f", &new)?, Ok(()));
+    assert!(rt; file.metadata()?.modified()? != UNIX_EPOCH);
+    assert_eq!(rt;
+        fs::read(&rt, "aegis.d/develop.14/f")?.as_slice(),
+        new.as_slice()
+    );
     leave(&rt, folder)
 }
 
@@ -194,6 +207,14 @@ fn folders_here_stay(rt: HostRuntime) -> Result<(), Fail> {
     assert!(rt; fs::exists(&rt, "a")?);
     assert!(rt; is_absent(alloc, &mut site, Dir::Here, "a/b")?);
     assert_eq!(rt; site.clear(Dir::Here), Err(Failed));
+    for text in ["aegis.d", "aegis.d/store/project"] {
+        assert_eq!(rt;
+            write(alloc, &mut site, Dir::Here, text, b"lost")?,
+            Err(Failed)
+        );
+        assert_eq!(rt; remove(alloc, &mut site, Dir::Here, text)?, Err(Failed));
+    }
+    assert!(rt; !fs::exists(&rt, "aegis.d")?);
     leave(&rt, folder)
 }
 
@@ -220,26 +241,10 @@ fn the_site_follows_no_link(rt: HostRuntime) -> Result<(), Fail> {
 }
 
 #[test]
-fn a_linked_root_is_refused(rt: HostRuntime) -> Result<(), Fail> {
-    let alloc = rt.alloc();
-    let folder = enter(&rt, "root_link")?;
-    fs::create_dir(&rt, "elsewhere")?;
-    symlink(&rt, "elsewhere", "aegis.d")?;
-    let mut disk = RealDisk::new(&rt, alloc);
-    assert_eq!(rt; changes(&mut disk), [Err(Failed); 3]);
-    let mut site = RealSite::new(&rt, alloc);
-    let there = Dir::Base(ChangeNo::of(13));
-    assert!(rt; is_absent(alloc, &mut site, there, "f")?);
-    assert_eq!(rt; write(alloc, &mut site, there, "f", b"lost")?, Err(Failed));
-    assert_eq!(rt; site.clear(there), Err(Failed));
-    assert_eq!(rt; site.run(there, "exit 0"), Err(Failed));
-    fs::remove_dir(&rt, "elsewhere")?;
-    leave(&rt, folder)
-}
-
-#[test]
 fn the_site_runs_commands(rt: HostRuntime) -> Result<(), Fail> {
     let folder = enter(&rt, "run")?;
+    let mut disk = RealDisk::new(&rt, rt.alloc());
+    assert_eq!(rt; disk.write_at("x", 0, b"held"), Ok(()));
     let mut site = RealSite::new(&rt, rt.alloc());
     let there = Dir::Integrate(Delta::of(1));
     let said = site.run(there, "cat; echo said; echo cried >&2; exit 3");
@@ -249,61 +254,11 @@ fn the_site_runs_commands(rt: HostRuntime) -> Result<(), Fail> {
     let log = fs::read(&rt, "aegis.d/integrate.1/aegis.log")?;
     assert_eq!(rt; log.as_slice(), b"said\ncried\n".as_slice());
     assert!(rt; fs::exists(&rt, "aegis.d/integrate.1/made")?);
+    let open = site.run(there, "ls -l /proc/$$/fd | grep -e store -e lock");
+    assert_eq!(rt; open, Ok(Exit::Code(1)));
+    let begins_with_dash = site.run(there, "-x 2>/dev/null || exit 4");
+    assert_eq!(rt; begins_with_dash, Ok(Exit::Code(4)));
     assert_eq!(rt; site.clear(there), Ok(()));
     assert!(rt; !fs::exists(&rt, "aegis.d/integrate.1/made")?);
-    leave(&rt, folder)
-}
-
-fn entry(alloc: Global, name: &str, bytes: &str) -> Result<Entry, Fail> {
-    Ok(Entry {
-        name: Text::of(Vec::from_slice(alloc, name.as_bytes())?),
-        bytes: Some(Text::of(Vec::from_slice(alloc, bytes.as_bytes())?)),
-    })
-}
-
-// A batch that puts these texts into two files.
-fn two_files(rt: &impl Abort, alloc: Global, change: &str, project: &str) -> Result<Batch, Fail> {
-    let first = entry(alloc, "change.10", change)?;
-    let second = entry(alloc, "project", project)?;
-    let entries = vec![in alloc; first, second]?;
-    assert!(rt; are_entries(entries.as_slice()));
-    assert!(rt; no_entry_is_pack(entries.as_slice()));
-    assert!(rt; entries.len() < 10);
-    Ok(Vault::prepare(alloc, EntryList::of(entries), PieceList::new(alloc))?)
-}
-
-// Whether the two files hold these texts, as the vault and the file system have them.
-fn are_two_files(
-    rt: &HostRuntime,
-    disk: &mut TheDisk<'_>,
-    change: &str,
-    project: &str,
-) -> Result<bool, Fail> {
-    let first = Vault::get(rt.alloc(), disk, "change.10")?;
-    let second = fs::read(rt, "aegis.d/store/project")?;
-    Ok(first.as_slice() == change.as_bytes() && second.as_slice() == project.as_bytes())
-}
-
-// What a stop right behind the gate's opening leaves.
-fn stop_behind_the_gate(disk: &mut TheDisk<'_>, batch: &Batch) -> Result<(), Failed> {
-    disk.write_at("body", 0, batch.body())?;
-    disk.cut("body", batch.body().len() as u64)?;
-    disk.sync("body")?;
-    disk.write_at("gate", 0, &[1])?;
-    disk.sync("gate")
-}
-
-#[test]
-fn the_vault_commits_and_recovers_real_files(rt: HostRuntime) -> Result<(), Fail> {
-    let alloc = rt.alloc();
-    let folder = enter(&rt, "vault")?;
-    let mut disk = RealDisk::new(&rt, alloc);
-    Vault::open(alloc, &mut disk)?;
-    Vault::commit(&mut disk, two_files(&rt, alloc, "ten", "old")?)?;
-    assert!(rt; are_two_files(&rt, &mut disk, "ten", "old")?);
-    stop_behind_the_gate(&mut disk, &two_files(&rt, alloc, "more", "new")?)?;
-    assert!(rt; are_two_files(&rt, &mut disk, "ten", "old")?);
-    Vault::open(alloc, &mut disk)?;
-    assert!(rt; are_two_files(&rt, &mut disk, "more", "new")?);
     leave(&rt, folder)
 }
