@@ -1,12 +1,18 @@
 // What the program says of itself.
-ghost use Rattle.std.specs.Prelude.{◌↔◌, IsSome, map, string_bytes};
-ghost use Rattle.aegis.specs.Help.{AskOfItself};
+ghost use Rattle.std.specs.Prelude.{◌≡◌, ◌↔◌, IsSome, IsTrue, Some, codes, map, option_map, string_bytes};
+ghost use Rattle.ae_words.specs.Items.{behind_dash};
+ghost use Rattle.aegis.specs.Help.{Asks};
+
+use ae_words::matches_option;
 
 const VERSION: &str = "aegis 0.1.0\n";
 
 const HELP: &str = "\
 usage: aegis -FUNCTION WORD..
-Capitals must be typed; small letters may be left out from the right; `_` may be `-` or nothing; case doesn't matter.
+
+A function, a listing and an option are spelled by their patterns: a capital must be typed; of a run of small letters a first
+part may be, or nothing; `_` may be `-` or nothing; case doesn't matter; a second `-` is ignored. So `-npr` is `--New-Project`.
+The functions; one with a * at its end isn't there yet, and is answered as a word that isn't understood:
 
   -New_PRoject NAME [-File PATH]
   -New_Administrator USER..
@@ -23,18 +29,18 @@ Capitals must be typed; small letters may be left out from the right; `_` may be
   -New_Change_Undo -Change N
   -Develop_Begin -Change N
   -Develop_Begin_Undo -Change N
-  -Build -Change N
-  -Develop_End -Change N
-  -Develop_End_Undo -Change N
-  -Review_Begin -Change N
-  -Review_Begin_Undo -Change N
-  -Review_PASS -Change N
-  -Review_Pass_Undo -Change N
-  -Review_FAIL -Change N
-  -Integrate_Begin -Change N
-  -Integrate_Begin_Undo -Change N
-  -Integrate_PASS -Change N
-  -Integrate_FAIL -Change N
+  -Build -Change N *
+  -Develop_End -Change N *
+  -Develop_End_Undo -Change N *
+  -Review_Begin -Change N *
+  -Review_Begin_Undo -Change N *
+  -Review_PASS -Change N *
+  -Review_Pass_Undo -Change N *
+  -Review_FAIL -Change N *
+  -Integrate_Begin -Change N *
+  -Integrate_Begin_Undo -Change N *
+  -Integrate_PASS -Change N *
+  -Integrate_FAIL -Change N *
   -CoPy_file -Change N PATH.. [-DELta N] [-OverWriting]
   -CoPy_file_Undo -Change N PATH..
   -New_File -Change N PATH..
@@ -43,12 +49,12 @@ Capitals must be typed; small letters may be left out from the right; `_` may be
   -New_Test_Undo -Change N PATH..
   -ReMove_file -Change N PATH..
   -ReMove_file_Undo -Change N PATH..
-  -Test -Change N [-BaseLine | -REGression]
-  -List LISTING [-Change N]
-  -SCRipt
-  -GENerate START CHANGES FILES
+  -Test -Change N [-BaseLine | -REGression] *
+  -List LISTING [-Change N] *
+  -SCRipt *
+  -GENerate START CHANGES FILES *
 
-With every function but the first and the last two, `-Project NAME` may be given. The listings:
+The listings:
 
   Administrators
   Developers
@@ -64,29 +70,96 @@ With every function but the first and the last two, `-Project NAME` may be given
   Change_Evidence -Change N
   Locks
 
-docs/COMMANDS.md says more.
-By now the functions from the first down to `-New_Change_Undo` are there.
+An option's value is the next word, or stands after `=` in the same word. The options:
+
+    -Project NAME   the command is refused where the project has another name; with every function but the first and the last two
+    -File PATH      a file of attributes in the current folder
+    -Change N       the number of a change, 10 to 1999
+    -DELta N        the files as they were after that delta, 0 to 1990, and not as they are in the baseline
+    -OverWriting    also files that are in the change already
+    -BaseLine       the change's tests are run over the baseline
+    -REGression     the project's other tests are run
+
+`-Help` and `-Version`, each alone, print this text and the version.
+
+The project is the one in the current folder, in `aegis.d`. The user is the variable AEGIS_USER, else LOGNAME, else nobody.
+What is said goes to standard error. The exit status:
+
+    0   it is done
+    1   it is refused, or a run failed
+    2   the words, or a line of a script, aren't understood
+    3   the disk failed, or another command holds the lock
+    4   a directory failed
+    5   the output wasn't taken
+    6   the input wasn't read
+    7   a file of the store is damaged
+    8   out of memory
 ";
 
-/// What `--help` alone and `--version` alone print, and `None` at other words.
-pub fn shown(words: &[String]) -> Option<&'static str>
-    ensures { IsSome result ↔ AskOfItself (map string_bytes words.now) }
+/// What the program is asked of itself.
+#[derive(Clone, Copy, Debug, PartialEq, Eq)]
+pub enum Question {
+    Help,
+    Version,
+}
+
+// The name of an option word: a second dash is ignored.
+fn name_of(word: &[u8]) -> Option<&[u8]>
+    ensures { option_map (λ name. name.now) result ≡ behind_dash word.now }
 {
-    match words {
-        [word] if word.as_str() == "--help" => Some(HELP),
-        [word] if word.as_str() == "--version" => Some(VERSION),
+    match word {
+        [b'-', b'-', name @ ..] => Some(name),
+        [b'-', name @ ..] => Some(name),
         _ => None,
+    }
+}
+
+// Whether these words are an option word alone that spells the pattern.
+fn asks(pattern: &[u8], words: &[String]) -> bool
+    ensures { IsTrue result ↔ Asks pattern.now (map string_bytes words.now) }
+{
+    let [word] = words else {
+        return false;
+    };
+    match name_of(word.as_bytes()) {
+        Some(name) => matches_option(pattern, name),
+        None => false,
+    }
+}
+
+impl Question {
+    /// What the words ask of the program itself, if they do.
+    pub fn read(words: &[String]) -> Option<Question>
+        ensures help { (result ≡ Some Question.Help) ↔ Asks (codes "Help") (map string_bytes words.now) }
+        ensures version { result ≡ Some Question.Version → Asks (codes "Version") (map string_bytes words.now) }
+        ensures answered { Asks (codes "Version") (map string_bytes words.now) → IsSome result }
+    {
+        if asks(b"Help", words) {
+            return Some(Question::Help);
+        }
+        if asks(b"Version", words) {
+            return Some(Question::Version);
+        }
+        None
+    }
+
+    pub fn answer(self) -> &'static str {
+        match self {
+            Question::Help => HELP,
+            Question::Version => VERSION,
+        }
     }
 }
 
 #[cfg(test)]
 mod tests {
     use super::*;
+    use ae_machine::is_there_yet;
     use ae_words::{Function, Listing, Row};
     use std::alloc::{AllocError, Global};
     use std::test::*;
 
-    // What the help shows behind a function's pattern.
+    // What the help shows after a function's pattern.
     fn words_of(row: Row) -> &'static str {
         match row {
             Row::NewProject => " NAME [-File PATH]",
@@ -107,7 +180,8 @@ mod tests {
     fn line_of(alloc: Global, function: Function) -> Result<String, AllocError> {
         let pattern = function.pattern();
         let words = words_of(function.row());
-        format!(in alloc; "  -{pattern}{words}")
+        let mark = if is_there_yet(function) { "" } else { " *" };
+        format!(in alloc; "  -{pattern}{words}{mark}")
     }
 
     // The line of a listing.
@@ -134,9 +208,9 @@ mod tests {
 
     #[test]
     fn help_lists_the_table_of_listings(rt: HostRuntime) -> Result<(), Fail> {
-        let mut lines = HELP
-            .lines()
-            .filter(|line| line.starts_with("  ") && !line.starts_with("  -"));
+        let mut lines = HELP.lines().filter(|line| line.starts_with("  ")
+            && !line.starts_with("  -")
+            && !line.starts_with("   "));
         for listing in Listing::ALL {
             let line = line_of_listing(rt.alloc(), listing)?;
             assert_eq!(rt; lines.next(), Some(line.as_str()));
@@ -145,16 +219,12 @@ mod tests {
         Ok(())
     }
 
+    // A capital of the pattern must be there, so these two hide no function.
     #[test]
-    fn help_and_version_stand_alone(rt: HostRuntime) -> Result<(), Fail> {
-        let alloc = rt.alloc();
-        let version = vec![in alloc; "--version".to_string(alloc)?]?;
-        assert_eq!(rt; shown(version.as_slice()), Some("aegis 0.1.0\n"));
-        let help = vec![in alloc; "--help".to_string(alloc)?]?;
-        assert_eq!(rt; shown(help.as_slice()), Some(HELP));
-        let more = vec![in alloc; "--help".to_string(alloc)?, "-npr".to_string(alloc)?]?;
-        assert_eq!(rt; shown(more.as_slice()), None);
-        assert_eq!(rt; shown(&[]), None);
-        Ok(())
+    fn no_function_begins_as_help_or_version(rt: HostRuntime) {
+        for function in Function::ALL {
+            let first = function.pattern().as_bytes().first();
+            assert!(rt; !matches!(first, None | Some(b'H' | b'V' | b'a'..=b'z' | b'_')));
+        }
     }
 }

@@ -13,6 +13,7 @@ mod who;
 
 use ae_session::aegis;
 use disk::RealDisk;
+use help::Question;
 use site::RealSite;
 use std::io::{ErrorKind, Write};
 use std::process::ExitCode;
@@ -45,8 +46,8 @@ fn main(rt: HostRuntime) -> ExitCode {
             return ExitCode::from(BAD_WORDS);
         }
     };
-    if let Some(text) = help::shown(words.as_slice()) {
-        return match rt.stdout().write_all(text.as_bytes()) {
+    if let Some(question) = Question::read(words.as_slice()) {
+        return match rt.stdout().write_all(question.answer().as_bytes()) {
             Ok(()) => ExitCode::SUCCESS,
             Err(_) => ExitCode::from(NOT_SAID),
         };
