@@ -6,7 +6,7 @@ use ae_base::Refusal;
 use std::alloc::AllocError;
 use thiserror::Error;
 
-/// Why a role isn't changed: it is refused, or memory is wanting.
+/// Why a role isn't changed: it is refused, or memory runs out.
 #[derive(Debug, Drop, Error)]
 pub enum PolicyError {
     #[error("{0}")]
