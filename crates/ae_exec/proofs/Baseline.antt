@@ -82,10 +82,7 @@ row-inside o s delta row there r is = let p = live-in o s r.version (row-lives o
 pub row-at : (rows : List FileRow) (i : ℕ) (row : FileRow) → i < length rows → row ≡ get_or rows i row → In rows row
 row-at rows i row below is = subst (λ (r : FileRow). In rows r) (sym is) (in-list rows (get_or rows i row) (Contains-get_or rows i row below))
 
--- the version of a row's file is one of the tree's
-pub row-read : (delta : ℕ) (rows : List FileRow) (row : FileRow) → In rows row → (r : TreeRow) → tree_row delta row ≡ Some r → Contains (tree_versions (tree_at delta rows)) r.version
-row-read delta rows row there r is = list-in (tree_versions (tree_at delta rows)) r.version (in-map (λ (t : TreeRow). t.version) (tree_at delta rows) r (in-some (tree_row delta) rows row r there is))
-
+-- and each of the baseline's files
 pub baseline-lives : (o : Observation) (version : VersionRef) → In (tree_versions (baseline_of o)) version → In (live o.files o.changes) version
 baseline-lives o version there =
     let r = map-in (λ (t : TreeRow). t.version) (baseline_of o) version there in

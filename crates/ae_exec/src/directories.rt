@@ -1,23 +1,23 @@
 // The directories are changed as a command asks, before anything is put on the disk.
-ghost use Rattle.std.specs.Prelude.{◌≡◌, ◌≤◌, ◌++◌, ◌∷◌, [], ℕ, List, Option, Some, map, true, IfOk, IfErr, IsSomeAnd, OnOk, option_copied};
+ghost use Rattle.std.specs.Prelude.{◌≡◌, ◌≤◌, ◌++◌, ◌∷◌, [], ℕ, List, Option, Some, map, true, IfOk, IfErr, OnOk, option_copied};
 ghost use Rattle.std.specs.List.{cons_option};
 ghost use Rattle.ae_outside.specs.Causes.{HasRisen};
 ghost use Rattle.std.specs.Option.{option_map};
 ghost use Rattle.ae_outside.specs.Image.{Image, IsSame};
 ghost use Rattle.ae_outside.specs.State.{reads, GoesOn};
-ghost use Rattle.ae_types.specs.Trees.{TreeRow, baseline_of, last_up_to, tree_of, tree_row};
+ghost use Rattle.ae_types.specs.Ordered.{Ascends, itself, put_by};
+ghost use Rattle.ae_types.specs.Trees.{TreeRow, baseline_of, text_cmp, tree_of, tree_row};
 ghost use Rattle.ae_vault.specs.Commit.{IsClean};
 ghost use Rattle.ae_vault.specs.Vault.{effective};
 ghost use Rattle.ae_machine.specs.Called.{called};
-ghost use Rattle.ae_machine.specs.Directories.{removed};
+ghost use Rattle.ae_machine.specs.Directories.{in_order, removed};
 ghost use Rattle.ae_machine.specs.Real.{IsLeft};
 ghost use Rattle.ae_machine.specs.Sight.{row_at};
 ghost use Rattle.ae_machine.specs.There.{is_there_yet};
-ghost use Rattle.ae_words.specs.declared.table.Function.{Function};
 ghost use Rattle.ae_exec.specs.Bytes.{HaveBytes, row_of_path, row_version, rows_at};
-ghost use Rattle.ae_exec.specs.Directories.{AreChanges, AreOwn, LeavesDirs, makes_files, removes_files, puts_files, tree_put};
-ghost use Rattle.ae_exec.specs.Reading.{IsInside, IsOneDamaged, IsPackDamaged, versions_of, versions_kept, versions_read};
-ghost use Rattle.ae_exec.specs.Endings.{EndsAs, outcome_of, outcome_of_stop};
+ghost use Rattle.ae_exec.specs.Directories.{AreChanges, AreOwn, LeavesDirs, makes_files, removes_files, paths_put, puts_files, tree_put};
+ghost use Rattle.ae_exec.specs.Reading.{AreKept, IsInside, IsLostAmong, reads_of, versions_at, versions_of, versions_read};
+ghost use Rattle.ae_exec.specs.Endings.{EndsAs, StopsReading, outcome_of, outcome_of_stop};
 
 use crate::stop::Stop;
 use crate::version::read_version;
@@ -41,8 +41,9 @@ fn push_file<D: Disk>(
     requires clean { D.tells → IsClean (D.state disk.old) }
     requires inside { (file : TreeRow) → tree_row delta row.now ≡ Some file → IsInside file.version }
     ensures pushed { OnOk result (D.tells → files.new ≡ files.old ++ rows_at (effective (reads (D.state disk.old))) (cons_option (tree_row delta row.now) [])) }
+    ensures kept { OnOk result (D.tells → AreKept (effective (reads (D.state disk.old))) (versions_of (cons_option (tree_row delta row.now) []))) }
     ensures same { D.tells → GoesOn IsSame (D.state disk.old) (D.state disk.new) }
-    ensures stopped { IfErr result (λ stop. EndsAs ⊥ (λ refusal. ⊥) (λ name. D.tells → (file : TreeRow) × (tree_row delta row.now ≡ Some file) × IsPackDamaged (reads (D.state disk.old)) file.version name) (HasRisen (D.faults disk.old) (D.faults disk.new)) ⊥ (outcome_of_stop stop)) }
+    ensures stopped { IfErr result (λ stop. StopsReading D.tells (reads (D.state disk.old)) (versions_of (cons_option (tree_row delta row.now) [])) (HasRisen (D.faults disk.old) (D.faults disk.new)) stop) }
     ensures later { D.faults disk.old ≤ D.faults disk.new }
 {
     let Some(entry) = entry_at(row.past.as_slice(), delta) else {
@@ -60,8 +61,9 @@ fn push_file<D: Disk>(
 fn baseline_files<D: Disk>(alloc: Global, disk: &mut D, state: &State) -> Result<FileList, Stop>
     requires clean { D.tells → IsClean (D.state disk.old) }
     ensures rows { IfOk result (λ rows. D.tells → rows ≡ rows_at (effective (reads (D.state disk.old))) (baseline_of state.now)) }
+    ensures kept { OnOk result (D.tells → AreKept (effective (reads (D.state disk.old))) (versions_of (baseline_of state.now))) }
     ensures same { D.tells → GoesOn IsSame (D.state disk.old) (D.state disk.new) }
-    ensures stopped { IfErr result (λ stop. EndsAs ⊥ (λ refusal. ⊥) (λ name. D.tells → IsOneDamaged (reads (D.state disk.old)) (versions_of (baseline_of state.now)) name) (HasRisen (D.faults disk.old) (D.faults disk.new)) ⊥ (outcome_of_stop stop)) }
+    ensures stopped { IfErr result (λ stop. StopsReading D.tells (reads (D.state disk.old)) (versions_of (baseline_of state.now)) (HasRisen (D.faults disk.old) (D.faults disk.new)) stop) }
     ensures later { D.faults disk.old ≤ D.faults disk.new }
 {
     let delta = state.project().deltas.len();
@@ -83,8 +85,9 @@ fn begin_changes<D: Disk>(
     requires begin { command.now.function ≡ Function.DevelopBegin }
     ensures changes { IfOk result (λ changes. D.tells → AreChanges (effective (reads (D.state disk.old))) state.now command.now changes) }
     ensures own { IfOk result (λ changes. AreOwn command.now changes) }
+    ensures kept { OnOk result (D.tells → AreKept (effective (reads (D.state disk.old))) (versions_read command.now state.now)) }
     ensures same { D.tells → GoesOn IsSame (D.state disk.old) (D.state disk.new) }
-    ensures stopped { IfErr result (λ stop. EndsAs ⊥ (λ refusal. ⊥) (λ name. D.tells → IsOneDamaged (reads (D.state disk.old)) (versions_read command.now.function state.now) name) (HasRisen (D.faults disk.old) (D.faults disk.new)) ⊥ (outcome_of_stop stop)) }
+    ensures stopped { IfErr result (λ stop. StopsReading D.tells (reads (D.state disk.old)) (versions_read command.now state.now) (HasRisen (D.faults disk.old) (D.faults disk.new)) stop) }
     ensures later { D.faults disk.old ≤ D.faults disk.new }
 {
     let mut changes = DirChangeList::new(alloc);
@@ -105,6 +108,38 @@ fn paths_copy(alloc: Global, paths: &PathList) -> Result<PathList, AllocError>
         copy.push(path.copy(alloc)?)?;
     }
     Ok(copy)
+}
+
+fn put_path(paths: &mut Vec<Path>, path: Path) -> Result<(), AllocError>
+    requires { Ascends text_cmp itself paths.old.items }
+    ensures { OnOk result (paths.new.items ≡ put_by text_cmp itself path paths.old.items) }
+{
+    match paths.binary_search_by(|other| other.bytes().cmp(path.bytes())) {
+        Ok(at) => paths[at] = path,
+        Err(at) => paths.insert(at, path)?,
+    }
+    Ok(())
+}
+
+// The paths, each once, ascending.
+fn paths_in_order(alloc: Global, paths: &PathList) -> Result<PathList, AllocError>
+    ensures { IfOk result (λ ordered. ordered ≡ in_order paths.now) }
+{
+    let mut ordered = Vec::new(alloc);
+    for path in paths.as_slice() {
+        put_path(&mut ordered, path.copy(alloc)?)?;
+    }
+    Ok(PathList::of(ordered))
+}
+
+// The paths at which files are put, in the order in which these are read.
+fn paths_put(alloc: Global, command: &Command) -> Result<PathList, AllocError>
+    ensures { IfOk result (λ paths. paths ≡ paths_put command.now) }
+{
+    match command.function {
+        Function::CopyFile => paths_copy(alloc, &command.paths),
+        _ => paths_in_order(alloc, &command.paths),
+    }
 }
 
 // No file at each of the paths.
@@ -177,8 +212,9 @@ fn push_file_at<D: Disk>(
 ) -> Result<(), Stop>
     requires clean { D.tells → IsClean (D.state disk.old) }
     ensures pushed { OnOk result (D.tells → files.new ≡ files.old ++ row_of_path (effective (reads (D.state disk.old))) (tree_of state.now delta) path.now ∷ []) }
+    ensures kept { OnOk result (D.tells → AreKept (effective (reads (D.state disk.old))) (versions_at (tree_of state.now delta) (path.now ∷ []))) }
     ensures same { D.tells → GoesOn IsSame (D.state disk.old) (D.state disk.new) }
-    ensures stopped { IfErr result (λ stop. EndsAs ⊥ (λ refusal. ⊥) (λ name. D.tells → IsOneDamaged (reads (D.state disk.old)) (versions_kept state.now) name) (HasRisen (D.faults disk.old) (D.faults disk.new)) ⊥ (outcome_of_stop stop)) }
+    ensures stopped { IfErr result (λ stop. StopsReading D.tells (reads (D.state disk.old)) (versions_at (tree_of state.now delta) (path.now ∷ [])) (HasRisen (D.faults disk.old) (D.faults disk.new)) stop) }
     ensures later { D.faults disk.old ≤ D.faults disk.new }
 {
     let _project = state.project();
@@ -186,10 +222,13 @@ fn push_file_at<D: Disk>(
         Some(version) => {
             let bytes = read_version(alloc, disk, version)?;
             files.push((path.copy(alloc)?, Some(Text::of(bytes))))?;
+            Ok(())
         }
-        None => files.push((path.copy(alloc)?, None))?,
+        None => {
+            files.push((path.copy(alloc)?, None))?;
+            Ok(())
+        }
     }
-    Ok(())
 }
 
 // The files of the paths at a delta, with their bytes.
@@ -202,8 +241,9 @@ fn files_at<D: Disk>(
 ) -> Result<FileList, Stop>
     requires clean { D.tells → IsClean (D.state disk.old) }
     ensures rows { IfOk result (λ rows. D.tells → rows ≡ map (row_of_path (effective (reads (D.state disk.old))) (tree_of state.now delta)) paths.now) }
+    ensures kept { OnOk result (D.tells → AreKept (effective (reads (D.state disk.old))) (versions_at (tree_of state.now delta) paths.now)) }
     ensures same { D.tells → GoesOn IsSame (D.state disk.old) (D.state disk.new) }
-    ensures stopped { IfErr result (λ stop. EndsAs ⊥ (λ refusal. ⊥) (λ name. D.tells → IsOneDamaged (reads (D.state disk.old)) (versions_kept state.now) name) (HasRisen (D.faults disk.old) (D.faults disk.new)) ⊥ (outcome_of_stop stop)) }
+    ensures stopped { IfErr result (λ stop. StopsReading D.tells (reads (D.state disk.old)) (versions_at (tree_of state.now delta) paths.now) (HasRisen (D.faults disk.old) (D.faults disk.new)) stop) }
     ensures later { D.faults disk.old ≤ D.faults disk.new }
 {
     let mut files = FileList::new(alloc);
@@ -235,8 +275,9 @@ fn put_changes<D: Disk>(
     requires puts { puts_files command.now.function ≡ true }
     ensures changes { IfOk result (λ changes. D.tells → AreChanges (effective (reads (D.state disk.old))) state.now command.now changes) }
     ensures own { IfOk result (λ changes. AreOwn command.now changes) }
+    ensures kept { OnOk result (D.tells → AreKept (effective (reads (D.state disk.old))) (versions_read command.now state.now)) }
     ensures same { D.tells → GoesOn IsSame (D.state disk.old) (D.state disk.new) }
-    ensures stopped { IfErr result (λ stop. EndsAs ⊥ (λ refusal. ⊥) (λ name. D.tells → IsOneDamaged (reads (D.state disk.old)) (versions_read command.now.function state.now) name) (HasRisen (D.faults disk.old) (D.faults disk.new)) ⊥ (outcome_of_stop stop)) }
+    ensures stopped { IfErr result (λ stop. StopsReading D.tells (reads (D.state disk.old)) (versions_read command.now state.now) (HasRisen (D.faults disk.old) (D.faults disk.new)) stop) }
     ensures later { D.faults disk.old ≤ D.faults disk.new }
 {
     let mut changes = DirChangeList::new(alloc);
@@ -244,7 +285,8 @@ fn put_changes<D: Disk>(
         return Ok(changes);
     };
     let delta = delta_put(state, command);
-    let files = files_at(alloc, disk, state, delta, &command.paths)?;
+    let paths = paths_put(alloc, command)?;
+    let files = files_at(alloc, disk, state, delta, &paths)?;
     changes.push(DirChange::Put(Dir::Develop(change.number), files))?;
     Ok(changes)
 }
@@ -260,8 +302,9 @@ fn dir_changes<D: Disk>(
     requires there { is_there_yet command.now.function ≡ true }
     ensures changes { IfOk result (λ changes. D.tells → AreChanges (effective (reads (D.state disk.old))) state.now command.now changes) }
     ensures own { IfOk result (λ changes. AreOwn command.now changes) }
+    ensures kept { OnOk result (D.tells → AreKept (effective (reads (D.state disk.old))) (versions_read command.now state.now)) }
     ensures same { D.tells → GoesOn IsSame (D.state disk.old) (D.state disk.new) }
-    ensures stopped { IfErr result (λ stop. EndsAs ⊥ (λ refusal. ⊥) (λ name. D.tells → IsOneDamaged (reads (D.state disk.old)) (versions_read command.now.function state.now) name) (HasRisen (D.faults disk.old) (D.faults disk.new)) ⊥ (outcome_of_stop stop)) }
+    ensures stopped { IfErr result (λ stop. StopsReading D.tells (reads (D.state disk.old)) (versions_read command.now state.now) (HasRisen (D.faults disk.old) (D.faults disk.new)) stop) }
     ensures later { D.faults disk.old ≤ D.faults disk.new }
 {
     match command.function {
@@ -289,8 +332,9 @@ pub(crate) fn change_directories<D: Disk, S: Site>(
     requires there { is_there_yet command.now.function ≡ true }
     ensures left { OnOk result (D.tells → S.tells → (bytes : ℕ → List ℕ) (who : List ℕ) (when : ℕ) → HaveBytes (effective (reads (D.state disk.old))) (option_copied old.entry) bytes → IsLeft (option_copied old.entry) bytes (called command.now who when (S.state site.old) (S.state site.new))) }
     ensures directories { S.tells → LeavesDirs command.now (S.state site.old) (S.state site.new) (outcome_of result) }
+    ensures kept { OnOk result (D.tells → AreKept (effective (reads (D.state disk.old))) (reads_of command.now (option_copied old.entry))) }
     ensures same { D.tells → GoesOn IsSame (D.state disk.old) (D.state disk.new) }
-    ensures stopped { IfErr result (λ stop. EndsAs ⊥ (λ refusal. ⊥) (λ name. D.tells → IsSomeAnd (option_copied old.entry) (λ o. IsOneDamaged (reads (D.state disk.old)) (versions_read command.now.function o) name)) (HasRisen (D.faults disk.old) (D.faults disk.new)) (HasRisen (S.faults site.old) (S.faults site.new)) (outcome_of_stop stop)) }
+    ensures stopped { IfErr result (λ stop. EndsAs ⊥ (λ refusal. ⊥) (λ name. D.tells → IsLostAmong (reads (D.state disk.old)) (reads_of command.now (option_copied old.entry)) name) (HasRisen (D.faults disk.old) (D.faults disk.new)) (HasRisen (S.faults site.old) (S.faults site.new) × (D.tells → AreKept (effective (reads (D.state disk.old))) (reads_of command.now (option_copied old.entry)))) (outcome_of_stop stop)) }
     ensures disk_later { D.faults disk.old ≤ D.faults disk.new }
     ensures site_later { S.faults site.old ≤ S.faults site.new }
 {

@@ -1,5 +1,5 @@
 // What is put and what is said of a command, made ready before anything is changed.
-ghost use Rattle.std.specs.Prelude.{◌≡◌, ◌≤◌, true, Option, Some, None, IfOk, IfErr, IsSomeAnd, option_copied};
+ghost use Rattle.std.specs.Prelude.{◌≡◌, ◌≤◌, true, Option, Some, None, IfOk, IfErr, option_copied};
 ghost use Rattle.ae_outside.specs.Causes.{HasRisen};
 ghost use Rattle.ae_outside.specs.Image.{IsSame};
 ghost use Rattle.ae_outside.specs.State.{reads, GoesOn};
@@ -11,14 +11,12 @@ ghost use Rattle.ae_words.specs.Formed.{IsFormed};
 ghost use Rattle.ae_machine.specs.declared.verdict.Verdict.TheVariants.{Refuse};
 ghost use Rattle.ae_machine.specs.Called.{called};
 ghost use Rattle.ae_machine.specs.There.{is_there_yet};
-ghost use Rattle.ae_machine.specs.Verdict.{refused_before};
 ghost use Rattle.ae_exec.specs.Carried.{pieces_of};
 ghost use Rattle.ae_exec.specs.Directories.{LeavesDirs};
 ghost use Rattle.ae_exec.specs.Endings.{EndsAs, IsDamagedFor, outcome_of, outcome_of_stop};
 ghost use Rattle.ae_exec.specs.Next.{MayFollow, AreMade, IfAccepted, next_of};
 ghost use Rattle.ae_exec.specs.Plan.{IsStep, IsMade, IsPlanned};
-ghost use Rattle.ae_exec.specs.Reading.{IsOneDamaged, versions_read};
-ghost use Rattle.ae_exec.specs.Seen.{IsAnswer, IsAnsweredAt, IsDecidedSo, ReadsSite};
+ghost use Rattle.ae_exec.specs.Seen.{CallsSite, CallsSiteOn, IsAnswer, IsAnsweredAt, IsDecidedSo, LosesVersion};
 
 use crate::directories::change_directories;
 use crate::load::load_state;
@@ -146,7 +144,7 @@ fn plan_on<D: Disk, S: Site>(
     requires there { is_there_yet command.now.function ≡ true }
     requires moment { now ≤ 4102444799 }
     ensures planned { IfOk result (λ plan. IsPlanned (D.tells × S.tells) (effective (reads (D.state disk.old))) (option_copied old.entry) (called command.now who.now now (S.state site.old) (S.state site.new)) status_line plan.batch plan.reply) }
-    ensures stopped { IfErr result (λ stop. EndsAs ⊥ (λ refusal. S.tells → IsAnswer (effective (reads (D.state disk.old))) (option_copied old.entry) (called command.now who.now now (S.state site.old) (S.state site.new)) (Refuse refusal)) (λ name. D.tells → IsSomeAnd (option_copied old.entry) (λ o. IsOneDamaged (reads (D.state disk.old)) (versions_read command.now.function o) name)) (HasRisen (D.faults disk.old) (D.faults disk.new)) (HasRisen (S.faults site.old) (S.faults site.new) × (refused_before (option_copied old.entry) command.now who.now ≡ None)) (outcome_of_stop stop)) }
+    ensures stopped { IfErr result (λ stop. EndsAs ⊥ (λ refusal. S.tells → IsAnswer (effective (reads (D.state disk.old))) (option_copied old.entry) (called command.now who.now now (S.state site.old) (S.state site.new)) (Refuse refusal)) (λ name. D.tells → S.tells → LosesVersion (reads (D.state disk.old)) (option_copied old.entry) (called command.now who.now now (S.state site.old) (S.state site.new)) name) (HasRisen (D.faults disk.old) (D.faults disk.new)) (HasRisen (S.faults site.old) (S.faults site.new) × (D.tells → S.tells → CallsSiteOn (effective (reads (D.state disk.old))) (option_copied old.entry) (called command.now who.now now (S.state site.old) (S.state site.new)))) (outcome_of_stop stop)) }
     ensures directories { S.tells → LeavesDirs command.now (S.state site.old) (S.state site.new) (outcome_of result) }
     ensures same { D.tells → GoesOn IsSame (D.state disk.old) (D.state disk.new) }
     ensures disk_later { D.faults disk.old ≤ D.faults disk.new }
@@ -180,7 +178,7 @@ pub(crate) fn make_plan<D: Disk, S: Site>(
     requires there { is_there_yet command.now.function ≡ true }
     requires moment { now ≤ 4102444799 }
     ensures planned { IfOk result (λ plan. (o : Option Observation) × (D.tells → Stands (reads (D.state disk.old)) o) × IsPlanned (D.tells × S.tells) (effective (reads (D.state disk.old))) o (called command.now who.now now (S.state site.old) (S.state site.new)) status_line plan.batch plan.reply) }
-    ensures stopped { IfErr result (λ stop. EndsAs ⊥ (λ refusal. D.tells → S.tells → IsAnsweredAt (reads (D.state disk.old)) (called command.now who.now now (S.state site.old) (S.state site.new)) (Refuse refusal)) (λ name. D.tells → IsDamagedFor (reads (D.state disk.old)) command.now.function name) (HasRisen (D.faults disk.old) (D.faults disk.new)) (HasRisen (S.faults site.old) (S.faults site.new) × (D.tells → ReadsSite (reads (D.state disk.old)) command.now who.now)) (outcome_of_stop stop)) }
+    ensures stopped { IfErr result (λ stop. EndsAs ⊥ (λ refusal. D.tells → S.tells → IsAnsweredAt (reads (D.state disk.old)) (called command.now who.now now (S.state site.old) (S.state site.new)) (Refuse refusal)) (λ name. D.tells → S.tells → IsDamagedFor (reads (D.state disk.old)) (called command.now who.now now (S.state site.old) (S.state site.new)) name) (HasRisen (D.faults disk.old) (D.faults disk.new)) (HasRisen (S.faults site.old) (S.faults site.new) × (D.tells → S.tells → CallsSite (reads (D.state disk.old)) (called command.now who.now now (S.state site.old) (S.state site.new)))) (outcome_of_stop stop)) }
     ensures directories { S.tells → LeavesDirs command.now (S.state site.old) (S.state site.new) (outcome_of result) }
     ensures same { D.tells → GoesOn IsSame (D.state disk.old) (D.state disk.new) }
     ensures disk_later { D.faults disk.old ≤ D.faults disk.new }

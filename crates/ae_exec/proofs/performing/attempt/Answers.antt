@@ -7,7 +7,7 @@ use Rattle.ae_exec.specs.Endings.{done, disk_fault, store}
 use Rattle.ae_exec.specs.Stands.{StandsForLog}
 use Rattle.ae_exec.specs.Step.{step}
 use Rattle.ae_exec.specs.declared.stop.Stop.TheVariants as stop
-use Rattle.ae_exec.proofs.Attempting.{risen_later, answered_before, reads_before, accepted_at, said_at, left_at, takes, planned_before}
+use Rattle.ae_exec.proofs.Attempting.{risen_later, answered_before, site_before, accepted_at, said_at, left_at, takes, planned_before}
 use Rattle.ae_exec.proofs.Ended.{Opened, opened-disk, still-disk, put-disk, opened-versions, still-versions, put-versions, stopped-performs, done-performs, disk_err, dirs_err, performs_err}
 use Rattle.ae_exec.proofs.Endings.{ends_for, ends_err}
 use Rattle.ae_exec.proofs.OwnDirs.{leaves-still}
@@ -32,7 +32,7 @@ returns-in_err-open_store-clause-performs g c = λ tells seen.
     let call : Called = (called c.args.command.now c.args.who.now c.args.now (g.S.Site.state c.args.site.now) (g.S.Site.state c.args.site.now)) in
     let opened : Opened (g.D.Disk.state c.args.disk.now) (g.D.Disk.state c.open_store.new.disk) = (record { time = c.open_store.ensures.time tells; left = c.open_store.ensures.left tells; any_moment = c.open_store.ensures.any_moment tells; files = c.open_store.ensures.files tells; settled = c.open_store.ensures.settled tells }) in
     performs_err (g.D.Disk.state c.args.disk.now) (g.D.Disk.state c.open_store.new.disk) call _ c.in_err-open_store.field-0.0 (search rules) (stopped-performs (g.D.Disk.state c.args.disk.now) (g.D.Disk.state c.open_store.new.disk) call c.in_err-open_store.field-0.0
-    (λ settled. ends_for _ c.in_err-open_store.ensures.stopped (λ none. absurd none) (λ refusal none. absurd none) (λ name is. store (is tells)) (λ rose. tt) (λ none. absurd none))
+    (ends_for _ c.in_err-open_store.ensures.stopped (λ none. absurd none) (λ refusal none. absurd none) (λ name is. store (is tells)) (λ rose. tt) (λ none. absurd none))
     (λ held log is. (c.in_err-open_store.ensures.refined tells held log (step log call) is.holds is.stands, opened-versions (g.D.Disk.state c.args.disk.now) (g.D.Disk.state c.open_store.new.disk) held log opened is.holds)))
 
 -- ---- it was stopped before anything was put
@@ -51,10 +51,10 @@ returns-in_err-batch-clause-performs g c = λ tells seen.
     let call : Called = (called c.args.command.now c.args.who.now c.args.now (g.S.Site.state c.args.site.now) (g.S.Site.state c.make_plan.new.site)) in
     let opened : Opened (g.D.Disk.state c.args.disk.now) (g.D.Disk.state c.open_store.new.disk) = (record { time = c.open_store.ensures.time tells; left = c.open_store.ensures.left tells; any_moment = c.open_store.ensures.any_moment tells; files = c.open_store.ensures.files tells; settled = c.open_store.ensures.settled tells }) in
     performs_err (g.D.Disk.state c.args.disk.now) (g.D.Disk.state c.make_plan.new.disk) call _ c.in_err-batch.field-0.0 (search rules) (stopped-performs (g.D.Disk.state c.args.disk.now) (g.D.Disk.state c.make_plan.new.disk) call c.in_err-batch.field-0.0
-    (λ settled. ends_for _ c.in_err-batch.ensures.stopped (λ none. absurd none)
-    (λ refusal answered. answered_before (g.D.Disk.state c.args.disk.now) (g.D.Disk.state c.open_store.new.disk) call (Refuse refusal) (c.open_store.ensures.files tells settled) (answered tells seen))
-    (λ name is. damaged_for_files _ _ c.args.command.now.function name (c.open_store.ensures.files tells settled) (is tells)) (λ rose. tt)
-    (λ rose. reads_before (g.D.Disk.state c.args.disk.now) (g.D.Disk.state c.open_store.new.disk) c.args.command.now c.args.who.now (c.open_store.ensures.files tells settled) (rose.1 tells)))
+    (ends_for _ c.in_err-batch.ensures.stopped (λ none. absurd none)
+    (λ refusal answered. answered_before (g.D.Disk.state c.args.disk.now) (g.D.Disk.state c.open_store.new.disk) call (Refuse refusal) (c.open_store.ensures.files tells) (answered tells seen))
+    (λ name is. damaged_for_files _ _ call name (c.open_store.ensures.files tells) (is tells seen)) (λ rose. tt)
+    (λ rose. site_before (g.D.Disk.state c.args.disk.now) (g.D.Disk.state c.open_store.new.disk) call (c.open_store.ensures.files tells) (rose.1 tells seen)))
     (λ held log is. (
       stopped_refined StandsForLog by_files alike (g.D.Disk.state c.args.disk.now) (g.D.Disk.state c.make_plan.new.disk) held log (step log call) c.in_err-batch.field-0.0
           (opened_still StandsForLog by_files alike (g.D.Disk.state c.args.disk.now) (g.D.Disk.state c.open_store.new.disk) (g.D.Disk.state c.make_plan.new.disk) held log (c.in_ok-open_store.ensures.opened tells held log is.holds is.stands) (c.make_plan.ensures.same tells)),
@@ -78,9 +78,9 @@ returns-in_err-put_batch-clause-performs g c = λ tells seen.
     let call : Called = (called c.args.command.now c.args.who.now c.args.now (g.S.Site.state c.args.site.now) (g.S.Site.state c.make_plan.new.site)) in
     let o = c.in_ok-batch.ensures.planned.0 in
     let opened : Opened (g.D.Disk.state c.args.disk.now) (g.D.Disk.state c.open_store.new.disk) = (record { time = c.open_store.ensures.time tells; left = c.open_store.ensures.left tells; any_moment = c.open_store.ensures.any_moment tells; files = c.open_store.ensures.files tells; settled = c.open_store.ensures.settled tells }) in
-    performs_err (g.D.Disk.state c.args.disk.now) (g.D.Disk.state c.put_batch.new.disk) call _ stop.DiskFault (search rules) (stopped-performs (g.D.Disk.state c.args.disk.now) (g.D.Disk.state c.put_batch.new.disk) call stop.DiskFault (λ settled. disk_fault tt) (λ held log is.
-    let plan = planned_before _ _ _ o call _ _ _ (λ told. c.open_store.ensures.files tells is.holds.settled) c.in_ok-batch.ensures.planned.2 in
-    let read = read_before (g.D.Disk.state c.args.disk.now) (g.D.Disk.state c.open_store.new.disk) o (c.open_store.ensures.files tells is.holds.settled) (c.in_ok-batch.ensures.planned.1 tells) in
+    performs_err (g.D.Disk.state c.args.disk.now) (g.D.Disk.state c.put_batch.new.disk) call _ stop.DiskFault (search rules) (stopped-performs (g.D.Disk.state c.args.disk.now) (g.D.Disk.state c.put_batch.new.disk) call stop.DiskFault (disk_fault tt) (λ held log is.
+    let plan = planned_before _ _ _ o call _ _ _ (λ told. c.open_store.ensures.files tells) c.in_ok-batch.ensures.planned.2 in
+    let read = read_before (g.D.Disk.state c.args.disk.now) (g.D.Disk.state c.open_store.new.disk) o (c.open_store.ensures.files tells) (c.in_ok-batch.ensures.planned.1 tells) in
     let decided : IsDecided (occasion_after log call) = record { formed = c.requires.formed; moment = c.requires.moment; there = c.requires.there } in
     let batch_takes = takes (g.D.Disk.state c.args.disk.now) _ o call _ _ _ plan read (tells, seen) log decided is.stands is.legal in
     let was = opened_still StandsForLog by_files alike (g.D.Disk.state c.args.disk.now) (g.D.Disk.state c.open_store.new.disk) (g.D.Disk.state c.make_plan.new.disk) held log (c.in_ok-open_store.ensures.opened tells held log is.holds is.stands) (c.make_plan.ensures.same tells) in (
@@ -106,10 +106,10 @@ returns-clause-performs g c = λ tells seen.
     let o = c.in_ok-batch.ensures.planned.0 in
     let opened : Opened (g.D.Disk.state c.args.disk.now) (g.D.Disk.state c.open_store.new.disk) = (record { time = c.open_store.ensures.time tells; left = c.open_store.ensures.left tells; any_moment = c.open_store.ensures.any_moment tells; files = c.open_store.ensures.files tells; settled = c.open_store.ensures.settled tells }) in
     done-performs (g.D.Disk.state c.args.disk.now) (g.D.Disk.state c.put_batch.new.disk) call
-    (λ settled. accepted_at (g.D.Disk.state c.args.disk.now) _ o call _ _ _ (planned_before _ _ _ o call _ _ _ (λ told. c.open_store.ensures.files tells settled) c.in_ok-batch.ensures.planned.2) (read_before (g.D.Disk.state c.args.disk.now) (g.D.Disk.state c.open_store.new.disk) o (c.open_store.ensures.files tells settled) (c.in_ok-batch.ensures.planned.1 tells)) (tells, seen))
+    (accepted_at (g.D.Disk.state c.args.disk.now) _ o call _ _ _ (planned_before _ _ _ o call _ _ _ (λ told. c.open_store.ensures.files tells) c.in_ok-batch.ensures.planned.2) (read_before (g.D.Disk.state c.args.disk.now) (g.D.Disk.state c.open_store.new.disk) o (c.open_store.ensures.files tells) (c.in_ok-batch.ensures.planned.1 tells)) (tells, seen))
     (λ held log is.
-    let plan = planned_before _ _ _ o call _ _ _ (λ told. c.open_store.ensures.files tells is.holds.settled) c.in_ok-batch.ensures.planned.2 in
-    let read = read_before (g.D.Disk.state c.args.disk.now) (g.D.Disk.state c.open_store.new.disk) o (c.open_store.ensures.files tells is.holds.settled) (c.in_ok-batch.ensures.planned.1 tells) in
+    let plan = planned_before _ _ _ o call _ _ _ (λ told. c.open_store.ensures.files tells) c.in_ok-batch.ensures.planned.2 in
+    let read = read_before (g.D.Disk.state c.args.disk.now) (g.D.Disk.state c.open_store.new.disk) o (c.open_store.ensures.files tells) (c.in_ok-batch.ensures.planned.1 tells) in
     let decided : IsDecided (occasion_after log call) = record { formed = c.requires.formed; moment = c.requires.moment; there = c.requires.there } in
     let batch_takes = takes (g.D.Disk.state c.args.disk.now) _ o call _ _ _ plan read (tells, seen) log decided is.stands is.legal in
     let was = opened_still StandsForLog by_files alike (g.D.Disk.state c.args.disk.now) (g.D.Disk.state c.open_store.new.disk) (g.D.Disk.state c.make_plan.new.disk) held log (c.in_ok-open_store.ensures.opened tells held log is.holds is.stands) (c.make_plan.ensures.same tells) in (
@@ -117,10 +117,10 @@ returns-clause-performs g c = λ tells seen.
           (c.in_ok-put_batch.ensures.made tells log (step log call) batch_takes was.holds),
       put-versions (g.D.Disk.state c.args.disk.now) (g.D.Disk.state c.open_store.new.disk) (g.D.Disk.state c.make_plan.new.disk) (g.D.Disk.state c.put_batch.new.disk) held log opened (c.make_plan.ensures.same tells) is.holds (c.put_batch.ensures.time tells) (c.put_batch.ensures.versions tells log (step log call) batch_takes),
     ))
-    (λ settled x bytes shows. left_at (g.D.Disk.state c.args.disk.now) _ o call _ _ _ (planned_before _ _ _ o call _ _ _ (λ told. c.open_store.ensures.files tells settled) c.in_ok-batch.ensures.planned.2) (read_before (g.D.Disk.state c.args.disk.now) (g.D.Disk.state c.open_store.new.disk) o (c.open_store.ensures.files tells settled) (c.in_ok-batch.ensures.planned.1 tells)) (tells, seen) x bytes shows)
+    (λ x bytes shows. left_at (g.D.Disk.state c.args.disk.now) _ o call _ _ _ (planned_before _ _ _ o call _ _ _ (λ told. c.open_store.ensures.files tells) c.in_ok-batch.ensures.planned.2) (read_before (g.D.Disk.state c.args.disk.now) (g.D.Disk.state c.open_store.new.disk) o (c.open_store.ensures.files tells) (c.in_ok-batch.ensures.planned.1 tells)) (tells, seen) x bytes shows)
 
 pub returns-clause-reply : goal.returns-clause-reply
-returns-clause-reply g c = λ is_done tells seen settled x bytes shows.
+returns-clause-reply g c = λ is_done tells seen x bytes shows.
     let call : Called = (called c.args.command.now c.args.who.now c.args.now (g.S.Site.state c.args.site.now) (g.S.Site.state c.make_plan.new.site)) in
     let o = c.in_ok-batch.ensures.planned.0 in
-    said_at (g.D.Disk.state c.args.disk.now) _ o call _ _ _ (planned_before _ _ _ o call _ _ _ (λ told. c.open_store.ensures.files tells settled) c.in_ok-batch.ensures.planned.2) (read_before (g.D.Disk.state c.args.disk.now) (g.D.Disk.state c.open_store.new.disk) o (c.open_store.ensures.files tells settled) (c.in_ok-batch.ensures.planned.1 tells)) (tells, seen) x bytes shows
+    said_at (g.D.Disk.state c.args.disk.now) _ o call _ _ _ (planned_before _ _ _ o call _ _ _ (λ told. c.open_store.ensures.files tells) c.in_ok-batch.ensures.planned.2) (read_before (g.D.Disk.state c.args.disk.now) (g.D.Disk.state c.open_store.new.disk) o (c.open_store.ensures.files tells) (c.in_ok-batch.ensures.planned.1 tells)) (tells, seen) x bytes shows

@@ -1,0 +1,21 @@
+use Rattle.std.proofs.Common.{rules, ℕ, List}
+use Rattle.std.proofs.lemmas.Fn.{always_returns_same}
+use Rattle.ae_types.specs.Ordered.{itself}
+use Rattle.ae_types.specs.Trees.{text_cmp}
+use Rattle.ae_types.proofs.Keys.{by_text}
+use Rattle.ae_log.proofs.Placing.{set-put, insert-put, searchable}
+use Rattle.ae_exec.proofs.directories.put_path.Goals as goal
+
+pub returns-in-Ok : goal.returns-in-Ok
+returns-in-Ok c =
+    let bound = rw (c.deref.ensures.value) at c.in-Ok.ensures.bound in
+    let position = rw (c.deref.ensures.value) at c.in-Ok.ensures.position in
+    let equal = position (λ (y : List ℕ). text_cmp y c.args.path) (always_returns_same _ _ _ (λ a r f' called. search rules)) in
+    set-put by_text itself c.args.path c.args.paths.now.items c.in-Ok.at c.args.path c.requires bound (equal c.args.path)
+
+pub returns-in_ok-insert-in-Err : goal.returns-in_ok-insert-in-Err
+returns-in_ok-insert-in-Err c =
+    let bound = rw (c.deref.ensures.value) at c.in-Err.ensures.bound in
+    let position = rw (c.deref.ensures.value) at c.in-Err.ensures.position in
+    let point = position (λ (y : List ℕ). text_cmp y c.args.path) (always_returns_same _ _ _ (λ a r f' called. search rules)) in
+    rw (c.in_ok-insert-in-Err.ensures.items) (insert-put by_text itself c.args.path c.args.paths.now.items c.in-Err.at bound (point (searchable by_text itself c.args.path c.args.paths.now.items c.requires)))
