@@ -222,7 +222,7 @@ fn bad_words_are_told_by_their_place(rt: HostRuntime) -> Result<(), Fail> {
 
 #[test]
 fn a_command_that_is_not_there_yet_is_bad_at_its_function(rt: HostRuntime) -> Result<(), Fail> {
-    for line in ["-db -c 10", "-scr", "-l locks"] {
+    for line in ["-b -c 10", "-scr", "-l locks"] {
         is_told(&rt, rt.alloc(), "bob", line, 4_102_444_799, 1)?;
     }
     Ok(())
