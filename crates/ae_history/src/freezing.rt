@@ -4,7 +4,7 @@ ghost use Rattle.std.specs.Option.{option_to_list};
 ghost use Rattle.ae_base.specs.Rows.{Row};
 ghost use Rattle.ae_log.specs.Files.{present, first_place, other_places};
 ghost use Rattle.ae_space.specs.declared.extent.Extent.{Extent};
-ghost use Rattle.ae_space.specs.Gaps.{Leaves};
+ghost use Rattle.ae_space.specs.Gaps.{WhateverLeft};
 ghost use Rattle.ae_history.specs.Placing.{places_of, piece_at, pieces_at, TakesPlaces, HaveNoPlaces, IsShort};
 
 use crate::placing::{padded, piece_at, units_of};
@@ -16,9 +16,9 @@ use std::alloc::{AllocError, Global};
 // The place of the bytes of a file, where there are any.
 fn take_place(space: &mut Space, bytes: &Option<Text>) -> Result<Option<u64>, SpaceError>
     requires { IsShort bytes.now }
-    ensures taken { IfOk result (λ place. (taken : List Extent) → Leaves taken space.old → TakesPlaces taken (option_to_list bytes.now) space.new (option_to_list place)) }
+    ensures taken { IfOk result (λ place. WhateverLeft space.old (λ taken. TakesPlaces taken (option_to_list bytes.now) space.new (option_to_list place))) }
     ensures inside { IfOk result (λ place. IfSome place (λ at. at ≤ 16777216)) }
-    ensures full { IsErrOf result SpaceError.Full → (taken : List Extent) → Leaves taken space.old → HaveNoPlaces taken (option_to_list bytes.now) }
+    ensures full { IsErrOf result SpaceError.Full → WhateverLeft space.old (λ taken. HaveNoPlaces taken (option_to_list bytes.now)) }
 {
     match bytes {
         Some(text) => {
@@ -45,10 +45,10 @@ pub fn take_places(
     space: &mut Space,
 ) -> Result<Vec<u64>, SpaceError>
     requires short { All (λ (row : Row). IsShort row.1) tree.now }
-    ensures places { IfOk result (λ places. (taken : List Extent) → Leaves taken space.old → places_of taken (present tree.now) ≡ Some places.items) }
+    ensures places { IfOk result (λ places. WhateverLeft space.old (λ taken. places_of taken (present tree.now) ≡ Some places.items)) }
     ensures inside { IfOk result (λ places. All (λ at. at ≤ 16777216) places.items) }
     // It is full exactly where one of them has no place.
-    ensures full { IsErrOf result SpaceError.Full → (taken : List Extent) → Leaves taken space.old → places_of taken (present tree.now) ≡ None }
+    ensures full { IsErrOf result SpaceError.Full → WhateverLeft space.old (λ taken. places_of taken (present tree.now) ≡ None) }
 {
     let mut places = Vec::new(alloc);
     for (_, bytes) in tree {
