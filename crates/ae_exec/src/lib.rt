@@ -16,8 +16,8 @@ mod version;
 
 pub use freezing::{Frozen, freeze};
 pub use laws::{
-    end_is_placed_last, legal_logs_are_held, note_shown, note_whole, performed_is_legal,
-    placing_is_in_space, versions_are_carried,
+    calls_join, end_is_placed_last, ends_once, legal_logs_are_held, note_shown, note_whole,
+    performed_is_legal, placing_is_in_space, versions_are_carried,
 };
 pub use performing::{Performed, perform};
 pub use version::read_version;

@@ -1,0 +1,48 @@
+-- A command changes just the state files whose records differ, and the packed file in its pieces.
+use Rattle.std.specs.Prelude.{◌≡◌, ◌⊎◌, ◌≤◌, ℕ, List, Option, Some, None, unwrap_or}
+use Rattle.std.proofs.Common.{sym, ap, subst, ◌∙◌, inl, inr, arith}
+use Rattle.std.proofs.lemmas.Bool.{cases_lt}
+use Rattle.ae_outside.specs.Image.{Image, IsSame}
+use Rattle.ae_outside.specs.State.{DiskState, MayLeave, Continues, GoesOn}
+use Rattle.ae_types.specs.Observation.{Observation}
+use Rattle.ae_vault.specs.declared.entry.Entry.{Entry}
+use Rattle.ae_vault.specs.declared.piece.Piece.{Piece}
+use Rattle.ae_vault.specs.Batch.{BatchRecord}
+use Rattle.ae_vault.specs.Commit.{OpenAt, Throughout, with_entries}
+use Rattle.ae_vault.specs.Pieces.{BatchAt, FilesOver, IsPacked, IsBeforeBatch, IsAfterBatch, pack}
+use Rattle.ae_vault.specs.Vault.{content_of, effective}
+use Rattle.ae_store.specs.Changed.{entry_for}
+use Rattle.ae_exec.specs.Exact.{ChangesExactly, IsChangedBy, not_yet, pieces_alone, whole, with_records}
+use Rattle.ae_exec.proofs.Leaving.{open_still}
+
+-- ---- before anything is put
+
+pub opening-exact : (base disk : DiskState) (old : Option Observation) (next : Observation) (pieces : List Piece) → Throughout (OpenAt base) base.moment disk → ChangesExactly base disk old next pieces
+opening-exact base disk old next pieces opening u f from till is = let was = (opening u from till).each f is in (was.0, was.1, not_yet was.2)
+
+-- ---- a batch
+
+module _ (entries : List Entry) (pieces : List Piece) (old : Option Observation) (next : Observation) (are : (name : List ℕ) → content_of entries name ≡ entry_for old next name) where
+  over-records : (a b : Option Image) → FilesOver pieces (with_entries entries a) b → FilesOver pieces (with_records old next a) b
+  over-records (Some x) (Some y) over = record {
+    others = λ name other. over.others name other ∙ ap (λ (c : Option (List ℕ)). unwrap_or c (x name)) (are name);
+    packed = subst (λ (bytes : List ℕ). IsPacked pieces bytes (y pack)) (ap (λ (c : Option (List ℕ)). unwrap_or c (x pack)) (are pack)) over.packed;
+  }
+  over-records (Some x) None over = absurd over
+  over-records None b over = absurd over
+
+module _ (base made disk : DiskState) (batch : BatchRecord) (old : Option Observation) (next : Observation) (are : (name : List ℕ) → content_of batch.entries name ≡ entry_for old next name)
+    (later : base.moment ≤ made.moment) (opening : Throughout (OpenAt base) base.moment made) (time : Continues made disk) (through : Throughout (BatchAt batch made) made.moment disk) where
+  changed : (from mid f : Image) → effective mid ≡ effective from → IsBeforeBatch batch mid f ⊎ IsAfterBatch batch mid f → IsChangedBy old next batch.pieces from f
+  changed from mid f same (inl before) = pieces_alone (subst (λ (a : Option Image). FilesOver batch.pieces a (effective f)) same before)
+  changed from mid f same (inr after) =
+      whole (over-records batch.entries batch.pieces old next are (effective from) (effective f) (subst (λ (a : Option Image). FilesOver batch.pieces (with_entries batch.entries a) (effective f)) same after.files))
+
+  pub commit-exact : ChangesExactly base disk old next batch.pieces
+  commit-exact u f from till is = elim (cases_lt u made.moment) [
+    | inl before ↦ opening-exact base made old next batch.pieces opening u f from (omega (arith, before)) (time.no_more u f (omega (arith, before)) is)
+    | inr after ↦
+        let between = (through u after till).each f is in
+        let was = (opening made.moment later (omega arith)).each between.0 between.1 in
+        (was.0, was.1, changed was.0 between.0 f was.2 between.2)
+  ]
