@@ -16,9 +16,6 @@ use std::process::{Command, ExitStatus, Processes, Stdio};
 use std::rt::Files;
 use std::{fs, io};
 
-// A file is compared with what is to be written piece by piece.
-const PIECE: usize = 4096;
-
 /// Directories below `aegis.d`, and the current folder. It tells nothing of what they hold.
 #[derive(Drop)]
 pub struct RealSite<'a, R> {
@@ -45,27 +42,14 @@ fn folder_of(alloc: Global, dir: Dir) -> Result<String, AllocError> {
     }
 }
 
-// Whether the path is that of the program's own folder in the current one, or below it.
-fn is_own(dir: Dir, path: &Path) -> bool {
+// Whether the path is that of the program's own folder, or below it.
+fn is_own(path: &Path) -> bool {
     let bytes = path.bytes();
-    dir == Dir::Here && (bytes == b"aegis.d".as_slice() || bytes.starts_with(b"aegis.d/"))
+    bytes == b"aegis.d".as_slice() || bytes.starts_with(b"aegis.d/")
 }
 
 fn place_in(alloc: Global, folder: &str, path: &Path) -> Result<String, AllocError> {
     format!(in alloc; "{folder}/{path}")
-}
-
-// Whether the file begins with these bytes.
-fn begins_with(mut file: File, bytes: &[u8]) -> io::Result<bool> {
-    let mut piece = [0u8; PIECE];
-    for expected in bytes.chunks(PIECE) {
-        let found = &mut piece[..expected.len()];
-        file.read_exact(found)?;
-        if *found != *expected {
-            return Ok(false);
-        }
-    }
-    Ok(true)
 }
 
 // By its code, or by a signal.
@@ -127,29 +111,38 @@ impl<'a, R: Files<File = File> + Alloc + Processes> RealSite<'a, R> {
     }
 
     fn try_write(&self, dir: Dir, path: &Path, bytes: &[u8]) -> io::Result<()> {
-        if is_own(dir, path) {
+        if dir == Dir::Here && is_own(path) {
             return Err(refused());
         }
         let folder = folder_of(self.alloc, dir)?;
         let place = place_in(self.alloc, folder.as_str(), path)?;
         make_folders_to(self.rt, place.as_str())?;
-        let there = size_of_file(self.rt, place.as_str())?;
-        if there == Some(bytes.len() as u64) && self.holds(place.as_str(), bytes).unwrap_or(false) {
-            return Ok(());
+        match size_of_file(self.rt, place.as_str())? {
+            Some(size) if size == bytes.len() as u64 => self.rewrite(place.as_str(), bytes),
+            _ => fs::write(self.rt, place, bytes),
         }
-        fs::write(self.rt, place, bytes)
     }
 
-    // Whether a file of this length can be read, and holds just these bytes: it then stays untouched, with its time of change.
+    // Writes a file of this length. One that holds the bytes already stays untouched, with its time of change.
+    fn rewrite(&self, place: &str, bytes: &[u8]) -> io::Result<()> {
+        match self.holds(place, bytes) {
+            Ok(true) => Ok(()),
+            _ => fs::write(self.rt, place, bytes),
+        }
+    }
+
     fn holds(&self, place: &str, bytes: &[u8]) -> io::Result<bool> {
-        begins_with(File::open(self.rt, place)?, bytes)
+        let mut file = File::open(self.rt, place)?;
+        let mut found = Vec::new(self.alloc);
+        file.read_to_end(&mut found)?;
+        Ok(found.as_slice() == bytes)
     }
 
     fn try_remove(&self, dir: Dir, path: &Path) -> io::Result<()> {
-        if is_own(dir, path) {
+        let is_here = dir == Dir::Here;
+        if is_here && is_own(path) {
             return Err(refused());
         }
-        let is_here = dir == Dir::Here;
         let folder = folder_of(self.alloc, dir)?;
         let place = place_in(self.alloc, folder.as_str(), path)?;
         match look(self.rt, place.as_str())? {
