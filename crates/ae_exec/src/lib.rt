@@ -21,6 +21,3 @@ pub use laws::{
 };
 pub use performing::{Performed, perform};
 pub use version::read_version;
-
-#[cfg(test)]
-mod tests;

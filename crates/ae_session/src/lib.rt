@@ -7,6 +7,3 @@ mod session;
 
 pub use request::asks_or_is_bad;
 pub use session::aegis;
-
-#[cfg(test)]
-mod tests;
