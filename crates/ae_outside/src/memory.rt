@@ -11,8 +11,6 @@ pub(crate) mod sink;
 pub(crate) mod site;
 pub(crate) mod site_files;
 pub(crate) mod site_run;
-#[cfg(test)]
-mod site_tests;
 pub(crate) mod source;
 #[cfg(test)]
 mod stream_tests;
