@@ -18,8 +18,3 @@ pub use changed::batch;
 pub use error::StoreError;
 pub use laws::note_damage;
 pub use loading::load;
-
-#[cfg(test)]
-mod cases;
-#[cfg(test)]
-mod tests;
