@@ -49,6 +49,17 @@ def has_project(program, top):
     assert not differs(run(program, top, "alice", "-npr demo"), 0, MADE + "created\n")
 
 
+def can_trace():
+    """Whether a process may be traced here; some containers refuse it. Says so where it may not be."""
+    child = os.fork()
+    if child == 0:
+        os._exit(0 if ptrace(TRACEME, 0, None, None) == 0 else 1)
+    if os.waitstatus_to_exitcode(os.waitpid(child, 0)[1]) == 0:
+        return True
+    print("a process can't be traced here, so what needs that isn't run")
+    return False
+
+
 def start_traced(program, top, who, words, err):
     child = os.fork()
     if child == 0:
