@@ -1,7 +1,20 @@
 -- The text of a body.
-use Rattle.std.specs.Prelude.{ℕ, List, [], ◌∷◌, ◌++◌, ◌<◌, ◌^◌, length, flat_map, Option, Some, None, unwrap_or}
+use Rattle.std.specs.Prelude.{ℕ, List, [], ◌∷◌, ◌++◌, ◌<◌, ◌^◌, length, map, flat_map, Option, Some, None, unwrap_or}
 use Rattle.std.specs.Int.{to_le_bytes, w32, w64}
 use Rattle.ae_vault.specs.declared.entry.Entry.{Entry}
+
+-- an empty text is an absent file
+abbrev pub text_put : Option (List ℕ) → Option (List ℕ)
+text_put None = None
+text_put (Some []) = None
+text_put (Some (b ∷ bytes)) = Some (b ∷ bytes)
+
+-- the entry as it is put
+abbrev pub entry_put : Entry → Entry
+entry_put e = record { name = e.name; bytes = text_put e.bytes }
+
+abbrev pub entries_put : List Entry → List Entry
+entries_put entries = map entry_put entries
 
 -- the byte 0, or the byte 1, the length and the bytes
 abbrev pub content_bytes : Option (List ℕ) → List ℕ

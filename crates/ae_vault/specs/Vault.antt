@@ -1,5 +1,5 @@
 -- The files that an image stands for, where a redo body may lie behind an open gate.
-use Rattle.std.specs.Prelude.{◌≡◌, ℕ, zero, suc, Bool, true, false, not, nat_lt, ◌&&◌, ◌||◌, ◌==◌, nat_le, List, [], ◌∷◌, length, take, drop, Option, Some, None, unwrap_or, option_and_then, if◌then◌else◌}
+use Rattle.std.specs.Prelude.{◌≡◌, ℕ, zero, suc, Bool, true, false, not, nat_lt, ◌&&◌, ◌||◌, ◌==◌, nat_le, List, [], ◌∷◌, length, take, drop, codes, Option, Some, None, unwrap_or, option_and_then, if◌then◌else◌}
 use Rattle.std.specs.List.{list_all}
 use Rattle.std.specs.Ordering.{is_lt, nat_cmp}
 use Rattle.std.specs.Cmp.Lexicographic.{slice_cmp}
@@ -9,14 +9,14 @@ use Rattle.ae_outside.specs.Image.{Image}
 use Rattle.ae_outside.specs.DiskNames.{is_disk_name}
 use Rattle.ae_vault.specs.declared.entry.Entry.{Entry}
 
--- "gate" and "body"
+-- the vault's own two files
 abbrev pub gate : List ℕ
-gate = 103 ∷ 97 ∷ 116 ∷ 101 ∷ []
+gate = codes "gate"
 
 abbrev pub body : List ℕ
-body = 98 ∷ 111 ∷ 100 ∷ 121 ∷ []
+body = codes "body"
 
--- the vault's own two files
+-- it is one of these two
 abbrev pub is_own : List ℕ → Bool
 is_own name = bytes_eq name gate || bytes_eq name body
 

@@ -1,11 +1,12 @@
 // Entries with the body that says them, and pieces.
 ghost use Rattle.std.specs.Prelude.{◌≡◌, ◌↔◌, ◌<◌, ◌^◌, [], IsTrue, List, ℕ, length, true, Some, IfOk};
 ghost use Rattle.ae_base.specs.Bytes.{AreBytes};
-ghost use Rattle.ae_vault.specs.Body.{body_of};
+ghost use Rattle.ae_vault.specs.Body.{body_of, entries_put};
 ghost use Rattle.ae_vault.specs.Pieces.{no_entry_is_pack, are_pieces};
 ghost use Rattle.ae_vault.specs.Vault.{are_entries, body_entries, all_entry_names};
 
 use crate::body::write_body;
+use crate::entry::entries_put;
 use crate::{Entry, EntryList, Piece, PieceList, Vault};
 use std::alloc::{AllocError, Global};
 use std::marker::Model;
@@ -67,7 +68,7 @@ impl Batch {
 }
 
 impl Vault {
-    /// A batch of just these entries and pieces. `are_entries`, `no_entry_is_pack` and `are_pieces` test what is asked of them.
+    /// A batch of just these entries and pieces. An entry with an empty text is one without bytes. `are_entries`, `no_entry_is_pack` and `are_pieces` test what is asked of them.
     pub fn prepare(
         alloc: Global,
         entries: EntryList,
@@ -77,8 +78,9 @@ impl Vault {
         requires no_pack { no_entry_is_pack entries ≡ true }
         requires count { length entries < 2 ^ 32 }
         requires pieces { are_pieces pieces ≡ true }
-        ensures { IfOk result (λ batch. batch ≡ record { entries = entries; pieces = pieces }) }
+        ensures { IfOk result (λ batch. batch ≡ record { entries = entries_put entries; pieces = pieces }) }
     {
+        let entries = entries_put(alloc, entries)?;
         let body = write_body(alloc, entries.as_slice())?;
         Ok(Batch {
             entries,

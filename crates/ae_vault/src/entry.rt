@@ -1,6 +1,7 @@
 // Files to put, each with its new bytes.
-ghost use Rattle.std.specs.Prelude.{◌≡◌, [], ◌∷◌, ◌++◌, length, OnOk, OnErr};
+ghost use Rattle.std.specs.Prelude.{◌≡◌, [], ◌∷◌, ◌++◌, length, IfOk, OnOk, OnErr};
 ghost use Rattle.ae_outside.specs.DiskNames.{IsDiskName};
+ghost use Rattle.ae_vault.specs.Body.{entries_put, entry_put};
 
 use ae_base::Text;
 use std::alloc::{AllocError, Global};
@@ -65,6 +66,35 @@ impl EntryList {
     {
         self.entries.as_slice()
     }
+}
+
+// The entry as it is put: an empty text is an absent file.
+fn entry_put(entry: Entry) -> Entry
+    ensures { result ≡ entry_put entry }
+{
+    let Entry { name, bytes } = entry;
+    let bytes = match bytes {
+        Some(text) => {
+            if text.bytes().is_empty() {
+                None
+            } else {
+                Some(text)
+            }
+        }
+        None => None,
+    };
+    Entry { name, bytes }
+}
+
+/// The entries as they are put.
+pub(crate) fn entries_put(alloc: Global, entries: EntryList) -> Result<EntryList, AllocError>
+    ensures { IfOk result (λ put. put ≡ entries_put entries) }
+{
+    let mut put = EntryList::new(alloc);
+    for entry in entries.entries {
+        put.push(entry_put(entry))?;
+    }
+    Ok(put)
 }
 
 // A disk's name as a `str`: all its bytes are ASCII.
