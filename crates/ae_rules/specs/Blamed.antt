@@ -6,7 +6,8 @@ use Rattle.ae_types.specs.declared.blame.Blame.{Blame}
 use Rattle.ae_types.specs.declared.blame.Blame.TheVariants as blame
 use Rattle.ae_types.specs.Observation.{Observation}
 use Rattle.ae_types.specs.Ordered.{Ascends, itself}
-use Rattle.ae_types.specs.Found.{number_of_delta}
+use Rattle.ae_types.specs.Found.{lock_path, number_of_delta}
+use Rattle.ae_types.specs.Trees.{text_cmp}
 use Rattle.ae_types.specs.Rules.{blame_unless, project_fits_changes, files_fit_changes}
 use Rattle.ae_types.specs.Sound.{AreRows, AreChanges}
 use Rattle.ae_rules.specs.declared.error.CheckError.{CheckError}
@@ -20,6 +21,7 @@ pub record IsReadable (o : Observation) : Type 0 where
   pub numbers : Ascends nat_cmp itself o.numbers
   pub deltas : Ascends nat_cmp number_of_delta o.project.deltas
   pub rows : AreRows (length o.project.deltas) o.files
+  pub locks : Ascends text_cmp lock_path o.locks
   pub changes : AreChanges o.numbers o.changes
 
 -- the blame of the rules beside one another

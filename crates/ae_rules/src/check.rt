@@ -50,9 +50,13 @@ fn project_stands(parts: &Parts) -> bool
 }
 
 fn files_stand(parts: &Parts) -> bool
-    ensures { result ≡ files_are_good (length parts.now.project.deltas) parts.now.files }
+    ensures { result ≡ files_are_good (length parts.now.project.deltas) parts.now.files parts.now.locks }
 {
-    files_are_good(parts.project.deltas.len(), parts.files.as_slice())
+    files_are_good(
+        parts.project.deltas.len(),
+        parts.files.as_slice(),
+        parts.locks.as_slice(),
+    )
 }
 
 fn bad_change_of(parts: &Parts) -> Option<ChangeNo>

@@ -5,8 +5,8 @@ ghost use Rattle.ae_types.specs.Rules.{delta_is_there, length_is_good, row_is_go
 
 use crate::change_alone::length_is_good;
 use crate::clashes::none_clash;
-use crate::order::{past_ascends, rows_ascend};
-use ae_types::{FileRow, FileVersion};
+use crate::order::{locks_ascend, past_ascends, rows_ascend};
+use ae_types::{FileRow, FileVersion, Lock};
 
 fn delta_is_there(deltas: usize, entry: &FileVersion) -> bool
     ensures { result ≡ delta_is_there deltas entry.now }
@@ -42,12 +42,12 @@ fn rows_are_good(deltas: usize, rows: &[FileRow]) -> bool
     rows.iter().all(|row| row_is_good(deltas, row))
 }
 
-/// Whether the file table of a project with so many deltas, by itself, keeps the rules.
-pub fn files_are_good(deltas: usize, rows: &[FileRow]) -> bool
-    ensures { result ≡ files_are_good deltas rows.now }
+/// Whether the file table of a project with so many deltas, its locks too, keeps the rules by itself.
+pub fn files_are_good(deltas: usize, rows: &[FileRow], locks: &[Lock]) -> bool
+    ensures { result ≡ files_are_good deltas rows.now locks.now }
 {
     if !rows_ascend(rows) {
         return false;
     }
-    rows_are_good(deltas, rows) && none_clash(deltas, rows, None)
+    locks_ascend(locks) && rows_are_good(deltas, rows) && none_clash(deltas, rows, None)
 }

@@ -9,7 +9,6 @@ ghost use Rattle.ae_types.specs.Rules.{lock_has_file, files_have_locks, locks_fi
 ghost use Rattle.ae_types.specs.Sound.{IsGoodChange, AreChanges};
 ghost use Rattle.ae_rules.specs.Beside.{file_has_lock};
 
-use crate::order::locks_ascend;
 use crate::phases::holds_locks;
 use ae_base::{ChangeNo, Path};
 use ae_types::{Change, ChangeFile, Lock, change_in, file_in, has_number, lock_in};
@@ -87,11 +86,9 @@ fn changes_have_locks(locks: &[Lock], changes: &[Change]) -> bool
 
 pub(crate) fn locks_fit(numbers: &[ChangeNo], locks: &[Lock], changes: &[Change]) -> bool
     requires numbers { Ascends nat_cmp itself numbers.now }
+    requires locks { Ascends text_cmp lock_path locks.now }
     requires changes { AreChanges numbers.now changes.now }
     ensures { result ≡ locks_fit numbers.now locks.now changes.now }
 {
-    if !locks_ascend(locks) {
-        return false;
-    }
     locks_have_files(numbers, changes, locks) && changes_have_locks(locks, changes)
 }

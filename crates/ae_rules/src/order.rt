@@ -2,10 +2,10 @@
 ghost use Rattle.std.specs.Prelude.{◌≡◌};
 ghost use Rattle.std.specs.Ordering.{is_lt, nat_cmp};
 ghost use Rattle.ae_types.specs.Ordered.{ascends, itself};
-ghost use Rattle.ae_types.specs.Found.{number_of_change, lock_path};
+ghost use Rattle.ae_types.specs.Found.{number_of_change};
 ghost use Rattle.ae_types.specs.Trees.{text_cmp};
 ghost use Rattle.ae_types.specs.Runs.{run_cmp, run_of, during_place, kind_place, path_place};
-ghost use Rattle.ae_types.specs.Rules.{numbers_ascend, rows_ascend, past_ascends, files_ascend, evidence_ascends};
+ghost use Rattle.ae_types.specs.Rules.{numbers_ascend, rows_ascend, locks_ascend, past_ascends, files_ascend, evidence_ascends};
 
 use ae_base::{ChangeNo, Delta, Ground, Kind, Path};
 use ae_types::{Change, ChangeFile, Evidence, FileRow, FileVersion, Lock};
@@ -54,7 +54,7 @@ pub(crate) fn past_ascends(past: &[FileVersion]) -> bool
 }
 
 pub(crate) fn locks_ascend(locks: &[Lock]) -> bool
-    ensures { result ≡ ascends text_cmp lock_path locks.now }
+    ensures { result ≡ locks_ascend locks.now }
 {
     locks.is_sorted_by(|a, b| is_path_below(&a.path, &b.path))
 }

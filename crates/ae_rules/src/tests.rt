@@ -3,7 +3,8 @@ use crate::{change_is_good, files_are_good, project_is_good};
 use ae_base::{Cause, ChangeNo, Delta, Path, Phase, ProjectName, Text, Usage, UserSet};
 use ae_types::{
     Attributes, Change, ChangeAttributes, ChangeFileList, DeltaList, EndAction, EvidenceList,
-    FileRow, FileRows, FileVersion, FileVersionList, HistoryList, Project, VersionRef,
+    FileRow, FileRows, FileVersion, FileVersionList, HistoryList, Lock, LockList, Project,
+    VersionRef,
 };
 use std::alloc::Global;
 use std::test::Fail;
@@ -34,8 +35,25 @@ fn the_delta_of_an_entry_is_there(rt: HostRuntime) -> Result<(), Fail> {
     let alloc = rt.alloc();
     let mut rows = FileRows::new(alloc);
     rows.push(row(alloc)?)?;
-    assert!(rt; files_are_good(1, rows.as_slice()));
-    assert!(rt; !files_are_good(0, rows.as_slice()));
+    assert!(rt; files_are_good(1, rows.as_slice(), &[]));
+    assert!(rt; !files_are_good(0, rows.as_slice(), &[]));
+    Ok(())
+}
+
+// a lock of change 10
+fn lock(alloc: Global, path: &[u8]) -> Result<Lock, Fail> {
+    let path = Path::read(alloc, path)?.ok_or("a path")?;
+    let change = ChangeNo::of(10);
+    Ok(Lock { path, change })
+}
+
+#[test]
+fn locks_out_of_order_are_blamed_with_the_files(rt: HostRuntime) -> Result<(), Fail> {
+    let alloc = rt.alloc();
+    let mut locks = LockList::new(alloc);
+    locks.push(lock(alloc, b"b")?)?;
+    locks.push(lock(alloc, b"a")?)?;
+    assert!(rt; !files_are_good(0, &[], locks.as_slice()));
     Ok(())
 }
 

@@ -13,16 +13,17 @@ use Rattle.ae_types.specs.declared.change.Evidence.{Evidence}
 use Rattle.ae_types.specs.declared.change.HistoryRow.{HistoryRow}
 use Rattle.ae_types.specs.declared.file_table.FileRow.{FileRow}
 use Rattle.ae_types.specs.declared.file_table.FileVersion.{FileVersion}
+use Rattle.ae_types.specs.declared.file_table.Lock.{Lock}
 use Rattle.ae_types.specs.declared.project.DeltaRow.{DeltaRow}
 use Rattle.ae_types.specs.declared.project.Project.{Project}
 use Rattle.ae_types.specs.declared.version.VersionRef.{VersionRef}
 use Rattle.ae_types.specs.Ordered.{itself, ascends}
 use Rattle.ae_types.specs.Phases.{is_awaiting_development, is_reviewed, may_be_reviewing, has_integrator, holds_locks, is_remove}
-use Rattle.ae_types.specs.Found.{number_of_change, file_path, row_path, entry_delta, number_of_delta, has_number, change_in}
+use Rattle.ae_types.specs.Found.{number_of_change, file_path, row_path, entry_delta, lock_path, number_of_delta, has_number, change_in}
 use Rattle.ae_types.specs.Trees.{tree_at, paths_of}
 use Rattle.ae_types.specs.Runs.{run_of}
 use Rattle.ae_types.specs.Clashes.{none_clash}
-use Rattle.ae_types.specs.Rules.{is_moment, length_is_good, users_differ, role_is_good, roles_are_good, has_administrator, numbers_ascend, counts_up, deltas_are_numbered, deltas_have_moments, next_version_is_good, project_is_good, rows_ascend, past_ascends, delta_is_there, row_is_good, files_are_good, files_ascend, evidence_ascends, ranges_are_good, developer_fits, reviewer_fits, reviewing_fits, integrator_fits, people_are_good, version_fits, files_are_in_time, change_is_good, is_change_of}
+use Rattle.ae_types.specs.Rules.{is_moment, length_is_good, users_differ, role_is_good, roles_are_good, has_administrator, numbers_ascend, counts_up, deltas_are_numbered, deltas_have_moments, next_version_is_good, project_is_good, rows_ascend, locks_ascend, past_ascends, delta_is_there, row_is_good, files_are_good, files_ascend, evidence_ascends, ranges_are_good, developer_fits, reviewer_fits, reviewing_fits, integrator_fits, people_are_good, version_fits, files_are_in_time, change_is_good, is_change_of}
 use Rattle.ae_types.specs.Sound.{IsMoment, FitsLength, IsGoodRole, IsGoodProject, IsGoodRow, AreRows, IsGoodChange, AreChanges}
 use Rattle.ae_types.proofs.Keys.{by_text, by_number, by_run, less}
 use Rattle.ae_types.proofs.Clashing.{clash-facts, facts-clash}
@@ -139,17 +140,21 @@ facts-row n r g = λ i. is-below 0 (length r.past) g.some i && ascends-test by_n
     lengths : list_all (λ (entry : FileVersion). length_is_good entry.version) r.past ≡ true
     lengths = found-all by_number entry_delta (λ (entry : FileVersion). length_is_good entry.version) r.past g.ascends (λ d y found. facts-length y.version (g.lengths d y found))
 
-pub rows-facts : (deltas : ℕ) (rows : List FileRow) → files_are_good deltas rows ≡ true → AreRows deltas rows
-rows-facts n rows e =
-    let a = and3 (rows_ascend rows) (list_all (row_is_good n) rows) (none_clash (paths_of (tree_at n rows))) e in
+pub rows-facts : (deltas : ℕ) (rows : List FileRow) (locks : List Lock) → files_are_good deltas rows locks ≡ true → AreRows deltas rows
+rows-facts n rows locks e =
+    let a = and4 (rows_ascend rows) (locks_ascend locks) (list_all (row_is_good n) rows) (none_clash (paths_of (tree_at n rows))) e in
     record {
       ascend = test-ascends by_text row_path rows a.0;
-      good = λ p r found. row-facts n r (all-found by_text row_path (row_is_good n) rows a.1 p r found);
-      clash = clash-facts (paths_of (tree_at n rows)) a.2;
+      good = λ p r found. row-facts n r (all-found by_text row_path (row_is_good n) rows a.2 p r found);
+      clash = clash-facts (paths_of (tree_at n rows)) a.3;
     }
 
-pub facts-rows : (deltas : ℕ) (rows : List FileRow) → AreRows deltas rows → files_are_good deltas rows ≡ true
-facts-rows n rows g = λ i. ascends-test by_text row_path rows g.ascend i
+pub locks-rise : (deltas : ℕ) (rows : List FileRow) (locks : List Lock) → files_are_good deltas rows locks ≡ true → Ascends by_text lock_path locks
+locks-rise n rows locks e = test-ascends by_text lock_path locks (and4 (rows_ascend rows) (locks_ascend locks) (list_all (row_is_good n) rows) (none_clash (paths_of (tree_at n rows))) e).1
+
+pub facts-rows : (deltas : ℕ) (rows : List FileRow) (locks : List Lock) → AreRows deltas rows → Ascends by_text lock_path locks → files_are_good deltas rows locks ≡ true
+facts-rows n rows locks g up = λ i. ascends-test by_text row_path rows g.ascend i
+    && ascends-test by_text lock_path locks up i
     && found-all by_text row_path (row_is_good n) rows g.ascend (λ p r found. facts-row n r (g.good p r found)) i
     && facts-clash (paths_of (tree_at n rows)) g.clash i
 

@@ -17,7 +17,7 @@ use Rattle.ae_types.proofs.Keys.{by_number}
 use Rattle.ae_types.proofs.Placed.{InOrder}
 use Rattle.ae_types.proofs.Searched.{ascends-test}
 use Rattle.ae_types.proofs.Splits.{and2, and3}
-use Rattle.ae_types.proofs.RulesAlone.{deltas-ascend, project-facts, facts-project, rows-facts, facts-rows, changes-facts, facts-changes}
+use Rattle.ae_types.proofs.RulesAlone.{deltas-ascend, project-facts, facts-project, rows-facts, locks-rise, facts-rows, changes-facts, facts-changes}
 use Rattle.ae_types.proofs.RulesTogether.{integrating-facts, facts-integrating, deltas-facts, facts-deltas, versions-facts, facts-versions, entries-facts, facts-entries, locks-facts, facts-locks, candidate-facts, facts-candidate}
 
 -- ---- none is blamed exactly where each test passes
@@ -62,14 +62,14 @@ in-order n o r c = record {
 pub blamed-sound : (o : Observation) → blamed o ≡ None → Sound o
 blamed-sound o e =
     let a = none-blamed (project_is_good o.project o.numbers && ascends nat_cmp number_of_change o.changes) blame.Project _ e in
-    let b = none-blamed (files_are_good (length o.project.deltas) o.files) blame.Files _ a.1 in
+    let b = none-blamed (files_are_good (length o.project.deltas) o.files o.locks) blame.Files _ a.1 in
     let c = no-change (bad_change o.numbers o.changes) _ b.1 in
     let d = none-blamed (project_fits_changes o) blame.Project _ c.1 in
     let f = last-blamed (files_fit_changes o) blame.Files d.1 in
     let p = and2 (project_is_good o.project o.numbers) (ascends nat_cmp number_of_change o.changes) a.0 in
     let q = and3 (integration_fits (length o.project.deltas) o.changes) (deltas_fit o.project.deltas o.numbers o.changes) (versions_fit o.project.next_version (live o.files o.changes)) d.0 in
     let r = and3 (entries_fit o.project.deltas o.files o.changes) (locks_fit o.numbers o.locks o.changes) (list_all (candidate_fits (length o.project.deltas) o.files) o.changes) f in
-    let rows = rows-facts (length o.project.deltas) o.files b.0 in
+    let rows = rows-facts (length o.project.deltas) o.files o.locks b.0 in
     let changes = changes-facts o.numbers o.changes p.1 (none-bad o.numbers o.changes c.0) in
     record {
       project = project-facts o.project o.numbers p.0;
@@ -79,14 +79,14 @@ blamed-sound o e =
       deltas = deltas-facts o.project.deltas o.numbers o.changes q.1;
       versions = versions-facts o.files o.changes (in-order (length o.project.deltas) o rows changes) o.project.next_version q.2;
       entries = entries-facts o.project.deltas o.files o.changes r.0;
-      locks = locks-facts o.numbers o.locks o.changes r.1;
+      locks = locks-facts o.numbers o.locks o.changes (locks-rise (length o.project.deltas) o.files o.locks b.0) r.1;
       candidate = candidate-facts (length o.project.deltas) o.files o.changes r.2;
     }
 
 pub sound-blamed : (o : Observation) → Sound o → blamed o ≡ None
 sound-blamed o s =
-    ap (λ b. option_or (blame_unless b blame.Project) (option_or (blame_unless (files_are_good (length o.project.deltas) o.files) blame.Files) (option_or (bad_change o.numbers o.changes) (option_or (blame_unless (project_fits_changes o) blame.Project) (blame_unless (files_fit_changes o) blame.Files))))) first
-    ∙ ap (λ b. option_or (blame_unless b blame.Files) (option_or (bad_change o.numbers o.changes) (option_or (blame_unless (project_fits_changes o) blame.Project) (blame_unless (files_fit_changes o) blame.Files)))) (facts-rows (length o.project.deltas) o.files s.rows)
+    ap (λ b. option_or (blame_unless b blame.Project) (option_or (blame_unless (files_are_good (length o.project.deltas) o.files o.locks) blame.Files) (option_or (bad_change o.numbers o.changes) (option_or (blame_unless (project_fits_changes o) blame.Project) (blame_unless (files_fit_changes o) blame.Files))))) first
+    ∙ ap (λ b. option_or (blame_unless b blame.Files) (option_or (bad_change o.numbers o.changes) (option_or (blame_unless (project_fits_changes o) blame.Project) (blame_unless (files_fit_changes o) blame.Files)))) (facts-rows (length o.project.deltas) o.files o.locks s.rows s.locks.ascend)
     ∙ ap (λ v. option_or v (option_or (blame_unless (project_fits_changes o) blame.Project) (blame_unless (files_fit_changes o) blame.Files))) (bad-none o.numbers o.changes (facts-changes o.numbers o.changes s.changes))
     ∙ ap (λ b. option_or (blame_unless b blame.Project) (blame_unless (files_fit_changes o) blame.Files)) fourth
     ∙ ap (λ b. blame_unless b blame.Files) fifth

@@ -10,10 +10,9 @@ use Rattle.ae_types.specs.declared.file_table.FileVersion.{FileVersion}
 use Rattle.ae_types.specs.declared.file_table.Lock.{Lock}
 use Rattle.ae_types.specs.declared.project.DeltaRow.{DeltaRow}
 use Rattle.ae_types.specs.declared.version.VersionRef.{VersionRef}
-use Rattle.ae_types.specs.Ordered.{ascends}
 use Rattle.ae_types.specs.Phases.{is_integrating, is_completed, holds_locks, is_remove}
 use Rattle.ae_types.specs.Found.{number_of_change, file_path, row_path, entry_delta, lock_path, number_of_delta, change_in, file_in, row_in, entry_in, lock_in, delta_in, delta_of, has_number, has_file, there_and, if_there}
-use Rattle.ae_types.specs.Trees.{text_cmp, tree_at, overlaid, paths_of}
+use Rattle.ae_types.specs.Trees.{tree_at, overlaid, paths_of}
 use Rattle.ae_types.specs.Clashes.{none_clash, NoneClash}
 use Rattle.ae_types.specs.Versions.{Place, version_at, live, has_units, end_of, meet, same_number, no_two}
 use Rattle.ae_types.specs.Rules.{integrating, integration_fits, delta_has_change, naming, change_has_delta, deltas_fit, is_in_region, versions_fit, file_is_entered, delta_is_entered, entry_has_file, entries_fit, lock_has_file, files_have_locks, locks_fit, candidate_fits, same_bool}
@@ -23,8 +22,8 @@ use Rattle.ae_types.proofs.Clashing.{clash-facts, facts-clash}
 use Rattle.ae_types.proofs.Members.{In, all-in, in-all, in-map, map-in, no_two-apart, apart-no_two}
 use Rattle.ae_types.proofs.Ordered.{Ascends, some-is, none-some, found-key}
 use Rattle.ae_types.proofs.Placed.{stand_place, stand_version, stands, stands-live, InOrder, stands-found, found-stands, stands-distinct}
-use Rattle.ae_types.proofs.Searched.{test-ascends, ascends-test, found-in, in-found, all-found, found-all, few-one, one-few, some-counted, counted-some}
-use Rattle.ae_types.proofs.Splits.{never, and2, and3, and4, where-so, so-where, same-is, is-same, most, is-most, below, is-below, there-found, found-there, if-found, found-if, some-found, found-some, to-if, from-if, to-is, from-is}
+use Rattle.ae_types.proofs.Searched.{found-in, in-found, all-found, found-all, few-one, one-few, some-counted, counted-some}
+use Rattle.ae_types.proofs.Splits.{never, and2, and4, where-so, so-where, same-is, is-same, most, is-most, below, is-below, there-found, found-there, if-found, found-if, some-found, found-some, to-if, from-if, to-is, from-is}
 
 -- ---- integration
 
@@ -259,31 +258,30 @@ of_change change lock = nat_eq lock.change change.number
 abbrev has_lock : List Lock → Change → ChangeFile → Bool
 has_lock locks change file = there_and (lock_in locks file.path) (of_change change)
 
-pub locks-facts : (numbers : List ℕ) (locks : List Lock) (changes : List Change) → locks_fit numbers locks changes ≡ true → AreLocks numbers locks changes
-locks-facts ns ls xs e = record {
-  ascend = test-ascends by_text lock_path ls a.0;
+pub locks-facts : (numbers : List ℕ) (locks : List Lock) (changes : List Change) → Ascends by_text lock_path locks → locks_fit numbers locks changes ≡ true → AreLocks numbers locks changes
+locks-facts ns ls xs up e = record {
+  ascend = up;
   numbered = λ p l found. (lock p l found).0;
   held = λ p l found. to-if (Holds p) (change_in xs l.change) (λ x is.
       let b = and2 (holds_locks x.phase) (has_file x l.path) (if-found (change_in xs l.change) (holds l.path) (lock p l found).1 x is) in
       (b.0, ap (has_file x) (sym (found-key by_text lock_path p ls l found)) ∙ b.1));
   taken = λ n x found holding p has.
       let f = some-found (file_in x.files p) has in
-      let t = all-found by_text file_path (has_lock ls x) x.files (where-so (holds_locks x.phase) (list_all (has_lock ls x) x.files) (all-found by_number number_of_change (files_have_locks ls) xs a.2 n x found) holding) p f.0 f.1 in
+      let t = all-found by_text file_path (has_lock ls x) x.files (where-so (holds_locks x.phase) (list_all (has_lock ls x) x.files) (all-found by_number number_of_change (files_have_locks ls) xs a.1 n x found) holding) p f.0 f.1 in
       let l = there-found (lock_in ls f.0.path) (of_change x) t in
       ap (λ q. option_map lock_change (lock_in ls q)) (sym (found-key by_text file_path p x.files f.0 f.1)) ∙ ap (option_map lock_change) l.1
       ∙ ap (λ (m : ℕ). Some m) (eqb-true l.0.change x.number l.2 ∙ found-key by_number number_of_change n xs x found);
 }
   where
-    a : (ascends text_cmp lock_path ls ≡ true) × (list_all (lock_has_file ns xs) ls ≡ true) × (list_all (files_have_locks ls) xs ≡ true)
-    a = and3 (ascends text_cmp lock_path ls) (list_all (lock_has_file ns xs) ls) (list_all (files_have_locks ls) xs) e
+    a : (list_all (lock_has_file ns xs) ls ≡ true) × (list_all (files_have_locks ls) xs ≡ true)
+    a = and2 (list_all (lock_has_file ns xs) ls) (list_all (files_have_locks ls) xs) e
 
     lock : (p : List ℕ) (l : Lock) → lock_in ls p ≡ Some l → (has_number ns l.change ≡ true) × (if_there (change_in xs l.change) (holds l.path) ≡ true)
-    lock p l found = and2 (has_number ns l.change) (if_there (change_in xs l.change) (holds l.path)) (all-found by_text lock_path (lock_has_file ns xs) ls a.1 p l found)
+    lock p l found = and2 (has_number ns l.change) (if_there (change_in xs l.change) (holds l.path)) (all-found by_text lock_path (lock_has_file ns xs) ls a.0 p l found)
 
 pub facts-locks : (numbers : List ℕ) (locks : List Lock) (changes : List Change) → Ascends by_number number_of_change changes
     → ((n : ℕ) (x : Change) → change_in changes n ≡ Some x → Ascends by_text file_path x.files) → AreLocks numbers locks changes → locks_fit numbers locks changes ≡ true
-facts-locks ns ls xs up files g = λ i. ascends-test by_text lock_path ls g.ascend i
-    && found-all by_text lock_path (lock_has_file ns xs) ls g.ascend (λ p l found j. g.numbered p l found j
+facts-locks ns ls xs up files g = λ i. found-all by_text lock_path (lock_has_file ns xs) ls g.ascend (λ p l found j. g.numbered p l found j
     && found-if (change_in xs l.change) (holds l.path) (λ x is.
     let b = from-if (Holds p) (change_in xs l.change) (g.held p l found) x is in
     λ k. b.0 k && (ap (has_file x) (found-key by_text lock_path p ls l found) ∙ b.1) k) j) i

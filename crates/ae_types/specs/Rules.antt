@@ -100,9 +100,14 @@ row_is_good deltas row =
     nat_lt 0 (length row.past) && past_ascends row.past
     && list_all (delta_is_there deltas) row.past && list_all (λ (entry : FileVersion). length_is_good entry.version) row.past
 
--- paths ascend, each row is good, and no two paths that the last entry doesn't remove clash
-abbrev pub files_are_good : ℕ → List FileRow → Bool
-files_are_good deltas rows = rows_ascend rows && list_all (row_is_good deltas) rows && none_clash (paths_of (tree_at deltas rows))
+-- no path has two locks, and they stand in the order of their paths
+abbrev pub locks_ascend : List Lock → Bool
+locks_ascend locks = ascends text_cmp lock_path locks
+
+-- paths ascend, those of the locks too, each row is good, and no two paths that the last entry doesn't remove clash
+abbrev pub files_are_good : ℕ → List FileRow → List Lock → Bool
+files_are_good deltas rows locks =
+    rows_ascend rows && locks_ascend locks && list_all (row_is_good deltas) rows && none_clash (paths_of (tree_at deltas rows))
 
 -- ---- each change by itself
 
@@ -219,9 +224,9 @@ lock_has_file numbers changes lock = has_number numbers lock.change && if_there 
 abbrev pub files_have_locks : List Lock → Change → Bool
 files_have_locks locks change = not (holds_locks change.phase) || list_all (λ (file : ChangeFile). there_and (lock_in locks file.path) (λ lock. nat_eq lock.change change.number)) change.files
 
--- the locks are exactly the paths of the changes that hold their files, each once, with that change
+-- the locks are exactly the paths of the changes that hold their files, each with that change
 abbrev pub locks_fit : List ℕ → List Lock → List Change → Bool
-locks_fit numbers locks changes = ascends text_cmp lock_path locks && list_all (lock_has_file numbers changes) locks && list_all (files_have_locks locks) changes
+locks_fit numbers locks changes = list_all (lock_has_file numbers changes) locks && list_all (files_have_locks locks) changes
 
 -- no two paths of the candidate clash, where the change is being integrated
 abbrev pub candidate_fits : ℕ → List FileRow → Change → Bool
@@ -247,7 +252,7 @@ bad_change numbers changes = option_map (λ (change : Change). blame.Change chan
 abbrev pub blamed : Observation → Option Blame
 blamed o =
     option_or (blame_unless (project_is_good o.project o.numbers && ascends nat_cmp number_of_change o.changes) blame.Project)
-    (option_or (blame_unless (files_are_good (length o.project.deltas) o.files) blame.Files)
+    (option_or (blame_unless (files_are_good (length o.project.deltas) o.files o.locks) blame.Files)
     (option_or (bad_change o.numbers o.changes)
     (option_or (blame_unless (project_fits_changes o) blame.Project)
     (blame_unless (files_fit_changes o) blame.Files))))
