@@ -2,7 +2,7 @@
 use Rattle.std.specs.Prelude.{◌≡◌, ℕ, Bool, true, false, ◌&&◌, not, List, [], ◌∷◌, ◌++◌, map, Option, Some, None, is_some}
 use Rattle.std.specs.List.{find}
 use Rattle.std.specs.Option.{is_none, option_map, option_and_then}
-use Rattle.std.specs.Ordering.{is_lt, nat_cmp, ordering_then}
+use Rattle.std.specs.Ordering.{is_lt, ordering_then}
 use Rattle.std.specs.Cmp.{nat_cmp_is}
 use Rattle.std.specs.declared.cmp.Ordering.{Ordering}
 use Rattle.std.specs.declared.cmp.Ordering.TheVariants.{Less, Equal, Greater}
@@ -34,7 +34,7 @@ use Rattle.ae_machine.proofs.PathsUp.{paths-with-up}
 -- ---- at most
 
 -- the first text is at most the second
-abbrev AtMost : List ℕ → List ℕ → Type 0
+abbrev pub AtMost : List ℕ → List ℕ → Type 0
 AtMost c d = text_cmp d c ≡ Less → ⊥
 
 most-trans : (c e d : List ℕ) → AtMost c e → AtMost e d → AtMost c d
@@ -167,7 +167,7 @@ above-empty : (b : ℕ) (xs : List (List ℕ)) → Above by_text itself [] (map 
 above-empty b [] = tt
 above-empty b (x ∷ xs) = (refl, above-empty b xs)
 
-folders-up : (path : List ℕ) → Ascends by_text itself (folders_of path)
+pub folders-up : (path : List ℕ) → Ascends by_text itself (folders_of path)
 folders-up [] = tt
 folders-up (b ∷ bs) = go (is_slash b) (put-all b (folders_of bs) (folders-up bs))
   where
@@ -177,17 +177,17 @@ folders-up (b ∷ bs) = go (is_slash b) (put-all b (folders_of bs) (folders-up b
 
 -- ---- the folder that is found
 
-record IsFirst (t : List ℕ → Bool) (xs : List (List ℕ)) (c : List ℕ) : Type 0 where
-  there : In xs c
-  passes : t c ≡ true
-  least : (f : List ℕ) → In xs f → t f ≡ true → AtMost c f
+pub record IsFirst (t : List ℕ → Bool) (xs : List (List ℕ)) (c : List ℕ) : Type 0 where
+  pub there : In xs c
+  pub passes : t c ≡ true
+  pub least : (f : List ℕ) → In xs f → t f ≡ true → AtMost c f
 
 above-in : (k : List ℕ) (xs : List (List ℕ)) (x : List ℕ) → Above by_text itself k xs → In xs x → text_cmp k x ≡ Less
 above-in k [] x a h = absurd h
 above-in k (y ∷ xs) x a (inl is) = subst (λ (z : List ℕ). text_cmp k z ≡ Less) is a.0
 above-in k (y ∷ xs) x a (inr h) = above-in k xs x a.1 h
 
-first-is : (t : List ℕ → Bool) (xs : List (List ℕ)) (c : List ℕ) → Ascends by_text itself xs → find t xs ≡ Some c → IsFirst t xs c
+pub first-is : (t : List ℕ → Bool) (xs : List (List ℕ)) (c : List ℕ) → Ascends by_text itself xs → find t xs ≡ Some c → IsFirst t xs c
 first-is t [] c up e = none-some c e
 first-is t (x ∷ xs) c up e = go (t x) refl e (first-is t xs c up.1)
   where
@@ -208,7 +208,7 @@ first-is t (x ∷ xs) c up e = go (t x) refl e (first-is t xs c up.1)
         least known f (inl same) p = differ (sym p ∙ ap t (sym same) ∙ is)
         least known f (inr m) p = known.least f m p
 
-first-none : (t : List ℕ → Bool) (xs : List (List ℕ)) → find t xs ≡ None → (f : List ℕ) → In xs f → t f ≡ true → ⊥
+pub first-none : (t : List ℕ → Bool) (xs : List (List ℕ)) → find t xs ≡ None → (f : List ℕ) → In xs f → t f ≡ true → ⊥
 first-none t [] e f m p = absurd m
 first-none t (x ∷ xs) e f m p = go (t x) refl e m (first-none t xs)
   where
@@ -234,20 +234,20 @@ module _ (o : Observation) (files : List ChangeFile) (s : Sound o) (up : Ascends
   abbrev paths : List (List ℕ)
   paths = paths_with o files
 
-  abbrev row_counts : FileRow → Bool
+  abbrev pub row_counts : FileRow → Bool
   row_counts row = is_some (tree_row (last_delta o) row) && is_none (file_in files row.path)
 
   there : (q : List ℕ) → has_path paths q ≡ there_by (file_in files q) (stands (last_delta o) o.files q)
   there q = paths-there o files q s up
 
   -- each path is that of a row of the baseline outside the change, or of a file that the change keeps
-  abbrev FromRow : List ℕ → Type 0
+  abbrev pub FromRow : List ℕ → Type 0
   FromRow q = (row : FileRow) × In o.files row × (row.path ≡ q) × (row_counts row ≡ true)
 
-  abbrev FromFile : List ℕ → Type 0
+  abbrev pub FromFile : List ℕ → Type 0
   FromFile q = (file : ChangeFile) × In files file × (file.path ≡ q) × (is_remove file.action ≡ false)
 
-  source : (q : List ℕ) → In paths q → FromRow q ⊎ FromFile q
+  pub source : (q : List ℕ) → In paths q → FromRow q ⊎ FromFile q
   source q m = go (file_in files q) refl (sym (there q) ∙ in-has paths q m)
     where
       row_of : (v : Option FileRow) → row_in o.files q ≡ v → is_some (option_and_then (tree_row (last_delta o)) v) ≡ true → file_in files q ≡ None → FromRow q
@@ -260,7 +260,7 @@ module _ (o : Observation) (files : List ChangeFile) (s : Sound o) (up : Ascends
       go (Some file) is e = inr (file, found-in by_text file_path files q file is, found-key by_text file_path q files file is, not-so (is_remove file.action) e)
       go None is e = inl (row_of (row_in o.files q) refl e is)
 
-  row-path : (row : FileRow) → In o.files row → row_counts row ≡ true → In paths row.path
+  pub row-path : (row : FileRow) → In o.files row → row_counts row ≡ true → In paths row.path
   row-path row m e =
       let both = and-true (is_some (tree_row (last_delta o) row)) (is_none (file_in files row.path)) e in
       has-in paths row.path (there row.path ∙ go (file_in files row.path) both.1 ∙ ap (λ v. is_some (option_and_then (tree_row (last_delta o)) v)) (in-found by_text row_path o.files s.rows.ascend row m) ∙ both.0)
@@ -269,7 +269,7 @@ module _ (o : Observation) (files : List ChangeFile) (s : Sound o) (up : Ascends
       go (Some file) e = cc
       go None e = refl
 
-  file-path : (file : ChangeFile) → In files file → is_remove file.action ≡ false → In paths file.path
+  pub file-path : (file : ChangeFile) → In files file → is_remove file.action ≡ false → In paths file.path
   file-path file m e = has-in paths file.path (there file.path ∙ ap (λ v. there_by v (stands (last_delta o) o.files file.path)) (in-found by_text file_path files up file m) ∙ ap not e)
 
   -- ---- what a row and a file give

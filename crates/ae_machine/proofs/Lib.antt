@@ -36,4 +36,6 @@ mod PathSplits
 mod LeastClash
 mod PathsThere
 mod PathsUp
+mod InFolder
+mod PathClash
 mod ClashingPaths

@@ -35,9 +35,13 @@ abbrev pub least_from : {A : Type 0} → (A → Option (List ℕ)) → Option (L
 least_from give before [] = before
 least_from give before (x ∷ xs) = least_from give (lesser before (give x)) xs
 
+-- the row stands in the baseline, and isn't in the change
+abbrev pub row_stays : Observation → List ChangeFile → FileRow → Bool
+row_stays o files row = is_some (tree_row (last_delta o) row) && is_none (file_in files row.path)
+
 -- the folder on the way to the path of a row, where the row stands in the baseline and isn't in the change
 abbrev pub row_folder : Observation → List ChangeFile → FileRow → Option (List ℕ)
-row_folder o files row = if is_some (tree_row (last_delta o) row) && is_none (file_in files row.path) then folder_in (paths_with o files) row.path else None
+row_folder o files row = if row_stays o files row then folder_in (paths_with o files) row.path else None
 
 -- the folder on the way to the path of a file, where the change doesn't remove it
 abbrev pub file_folder : Observation → List ChangeFile → ChangeFile → Option (List ℕ)

@@ -21,3 +21,4 @@ pub mod Called
 pub mod Real
 pub mod Filing
 pub mod LeastClash
+pub mod PathClash

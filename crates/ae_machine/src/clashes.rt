@@ -7,7 +7,7 @@ ghost use Rattle.ae_types.specs.Ordered.{Ascends};
 ghost use Rattle.ae_types.specs.Phases.{is_remove};
 ghost use Rattle.ae_types.specs.Trees.{last_delta, text_cmp, tree_row};
 ghost use Rattle.ae_machine.specs.Filing.{are_clear};
-ghost use Rattle.ae_machine.specs.LeastClash.{file_folder, folder_in, least_folder, lesser, path_in, row_folder, rows_folder, standing_path};
+ghost use Rattle.ae_machine.specs.LeastClash.{file_folder, folder_in, least_folder, lesser, path_in, row_folder, row_stays, rows_folder, standing_path};
 ghost use Rattle.ae_machine.specs.Paths.{paths_with};
 
 use ae_base::{Action, Path, Refusal};
@@ -25,7 +25,7 @@ fn is_in_baseline(state: &State, row: &FileRow) -> bool
     }
 }
 
-fn is_removed(file: &ChangeFile) -> bool
+pub(crate) fn is_removed(file: &ChangeFile) -> bool
     ensures { result ≡ is_remove file.now.action }
 {
     file.action == Action::Remove
@@ -45,7 +45,11 @@ fn standing_path<'a>(state: &'a State, path: &[u8]) -> Option<&'a Path>
 }
 
 // The path as the project would have it.
-fn path_there<'a>(state: &'a State, files: &'a [ChangeFile], path: &[u8]) -> Option<&'a Path>
+pub(crate) fn path_there<'a>(
+    state: &'a State,
+    files: &'a [ChangeFile],
+    path: &[u8],
+) -> Option<&'a Path>
     requires { Ascends text_cmp file_path files.now }
     ensures { option_copied result ≡ path_in (paths_with state.now files.now) path.now }
 {
@@ -63,7 +67,11 @@ fn path_there<'a>(state: &'a State, files: &'a [ChangeFile], path: &[u8]) -> Opt
 }
 
 // The shortest folder on the way to the path that is a path of the project.
-fn folder_there<'a>(state: &'a State, files: &'a [ChangeFile], path: &[u8]) -> Option<&'a Path>
+pub(crate) fn folder_there<'a>(
+    state: &'a State,
+    files: &'a [ChangeFile],
+    path: &[u8],
+) -> Option<&'a Path>
     requires { Ascends text_cmp file_path files.now }
     ensures { option_copied result ≡ folder_in (paths_with state.now files.now) path.now }
 {
@@ -77,11 +85,19 @@ fn folder_there<'a>(state: &'a State, files: &'a [ChangeFile], path: &[u8]) -> O
     None
 }
 
+// Whether the row is one of the baseline outside the change.
+pub(crate) fn row_stays(state: &State, files: &[ChangeFile], row: &FileRow) -> bool
+    requires { Ascends text_cmp file_path files.now }
+    ensures { result ≡ row_stays state.now files.now row.now }
+{
+    is_in_baseline(state, row) && file_in(files, row.path.bytes()).is_none()
+}
+
 fn row_folder<'a>(state: &'a State, files: &'a [ChangeFile], row: &FileRow) -> Option<&'a Path>
     requires { Ascends text_cmp file_path files.now }
     ensures { option_copied result ≡ row_folder state.now files.now row.now }
 {
-    if is_in_baseline(state, row) && file_in(files, row.path.bytes()).is_none() {
+    if row_stays(state, files, row) {
         folder_there(state, files, row.path.bytes())
     } else {
         None

@@ -8,6 +8,7 @@ mod directories;
 mod events;
 mod laws;
 mod numbers;
+mod path_clash;
 mod paths;
 mod permission;
 mod refusing;

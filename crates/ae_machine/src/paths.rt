@@ -12,13 +12,14 @@ ghost use Rattle.ae_words.specs.Meaning.{is_config};
 ghost use Rattle.ae_machine.specs.declared.verdict.Verdict.TheVariants.{Accept};
 ghost use Rattle.ae_machine.specs.Call.{call_of, unless};
 ghost use Rattle.ae_machine.specs.Filing.{is_of_files, usage_of_row, asked_before, are_clear, are_few, asked_behind};
+ghost use Rattle.ae_machine.specs.PathClash.{IsClearBut, asks_for_clashes};
 ghost use Rattle.ae_machine.specs.Paths.{asked_of_path, edit_named, file_made, files_then, files_with, first_path_refused, is_in, path_event, path_refused, takes_away, usage_in_baseline, usage_of_new, in_trees, in_baseline, not_in_baseline, not_in_change, not_in_change_or_overwritten};
 ghost use Rattle.ae_machine.specs.Sight.{row_at};
 ghost use Rattle.ae_machine.specs.Verdict.{event_of};
 
 use crate::Verdict;
-use crate::clashes::clash_refused;
 use crate::events::event;
+use crate::path_clash::clash_refused_behind;
 use ae_base::{Action, ChangeNo, Delta, Path, PathList, Refusal, Usage, User, Which};
 use ae_files::{edit, entry_at};
 use ae_log::{EventKind, EventList, put_file, take_file};
@@ -297,44 +298,70 @@ fn refused_behind(
     state: &State,
     function: Function,
     files: &[ChangeFile],
+    path: &Path,
+    were_clear: bool,
 ) -> Result<Option<Refusal>, AllocError>
     requires of_files { is_of_files function ≡ true }
     requires ascend { Ascends text_cmp file_path files.now }
+    requires clear { were_clear ≡ true → IsClearBut path.now state.now files.now }
     ensures { IfOk result (λ refusal. refusal ≡ asked_behind function state.now files.now) }
 {
     match function {
         Function::CopyFile | Function::NewFile | Function::NewTest => {
-            match clash_refused(alloc, state, files)? {
+            match clash_refused_behind(alloc, state, files, path, were_clear)? {
                 Some(refusal) => Ok(Some(refusal)),
                 None => Ok(room_refused(files)),
             }
         }
         Function::RemoveFile => Ok(room_refused(files)),
-        Function::RemoveFileUndo => clash_refused(alloc, state, files),
+        Function::RemoveFileUndo => clash_refused_behind(alloc, state, files, path, were_clear),
         _ => Ok(None),
     }
 }
 
-// Does the function on a path, or says why it is refused.
+// Whether the function asks for clashes behind each path.
+fn asks_for_clashes(function: Function) -> bool
+    ensures { result ≡ asks_for_clashes function }
+{
+    match function {
+        Function::CopyFile | Function::NewFile | Function::NewTest | Function::RemoveFileUndo =>
+            true,
+        _ => false,
+    }
+}
+
+// Does the function on a path, or says why it is refused. Where the files are known to be clear, only the path is tested for
+// clashes.
 fn step(
     alloc: Global,
     state: &State,
     command: &Command,
     files: &mut Vec<ChangeFile>,
     path: &Path,
+    known_clear: bool,
 ) -> Result<Option<Refusal>, AllocError>
     requires of_files { is_of_files command.now.function ≡ true }
     requires ascend { Ascends text_cmp file_path files.old.items }
+    requires clear { known_clear ≡ true → are_clear state.now files.old.items ≡ None }
     ensures refusal { (who : List ℕ) → IfOk result (λ refusal. refusal ≡ path_refused (asked_of_path command.now.function) (call_of state.now command.now who) files.old.items path.now) }
     ensures files { (who : List ℕ) → IfOk result (λ refusal. refusal ≡ None → files.new.items ≡ files_then (call_of state.now command.now who) path.now files.old.items) }
     ensures ascend { IfOk result (λ refusal. Ascends text_cmp file_path files.new.items) }
+    ensures clear { IfOk result (λ refusal. refusal ≡ None → asks_for_clashes command.now.function ≡ true → are_clear state.now files.new.items ≡ None) }
 {
+    let _project = state.project();
     if let Some(refusal) = refused_before(alloc, state, command, files.as_slice(), path)? {
         return Ok(Some(refusal));
     }
     let made = file_made(alloc, state, command, path)?;
     set_file(files, path, made)?;
-    refused_behind(alloc, state, command.function, files.as_slice())
+    refused_behind(
+        alloc,
+        state,
+        command.function,
+        files.as_slice(),
+        path,
+        known_clear,
+    )
 }
 
 /// Why the paths of a command are refused, each as if those before it were done.
@@ -349,10 +376,12 @@ pub(crate) fn paths_refused(
     ensures { (who : List ℕ) → IfOk result (λ refusal. refusal ≡ first_path_refused (call_of state.now command.now who) command.now.paths change.now.files) }
 {
     let mut files = change.files.copy(alloc)?.into_vec();
+    let mut known_clear = false;
     for path in command.paths.as_slice() {
-        if let Some(refusal) = step(alloc, state, command, &mut files, path)? {
+        if let Some(refusal) = step(alloc, state, command, &mut files, path, known_clear)? {
             return Ok(Some(refusal));
         }
+        known_clear = asks_for_clashes(command.function);
     }
     Ok(None)
 }
