@@ -11,6 +11,7 @@ ghost use Rattle.ae_words.specs.Formed.{IsFormed};
 ghost use Rattle.ae_machine.specs.declared.verdict.Verdict.TheVariants.{Refuse};
 ghost use Rattle.ae_machine.specs.Called.{called};
 ghost use Rattle.ae_machine.specs.There.{is_there_yet};
+ghost use Rattle.ae_machine.specs.Verdict.{refused_before};
 ghost use Rattle.ae_exec.specs.Carried.{pieces_of};
 ghost use Rattle.ae_exec.specs.Directories.{LeavesDirs};
 ghost use Rattle.ae_exec.specs.Endings.{EndsAs, IsDamagedFor, outcome_of, outcome_of_stop};
@@ -26,7 +27,7 @@ use crate::sight::look;
 use crate::stop::Stop;
 use ae_base::{Text, User};
 use ae_log::EventList;
-use ae_machine::{Verdict, View, before, decide};
+use ae_machine::{Verdict, View, before, decide_rest};
 use ae_outside::{Disk, Site};
 use ae_store::batch;
 use ae_types::State;
@@ -80,12 +81,13 @@ fn answer_on(
     requires formed { IsFormed command.now }
     requires there { is_there_yet command.now.function ≡ true }
     requires moment { now ≤ 4102444799 }
+    requires passed { refused_before (Some state.now) command.now who.now ≡ None }
     ensures is { IfOk result (λ answer. IsDecidedSo (Some state.now) command.now who.now now view.now answer) }
     ensures follow { IfOk result (λ answer. IfAccepted answer (MayFollow (Some state.now))) }
     ensures made { IfOk result (λ answer. IfAccepted answer AreMade) }
 {
     let _project = state.project();
-    decide(alloc, Some(state), command, who, now, view)
+    decide_rest(alloc, Some(state), command, who, now, view)
 }
 
 // The same, where none stands.
@@ -99,11 +101,12 @@ fn first_answer(
     requires formed { IsFormed command.now }
     requires there { is_there_yet command.now.function ≡ true }
     requires moment { now ≤ 4102444799 }
+    requires passed { refused_before None command.now who.now ≡ None }
     ensures is { IfOk result (λ answer. IsDecidedSo None command.now who.now now view.now answer) }
     ensures follow { IfOk result (λ answer. IfAccepted answer (MayFollow None)) }
     ensures made { IfOk result (λ answer. IfAccepted answer AreMade) }
 {
-    decide(alloc, None, command, who, now, view)
+    decide_rest(alloc, None, command, who, now, view)
 }
 
 // The answer to the command with this view.
@@ -118,6 +121,7 @@ fn answer(
     requires formed { IsFormed command.now }
     requires there { is_there_yet command.now.function ≡ true }
     requires moment { now ≤ 4102444799 }
+    requires passed { refused_before (option_copied old) command.now who.now ≡ None }
     ensures is { IfOk result (λ answer. IsDecidedSo (option_copied old.entry) command.now who.now now view.now answer) }
     ensures follow { IfOk result (λ answer. IfAccepted answer (MayFollow (option_copied old.entry))) }
     ensures made { IfOk result (λ answer. IfAccepted answer AreMade) }

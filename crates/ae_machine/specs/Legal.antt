@@ -16,6 +16,7 @@ use Rattle.ae_machine.specs.declared.view.View.{View}
 use Rattle.ae_machine.specs.Call.{given_of}
 use Rattle.ae_machine.specs.Fits.{Fits, IsWhole, FitsNothing}
 use Rattle.ae_machine.specs.Space.{placing}
+use Rattle.ae_machine.specs.Typed.{IsView}
 use Rattle.ae_machine.specs.Verdict.{verdict}
 
 -- one command, with who gives it, when, and what it sees
@@ -38,12 +39,14 @@ ViewFits (Some o) bytes occasion =
     Fits (given_of placing o bytes occasion.command occasion.who occasion.when occasion.view)
     × IsWhole (given_of placing o bytes occasion.command occasion.who occasion.when occasion.view)
 
--- it may come after the log: words can say the command, the user is one, the moment is before 2100, and the view fits
+-- it may come after the log: words can say the command, the user is one, the moment is before 2100, what it sees is of its
+-- types, and the view fits
 pub record MayCome (log : Log) (occasion : Occasion) : Type 0 where
   pub formed : IsFormed occasion.command
   pub one : is_one_command occasion.command.function ≡ true
   pub user : IsUser occasion.who
   pub moment : occasion.when ≤ 4102444799
+  pub seen : IsView occasion.view
   pub view : ViewFits (observation log) (version_bytes log) occasion
 
 abbrev pub verdict_after : Log → Occasion → Verdict

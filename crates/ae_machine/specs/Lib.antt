@@ -21,4 +21,5 @@ pub mod Called
 pub mod Real
 pub mod Filing
 pub mod LeastClash
+pub mod Typed
 pub mod PathClash

@@ -16,7 +16,7 @@ mod there;
 mod verdict;
 mod view;
 
-pub use deciding::decide;
+pub use deciding::{decide, decide_rest};
 pub use directories::{DirChange, DirChangeList, FileList};
 pub use laws::{
     accepted_events_apply, accepted_events_follow, commands_are_reversed, legal_logs_are_provided,

@@ -63,13 +63,23 @@ pub fn refused() -> io::Error {
     io::Error::from(ErrorKind::Unsupported)
 }
 
-/// The length of a regular file, and `None` where nothing is there. Anything else is an error.
-pub fn size_of_file(files: &impl Files, place: &str) -> io::Result<Option<u64>> {
-    match look(files, place)? {
+// The length of a regular file, and `None` where nothing was found. Anything else is an error.
+fn size_found(found: Found) -> io::Result<Option<u64>> {
+    match found {
         Found::File(size) => Ok(Some(size)),
         Found::Absent => Ok(None),
         _ => Err(refused()),
     }
+}
+
+/// The length of a regular file, and `None` where nothing is there. Anything else is an error.
+pub fn size_of_file(files: &impl Files, place: &str) -> io::Result<Option<u64>> {
+    size_found(look(files, place)?)
+}
+
+/// The same of a place whose folders were looked at just before.
+pub fn size_in_folder(files: &impl Files, place: &str) -> io::Result<Option<u64>> {
+    size_found(entry_at(files, place)?)
 }
 
 /// Whether a folder holds nothing.
@@ -105,11 +115,15 @@ pub fn make_folders(files: &impl Files, place: &str) -> io::Result<()> {
     make_folder(files, place)
 }
 
-/// Makes the folders on the way to a file.
+/// Makes the folders on the way to a file, where they aren't there. It fails where something else stands in the place of one.
 pub fn make_folders_to(files: &impl Files, place: &str) -> io::Result<()> {
-    match place.rsplit_once('/') {
-        Some((folder, _)) => make_folders(files, folder),
-        None => Ok(()),
+    let Some((folder, _)) = place.rsplit_once('/') else {
+        return Ok(());
+    };
+    match look(files, folder)? {
+        Found::Folder => Ok(()),
+        Found::Absent => make_folders(files, folder),
+        _ => Err(refused()),
     }
 }
 

@@ -4,7 +4,8 @@ ghost use Rattle.ae_outside.specs.Causes.{Counted, HasCause};
 ghost use Rattle.ae_outside.specs.Untold.{untold_site};
 
 use crate::places::{
-    Found, look, make_folders, make_folders_to, refused, remove_empty_folders, size_of_file,
+    Found, look, make_folders, make_folders_to, refused, remove_empty_folders, size_in_folder,
+    size_of_file,
 };
 use ae_base::{Path, Text};
 use ae_outside::{Content, Dir, Exit, Failed, Site, SiteError};
@@ -117,7 +118,7 @@ impl<'a, R: Files<File = File> + Alloc + Processes> RealSite<'a, R> {
         let folder = folder_of(self.alloc, dir)?;
         let place = place_in(self.alloc, folder.as_str(), path)?;
         make_folders_to(self.rt, place.as_str())?;
-        match size_of_file(self.rt, place.as_str())? {
+        match size_in_folder(self.rt, place.as_str())? {
             Some(size) if size == bytes.len() as u64 => self.rewrite(place.as_str(), bytes),
             _ => fs::write(self.rt, place, bytes),
         }
