@@ -1,6 +1,8 @@
+mod Adjacent
 pub mod Places
 pub mod RowLists
 pub mod Texts
 pub mod Fine
 pub mod ReadAs
 pub mod Options
+mod FieldsFit

@@ -1,5 +1,6 @@
--- Which values their types can hold.
+-- Which values stand in a record: those that their types can hold, whose lists are in their order.
 use Rattle.std.specs.Prelude.{◌≡◌, ◌≤◌, ◌<◌, ◌^◌, ℕ, List, IfSome, All, length}
+use Rattle.std.specs.Ordering.{nat_cmp}
 use Rattle.hex.specs.Hex.{IsBytes}
 use Rattle.ae_base.specs.Names.{IsPath, IsUser, IsProjectName}
 use Rattle.ae_base.specs.Users.{AllDiffer}
@@ -13,6 +14,10 @@ use Rattle.ae_types.specs.declared.change.ChangeFile.{ChangeFile}
 use Rattle.ae_types.specs.declared.change.Evidence.{Evidence}
 use Rattle.ae_types.specs.declared.change.HistoryRow.{HistoryRow}
 use Rattle.ae_types.specs.declared.change.Change.{Change}
+use Rattle.ae_types.specs.Ordered.{Ascends, itself}
+use Rattle.ae_types.specs.Found.{file_path, row_path, lock_path}
+use Rattle.ae_types.specs.Trees.{text_cmp}
+use Rattle.ae_types.specs.Runs.{run_cmp, run_of}
 
 -- a change's number
 abbrev pub IsChangeNo : ℕ → Type 0
@@ -62,29 +67,56 @@ FitsEvidence run = FitsRun run × FitsOutcome run
 abbrev pub FitsHistory : HistoryRow → Type 0
 FitsHistory row = IsUser row.who × (row.when < 2 ^ 64)
 
+-- ---- what the types can hold
+
 -- the users of the roles
-abbrev pub FitsRoles : Project → Type 0
-FitsRoles p = AreUsers p.administrators × AreUsers p.developers × AreUsers p.reviewers × AreUsers p.integrators
+abbrev pub HoldsRoles : Project → Type 0
+HoldsRoles p = AreUsers p.administrators × AreUsers p.developers × AreUsers p.reviewers × AreUsers p.integrators
 
 -- what is counted, and the deltas
-abbrev pub FitsCounted : Project → List ℕ → Type 0
-FitsCounted p numbers = (p.next_version < 2 ^ 64) × All IsChangeNo numbers × All FitsDelta p.deltas
+abbrev pub HoldsCounted : Project → List ℕ → Type 0
+HoldsCounted p numbers = (p.next_version < 2 ^ 64) × All IsChangeNo numbers × All FitsDelta p.deltas
 
 -- a project and the numbers of its changes
-abbrev pub FitsProject : Project × List ℕ → Type 0
-FitsProject p = IsProjectName p.0.name × FitsRoles p.0 × FitsCounted p.0 p.1
+abbrev pub HoldsProject : Project × List ℕ → Type 0
+HoldsProject p = IsProjectName p.0.name × HoldsRoles p.0 × HoldsCounted p.0 p.1
 
 -- the files of a project and its locks
-abbrev pub FitsFiles : List FileRow × List Lock → Type 0
-FitsFiles t = All FitsFile t.0 × All FitsLock t.1
+abbrev pub HoldsFiles : List FileRow × List Lock → Type 0
+HoldsFiles t = All FitsFile t.0 × All FitsLock t.1
 
 -- who works at a change
-abbrev pub FitsPeople : Change → Type 0
-FitsPeople c = IfSome c.developer IsUser × IfSome c.reviewing IsUser × IfSome c.reviewer IsUser × IfSome c.integrator IsUser
+abbrev pub HoldsPeople : Change → Type 0
+HoldsPeople c = IfSome c.developer IsUser × IfSome c.reviewing IsUser × IfSome c.reviewer IsUser × IfSome c.integrator IsUser
 
 -- its files, its runs and its history
-abbrev pub FitsRows : Change → Type 0
-FitsRows c = All FitsChangeFile c.files × All FitsEvidence c.evidence × All FitsHistory c.history
+abbrev pub HoldsRows : Change → Type 0
+HoldsRows c = All FitsChangeFile c.files × All FitsEvidence c.evidence × All FitsHistory c.history
+
+abbrev pub HoldsChange : Change → Type 0
+HoldsChange c = IsChangeNo c.number × HoldsPeople c × HoldsRows c
+
+-- ---- in their order
+
+-- the numbers of a project's changes ascend
+abbrev pub ProjectAscends : Project × List ℕ → Type 0
+ProjectAscends p = Ascends nat_cmp itself p.1
+
+-- the files of a project ascend by path, and so do its locks
+abbrev pub FilesAscend : List FileRow × List Lock → Type 0
+FilesAscend t = Ascends text_cmp row_path t.0 × Ascends text_cmp lock_path t.1
+
+-- the files of a change ascend by path, and its runs by when in its life they were made, by kind and by path
+abbrev pub ChangeAscends : Change → Type 0
+ChangeAscends c = Ascends text_cmp file_path c.files × Ascends run_cmp run_of c.evidence
+
+-- ---- what stands in a record
+
+abbrev pub FitsProject : Project × List ℕ → Type 0
+FitsProject p = HoldsProject p × ProjectAscends p
+
+abbrev pub FitsFiles : List FileRow × List Lock → Type 0
+FitsFiles t = HoldsFiles t × FilesAscend t
 
 abbrev pub FitsChange : Change → Type 0
-FitsChange c = IsChangeNo c.number × FitsPeople c × FitsRows c
+FitsChange c = HoldsChange c × ChangeAscends c

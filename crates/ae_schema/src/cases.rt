@@ -91,6 +91,8 @@ PROJECT|administrators = [\"alice\"]|administrators = \"alice\"|11~\n\
 PROJECT|next_version = 4|next_version = \"4\"|15~\n\
 PROJECT|changes = [10]|changes = [9]|16~\n\
 PROJECT|changes = [10]|changes = [2000]|16~\n\
+PROJECT|changes = [10]|changes = [11, 10]|16~\n\
+PROJECT|changes = [10]|changes = [10, 10]|16~\n\
 PROJECT|{ delta = 1; change|{ delta = 1991; change|17~\n\
 PROJECT|{ delta = 1; change|{ change|17~\n\
 PROJECT|who = \"alice\"; }|who = \"alice\"; more = 1; }|17~\n\
@@ -104,6 +106,8 @@ PROJECT|name = \"demo\";|name = [[[[[[[[[[[[[[[[[]]]]]]]]]]]]]]]]];|3~\n\
 FILES|edit = 1; past = [{ delta = 1; usage = config|edit = 2; past = [{ delta = 1; usage = config|1~\n\
 FILES|past = [{ delta = 1; usage = config|past = [{ delta = 1; usage = build|1~\n\
 FILES|path = \"hello\"|path = \"/hello\"|1~\n\
+FILES|path = \"hello\"|path = \"u\"|1~\n\
+FILES|path = \"hello\"|path = \"t.sh\"|1~\n\
 FILES|length = 60|length = 4294967296|1~\n\
 FILES|98ea6e4f|98EA6e4f|1~\n\
 FILES|98ea6e4f|98ea6e4|1~\n\
@@ -111,6 +115,7 @@ FILES|98ea6e4f|98ea6e4g|1~\n\
 FILES|number = 1; at = 0; |at = 0; number = 1; |1~\n\
 FILES|locks = []|locks = [{ path = \"a\"; change = 1; }]|2~\n\
 FILES|locks = []|locks = [{ path = \"\"; change = 10; }]|2~\n\
+FILES|locks = []|locks = [{ path = \"b\"; change = 10; }, { path = \"a\"; change = 10; }]|2~\n\
 FILES|locks = [];\n|locks = [];\nmore = 1;\n|3~\n\
 FILES|locks = [];\n|locks = [];\nmore = 1;\nother = 2;\n|3~\n\
 CHANGE|number = 10|number = 9|1~\n\
@@ -122,8 +127,11 @@ CHANGE|reviewing = \"\"|reviewing = \" \"|10~\n\
 CHANGE|path = \"t.sh\"; action = create|path = \"t.sh\"; action = new|13~\n\
 CHANGE|action = create; usage = config; origin = 0|action = create; usage = config; origin = 4294967296|13~\n\
 CHANGE|version = { }|version = []|13~\n\
+CHANGE|path = \"hello\"; action|path = \"a\"; action|13~\n\
 CHANGE|ground = develop|during = develop|14~\n\
 CHANGE|status = 0|status = 65536|14~\n\
+CHANGE|kind = build|kind = regression_test|14~\n\
+CHANGE|ground = develop|ground = integrate|14~\n\
 CHANGE|clean = true|clean = yes|14~\n\
 CHANGE|what = new_change|what = change|15~\n\
 CHANGE|history =|story =|15~\n\

@@ -5,20 +5,21 @@ ghost use Rattle.ae_text.specs.View.{members_of, named_node};
 ghost use Rattle.ae_types.specs.declared.change.Change.{Change};
 ghost use Rattle.ae_schema.specs.Records.{IsTextOf, IsBadLine, IsAnswer, IsRefusal};
 ghost use Rattle.ae_schema.specs.Files.{subject_fields, exemption_fields, people_fields, row_fields, change_fields};
-ghost use Rattle.ae_schema.specs.Fits.{IsChangeNo, FitsPeople, FitsRows, FitsChange};
+ghost use Rattle.ae_schema.specs.Fits.{IsChangeNo, HoldsPeople, HoldsRows, HoldsChange, FitsChange};
 ghost use Rattle.ae_schema.specs.Shapes.{settings_from, change_from};
 
 use crate::SchemaError;
+use crate::ascending::Ascending;
 use crate::fields::{End, Then};
 use crate::record::read_record;
 use crate::structure::structure_of;
 use crate::value::field;
 use ae_base::{Cause, ChangeNo, Phase, Text, User};
 use ae_text::{Field, print_tree};
-use ae_types::{Change, ChangeAttributes, ChangeFileList, EvidenceList, HistoryList};
+use ae_types::{Change, ChangeAttributes, ChangeFile, Evidence, HistoryList};
 use std::alloc::{AllocError, Global};
 
-type RowFields = Then<ChangeFileList, Then<EvidenceList, Then<HistoryList, End>>>;
+type RowFields = Then<Ascending<ChangeFile>, Then<Ascending<Evidence>, Then<HistoryList, End>>>;
 
 type PersonFields = Then<
     Option<User>,
@@ -107,8 +108,8 @@ fn change_of(fields: ChangeFields) -> Change
         reviewing,
         reviewer,
         integrator,
-        files,
-        evidence,
+        files: files.into_rows(),
+        evidence: evidence.into_rows(),
         history,
     }
 }
@@ -117,7 +118,7 @@ fn change_of(fields: ChangeFields) -> Change
 pub fn read_change(alloc: Global, bytes: &[u8]) -> Result<Change, SchemaError>
     // The bytes are a text of the fields of what is read.
     ensures found { IfOk result (λ c. IsTextOf bytes.now (change_fields c)) }
-    // What is read keeps what its types can hold.
+    // What is read keeps what its types can hold, and files and runs ascend.
     ensures fits { IfOk result FitsChange }
     // A text of the fields of such a change is read as it.
     ensures only { (c : Change) → FitsChange c → IsTextOf bytes.now (change_fields c) → IsAnswer c result }
@@ -186,7 +187,7 @@ fn exemptions(alloc: Global, settings: &ChangeAttributes) -> Result<Vec<Field>, 
 // Where it stands, and who works at it.
 fn people(alloc: Global, change: &Change) -> Result<Vec<Field>, AllocError>
     ensures fields { IfOk result (λ fields. map named_node fields.items ≡ people_fields change.now) }
-    ensures fits { OnOk result (FitsPeople change.now) }
+    ensures fits { OnOk result (HoldsPeople change.now) }
 {
     let fields = vec![in alloc;
         field(alloc, b"phase", &change.phase)?,
@@ -201,7 +202,7 @@ fn people(alloc: Global, change: &Change) -> Result<Vec<Field>, AllocError>
 // Its files, its runs and its history.
 fn rows(alloc: Global, change: &Change) -> Result<Vec<Field>, AllocError>
     ensures fields { IfOk result (λ fields. map named_node fields.items ≡ row_fields change.now) }
-    ensures fits { OnOk result (FitsRows change.now) }
+    ensures fits { OnOk result (HoldsRows change.now) }
 {
     let fields = vec![in alloc;
         field(alloc, b"files", &change.files)?,
@@ -214,7 +215,7 @@ fn rows(alloc: Global, change: &Change) -> Result<Vec<Field>, AllocError>
 // The fields of the change's file.
 fn fields_of(alloc: Global, change: &Change) -> Result<Vec<Field>, AllocError>
     ensures fields { IfOk result (λ fields. map named_node fields.items ≡ change_fields change.now) }
-    ensures fits { OnOk result (FitsChange change.now) }
+    ensures fits { OnOk result (HoldsChange change.now) }
 {
     let mut fields = subject(alloc, change)?;
     fields.append(&mut exemptions(alloc, &change.attributes)?)?;
@@ -229,8 +230,8 @@ pub fn print_change(alloc: Global, change: &Change) -> Result<Vec<u8>, AllocErro
     ensures value { IfOk result (λ text. text.items ≡ fields_text (members_of (change_fields change.now))) }
     // What is printed is a text of the same fields.
     ensures again { IfOk result (λ text. IsTextOf text.items (change_fields change.now)) }
-    // What is printed keeps what its types can hold, so that it is read back.
-    ensures fits { OnOk result (FitsChange change.now) }
+    // What is printed keeps what its types can hold.
+    ensures fits { OnOk result (HoldsChange change.now) }
 {
     let fields = fields_of(alloc, change)?;
     print_tree(alloc, &structure_of(fields))

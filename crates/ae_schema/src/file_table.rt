@@ -6,10 +6,11 @@ ghost use Rattle.ae_types.specs.declared.file_table.FileRow.{FileRow};
 ghost use Rattle.ae_types.specs.declared.file_table.Lock.{Lock};
 ghost use Rattle.ae_schema.specs.Records.{IsTextOf, IsBadLine, IsAnswer, IsRefusal};
 ghost use Rattle.ae_schema.specs.Files.{files_fields};
-ghost use Rattle.ae_schema.specs.Fits.{FitsFiles};
+ghost use Rattle.ae_schema.specs.Fits.{HoldsFiles, FitsFiles};
 ghost use Rattle.ae_schema.specs.Shapes.{row_from, files_from};
 
 use crate::SchemaError;
+use crate::ascending::Ascending;
 use crate::fields::{End, Then};
 use crate::lists::list_field;
 use crate::record::read_record;
@@ -150,7 +151,7 @@ impl Value for Lock {
     ghost some_value = { some_lock };
 }
 
-type FileTableFields = Then<FileRows, Then<LockList, End>>;
+type FileTableFields = Then<Ascending<FileRow>, Then<Ascending<Lock>, End>>;
 
 fn files_of(fields: FileTableFields) -> (FileRows, LockList)
     ensures { result ≡ files_from fields }
@@ -160,14 +161,14 @@ fn files_of(fields: FileTableFields) -> (FileRows, LockList)
         first: locks,
         rest: End,
     } = rest;
-    (files, locks)
+    (files.into_rows(), locks.into_rows())
 }
 
 /// The files of a project and its locks, of which the bytes are a text.
 pub fn read_files(alloc: Global, bytes: &[u8]) -> Result<(FileRows, LockList), SchemaError>
     // The bytes are a text of the fields of what is read.
     ensures found { IfOk result (λ t. IsTextOf bytes.now (files_fields t)) }
-    // What is read keeps what its types can hold.
+    // What is read keeps what its types can hold, and files and locks ascend by path.
     ensures fits { IfOk result FitsFiles }
     // A text of the fields of such files and locks is read as these.
     ensures only { (t : List FileRow × List Lock) → FitsFiles t → IsTextOf bytes.now (files_fields t) → IsAnswer t result }
@@ -186,7 +187,7 @@ pub fn read_files(alloc: Global, bytes: &[u8]) -> Result<(FileRows, LockList), S
 // The fields of the file table.
 fn fields_of(alloc: Global, files: &[FileRow], locks: &[Lock]) -> Result<Vec<Field>, AllocError>
     ensures fields { IfOk result (λ fields. map named_node fields.items ≡ files_fields (files.now, locks.now)) }
-    ensures fits { OnOk result (FitsFiles (files.now, locks.now)) }
+    ensures fits { OnOk result (HoldsFiles (files.now, locks.now)) }
 {
     let fields = vec![in alloc;
         list_field(alloc, b"files", files)?,
@@ -201,8 +202,8 @@ pub fn print_files(alloc: Global, files: &[FileRow], locks: &[Lock]) -> Result<V
     ensures value { IfOk result (λ text. text.items ≡ fields_text (members_of (files_fields (files.now, locks.now)))) }
     // What is printed is a text of the same fields.
     ensures again { IfOk result (λ text. IsTextOf text.items (files_fields (files.now, locks.now))) }
-    // What is printed keeps what its types can hold, so that it is read back.
-    ensures fits { OnOk result (FitsFiles (files.now, locks.now)) }
+    // What is printed keeps what its types can hold.
+    ensures fits { OnOk result (HoldsFiles (files.now, locks.now)) }
 {
     let fields = fields_of(alloc, files, locks)?;
     print_tree(alloc, &structure_of(fields))

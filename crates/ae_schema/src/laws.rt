@@ -6,7 +6,7 @@ ghost use Rattle.ae_types.specs.declared.file_table.Lock.{Lock};
 ghost use Rattle.ae_types.specs.declared.change.Change.{Change};
 ghost use Rattle.ae_schema.specs.Records.{IsTextOf, IsBadLine, IsAnswer};
 ghost use Rattle.ae_schema.specs.Files.{project_fields, files_fields, change_fields};
-ghost use Rattle.ae_schema.specs.Fits.{FitsProject, FitsFiles, FitsChange};
+ghost use Rattle.ae_schema.specs.Fits.{ProjectAscends, FilesAscend, ChangeAscends, FitsProject, FitsFiles, FitsChange};
 
 use crate::{
     SchemaError, print_change, print_files, print_project, read_change, read_files, read_project,
@@ -33,13 +33,13 @@ pub fn note_change_lines()
     ensures one_line { (bytes : List ℕ) (line other : ℕ) → IsBadLine FitsChange change_fields bytes line → IsBadLine FitsChange change_fields bytes other → line ≡ other }
 {}
 
-/// The project and numbers, printed and read: the same, or memory was wanting.
+/// The project and numbers, printed and read: the same where the numbers ascend, or memory was wanting.
 pub fn project_again(
     alloc: Global,
     project: &Project,
     numbers: &[ChangeNo],
 ) -> Result<(Project, NumberList), SchemaError>
-    ensures { IsAnswer (project.now, numbers.now) result }
+    ensures { ProjectAscends (project.now, numbers.now) → IsAnswer (project.now, numbers.now) result }
 {
     match print_project(alloc, project, numbers) {
         Ok(text) => read_project(alloc, text.as_slice()),
@@ -47,13 +47,13 @@ pub fn project_again(
     }
 }
 
-/// The files and locks, printed and read: the same, or memory was wanting.
+/// The files and locks, printed and read: the same where they ascend, or memory was wanting.
 pub fn files_again(
     alloc: Global,
     files: &[FileRow],
     locks: &[Lock],
 ) -> Result<(FileRows, LockList), SchemaError>
-    ensures { IsAnswer (files.now, locks.now) result }
+    ensures { FilesAscend (files.now, locks.now) → IsAnswer (files.now, locks.now) result }
 {
     match print_files(alloc, files, locks) {
         Ok(text) => read_files(alloc, text.as_slice()),
@@ -61,9 +61,9 @@ pub fn files_again(
     }
 }
 
-/// The change, printed and read: the same, or memory was wanting.
+/// The change, printed and read: the same where its files and runs ascend, or memory was wanting.
 pub fn change_again(alloc: Global, change: &Change) -> Result<Change, SchemaError>
-    ensures { IsAnswer change.now result }
+    ensures { ChangeAscends change.now → IsAnswer change.now result }
 {
     match print_change(alloc, change) {
         Ok(text) => read_change(alloc, text.as_slice()),

@@ -1,11 +1,13 @@
 //! The records of the state files, read and printed.
 #![tactic(auto)]
 
+mod ascending;
 mod change;
 mod change_rows;
 mod error;
 mod fields;
 mod file_table;
+mod keys;
 mod laws;
 mod lists;
 mod names;

@@ -5,11 +5,12 @@ ghost use Rattle.ae_text.specs.View.{members_of, named_node};
 ghost use Rattle.ae_types.specs.declared.project.Project.{Project};
 ghost use Rattle.ae_schema.specs.Records.{IsTextOf, IsBadLine, IsAnswer, IsRefusal};
 ghost use Rattle.ae_schema.specs.Files.{identity_fields, permission_fields, default_fields, role_fields, counted_fields, project_fields};
-ghost use Rattle.ae_schema.specs.Fits.{FitsRoles, FitsCounted, FitsProject};
+ghost use Rattle.ae_schema.specs.Fits.{HoldsRoles, HoldsCounted, HoldsProject, FitsProject};
 ghost use Rattle.ae_base.specs.Names.{IsProjectName};
 ghost use Rattle.ae_schema.specs.Shapes.{attributes_from, project_from};
 
 use crate::SchemaError;
+use crate::ascending::Ascending;
 use crate::fields::{End, Then};
 use crate::lists::list_field;
 use crate::record::read_record;
@@ -120,7 +121,7 @@ impl Value for DeltaRow {
     ghost some_value = { some_delta };
 }
 
-type CountedFields = Then<u64, Then<NumberList, Then<DeltaList, End>>>;
+type CountedFields = Then<u64, Then<Ascending<ChangeNo>, Then<DeltaList, End>>>;
 
 type RoleFields = Then<UserSet, Then<UserSet, Then<UserSet, Then<UserSet, CountedFields>>>>;
 
@@ -220,14 +221,14 @@ fn project_of(fields: ProjectFields) -> (Project, NumberList)
         next_version,
         deltas,
     };
-    (project, numbers)
+    (project, numbers.into_rows())
 }
 
 /// The project and the numbers of its changes, of which the bytes are a text.
 pub fn read_project(alloc: Global, bytes: &[u8]) -> Result<(Project, NumberList), SchemaError>
     // The bytes are a text of the fields of what is read.
     ensures found { IfOk result (λ p. IsTextOf bytes.now (project_fields p)) }
-    // What is read keeps what its types can hold.
+    // What is read keeps what its types can hold, and the numbers ascend.
     ensures fits { IfOk result FitsProject }
     // A text of the fields of such a project is read as it.
     ensures only { (p : Project × List ℕ) → FitsProject p → IsTextOf bytes.now (project_fields p) → IsAnswer p result }
@@ -322,7 +323,7 @@ fn defaults(alloc: Global, settings: &Attributes) -> Result<Vec<Field>, AllocErr
 // The users of each role.
 fn roles(alloc: Global, project: &Project) -> Result<Vec<Field>, AllocError>
     ensures fields { IfOk result (λ fields. map named_node fields.items ≡ role_fields project.now) }
-    ensures fits { OnOk result (FitsRoles project.now) }
+    ensures fits { OnOk result (HoldsRoles project.now) }
 {
     let fields = vec![in alloc;
         field(alloc, b"administrators", &project.administrators)?,
@@ -336,7 +337,7 @@ fn roles(alloc: Global, project: &Project) -> Result<Vec<Field>, AllocError>
 // The number of the next version, and the changes and deltas.
 fn counted(alloc: Global, project: &Project, numbers: &[ChangeNo]) -> Result<Vec<Field>, AllocError>
     ensures fields { IfOk result (λ fields. map named_node fields.items ≡ counted_fields project.now numbers.now) }
-    ensures fits { OnOk result (FitsCounted project.now numbers.now) }
+    ensures fits { OnOk result (HoldsCounted project.now numbers.now) }
 {
     let fields = vec![in alloc;
         field(alloc, b"next_version", &project.next_version)?,
@@ -353,7 +354,7 @@ fn fields_of(
     numbers: &[ChangeNo],
 ) -> Result<Vec<Field>, AllocError>
     ensures fields { IfOk result (λ fields. map named_node fields.items ≡ project_fields (project.now, numbers.now)) }
-    ensures fits { OnOk result (FitsProject (project.now, numbers.now)) }
+    ensures fits { OnOk result (HoldsProject (project.now, numbers.now)) }
 {
     let mut fields = identity(alloc, project)?;
     fields.append(&mut permissions(alloc, &project.attributes)?)?;
@@ -373,8 +374,8 @@ pub fn print_project(
     ensures value { IfOk result (λ text. text.items ≡ fields_text (members_of (project_fields (project.now, numbers.now)))) }
     // What is printed is a text of the same fields.
     ensures again { IfOk result (λ text. IsTextOf text.items (project_fields (project.now, numbers.now))) }
-    // What is printed keeps what its types can hold, so that it is read back.
-    ensures fits { OnOk result (FitsProject (project.now, numbers.now)) }
+    // What is printed keeps what its types can hold.
+    ensures fits { OnOk result (HoldsProject (project.now, numbers.now)) }
 {
     let fields = fields_of(alloc, project, numbers)?;
     print_tree(alloc, &structure_of(fields))

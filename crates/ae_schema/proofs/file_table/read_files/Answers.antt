@@ -1,21 +1,12 @@
-use Rattle.std.proofs.Common.{◌≡◌, ℕ, Err, All, refl, ap, ◌∙◌}
-use Rattle.ae_schema.specs.Fits.{FitsFile, FitsLock, FitsFiles}
+use Rattle.std.proofs.Common.{◌≡◌, ℕ, Err, refl, ap, ◌∙◌}
+use Rattle.ae_schema.specs.Fits.{FitsFiles}
 use Rattle.ae_schema.specs.Records.{IsBadLine}
 use Rattle.ae_schema.specs.Files.{files_fields}
-use Rattle.ae_schema.specs.Shapes.{FilesShape, files_from, files_shape}
+use Rattle.ae_schema.specs.Shapes.{files_from, files_shape}
+use Rattle.ae_schema.proofs.FieldsFit.{FilesFieldsFit, to_files, from_files}
 use Rattle.ae_schema.proofs.Texts.{never_both, same_line, same_error, bad_answer, bad_refusal}
 use Rattle.ae_schema.specs.declared.error.SchemaError.TheVariants.{Field}
 use Rattle.ae_schema.proofs.file_table.read_files.Goals as goal
-
--- what the types of the fields can hold
-abbrev FieldsFit : FilesShape → Type 0
-FieldsFit f = (All FitsFile f.first) × ((All FitsLock f.rest.first) × (Unit {0}))
-
-to_fits : (f : FilesShape) → FieldsFit f → FitsFiles (files_from f)
-to_fits f h = (h.0, h.1.0)
-
-from_fits : (x : _) → FitsFiles x → FieldsFit (files_shape x)
-from_fits x h = (h.0, (h.1, tt))
 
 -- a bad line of the fields is one of the record
 abbrev Bad : goal.In-Err → Type 0
@@ -23,16 +14,19 @@ Bad c = (line : ℕ) → c.in-Err.error ≡ Field line → IsBadLine FitsFiles f
 
 bad : (c : goal.In-Err) → Bad c
 bad c line e =
-    same_line FieldsFit FitsFiles (λ f. files_fields (files_from f)) files_fields files_from files_shape to_fits from_fits (λ f. refl) (λ x. refl)
+    same_line FilesFieldsFit FitsFiles (λ f. files_fields (files_from f)) files_fields files_from files_shape to_files from_files (λ f. refl) (λ x. refl)
     c.args.bytes.now line (c.read_record.ensures.bad line (c.in-Err.is ∙ ap Err e))
+
+pub returns-in-Ok-clause-fits : goal.returns-in-Ok-clause-fits
+returns-in-Ok-clause-fits c = rw c.files_of.ensures (to_files c.in-Ok.fields c.in-Ok.ensures.fits)
 
 pub returns-in-Ok-clause-only : goal.returns-in-Ok-clause-only
 returns-in-Ok-clause-only c x fits text =
-    c.files_of.ensures ∙ ap files_from (rw c.in-Ok.is at (c.read_record.ensures.only (files_shape x) (from_fits x fits) text))
+    c.files_of.ensures ∙ ap files_from (rw c.in-Ok.is at (c.read_record.ensures.only (files_shape x) (from_files x fits) text))
 
 pub returns-in-Ok-clause-only_field : goal.returns-in-Ok-clause-only_field
 returns-in-Ok-clause-only_field c line w =
-    never_both FitsFiles files_fields c.args.bytes.now (files_from c.in-Ok.fields) (to_fits c.in-Ok.fields c.in-Ok.ensures.fits) c.in-Ok.ensures.found line w
+    never_both FitsFiles files_fields c.args.bytes.now (files_from c.in-Ok.fields) (to_files c.in-Ok.fields c.in-Ok.ensures.fits) c.in-Ok.ensures.found line w
 
 pub returns-in-Err-clause-only : goal.returns-in-Err-clause-only
 returns-in-Err-clause-only c x fits text = bad_answer FitsFiles files_fields c.args.bytes.now c.in-Err.error (bad c) x fits text

@@ -1,0 +1,95 @@
+// Lists of rows in the ascending order of their keys.
+ghost use Rattle.std.specs.Prelude.{◌≡◌, true, Some, IfSome};
+ghost use Rattle.std.specs.Ordering.{is_lt};
+ghost use Rattle.std.specs.declared.cmp.Ordering.{Ordering};
+ghost use Rattle.ae_types.specs.Ordered.{ascends};
+
+use crate::value::Value;
+use ae_text::Tree;
+use ae_types::Rows;
+use std::alloc::{AllocError, Global};
+use std::marker::Model;
+
+/// A row that has a key.
+pub(crate) trait Keyed: Value {
+    // what a key is
+    ghost Key: { Type 0 };
+
+    // the key of a row
+    ghost key: { Self → Key };
+
+    // the order of keys
+    ghost order: { Key → Key → Ordering };
+
+    /// Whether its key comes before that of the other.
+    fn is_below(&self, other: &Self) -> bool
+        ensures { result ≡ is_lt (order (key self.now) (key other.now)) };
+}
+
+/// Rows that ascend by their keys. Contracts see the list of them.
+#[derive(Drop)]
+pub(crate) struct Ascending<T: Keyed> {
+    rows: Rows<T>,
+}
+
+impl<T: Keyed> Model for Ascending<T> {
+    ghost use Rattle.std.specs.Prelude.{◌≡◌, List, true};
+    ghost use Rattle.ae_types.specs.Ordered.{ascends};
+
+    ghost Value = { List T };
+
+    ghost view = { λ a. a.rows };
+
+    ghost invariant = { λ a. ascends T.order T.key a.rows ≡ true };
+}
+
+// Whether each row's key comes before that of the next.
+fn ascend<T: Keyed>(rows: &[T]) -> bool
+    ensures { result ≡ ascends T.order T.key rows.now }
+{
+    rows.is_sorted_by(|a, b| a.is_below(b))
+}
+
+// The rows, where they ascend.
+fn in_order<T: Keyed>(rows: Rows<T>) -> Option<Ascending<T>>
+    ensures some { IfSome result (λ list. (list ≡ rows) × (ascends T.order T.key rows ≡ true)) }
+    ensures only { ascends T.order T.key rows ≡ true → result ≡ Some rows }
+{
+    if ascend(rows.as_slice()) {
+        Some(Ascending { rows })
+    } else {
+        None
+    }
+}
+
+impl<T: Keyed> Ascending<T> {
+    /// The rows, in their order.
+    pub(crate) fn into_rows(self) -> Rows<T>
+        ensures { result ≡ self }
+    {
+        self.rows
+    }
+}
+
+impl<T: Keyed> Value for Ascending<T> {
+    ghost use Rattle.std.specs.Prelude.{[], All, refl};
+    ghost use Rattle.std.proofs.lemmas.List.Elements.{All-nil};
+    ghost use Rattle.ae_schema.specs.Spelled.{list_of};
+
+    ghost spelled = { list_of T.spelled };
+
+    ghost Fits = { λ rows. All T.Fits rows × (ascends T.order T.key rows ≡ true) };
+
+    fn of_tree(alloc: Global, tree: &Tree) -> Result<Option<Ascending<T>>, AllocError> {
+        match Rows::<T>::of_tree(alloc, tree)? {
+            Some(rows) => Ok(in_order(rows)),
+            None => Ok(None),
+        }
+    }
+
+    fn to_tree(&self, alloc: Global) -> Result<Tree, AllocError> {
+        self.rows.to_tree(alloc)
+    }
+
+    ghost some_value = { ([], (All-nil T.Fits, refl)) };
+}
