@@ -6,3 +6,5 @@ pub mod Fine
 pub mod ReadAs
 pub mod Options
 mod FieldsFit
+mod Decided
+pub mod Every

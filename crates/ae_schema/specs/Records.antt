@@ -68,6 +68,10 @@ pub record IsWrongAt {A : Type 0} (Fits : A → Type 0) (fields_of : A → List 
 abbrev pub IsTextOf : List ℕ → List Named → Type 0
 IsTextOf bytes ms = (lines : List ℕ) × Reads bytes (structure ms) lines
 
+-- the bytes are a text of the fields of a value that stands in a record
+abbrev pub IsRecord : {A : Type 0} → (A → Type 0) → (A → List Named) → List ℕ → Type 0
+IsRecord {A} Fits fields_of bytes = (x : A) × Fits x × IsTextOf bytes (fields_of x)
+
 -- the line behind all line ends
 abbrev pub last_line : List ℕ → ℕ
 last_line bytes = line_after (line_ends bytes)
@@ -84,6 +88,10 @@ pub record IsWrongText {A : Type 0} (Fits : A → Type 0) (fields_of : A → Lis
 -- the line of the first token that can't stand in a text, or else of the first field that can't stand in a record
 abbrev pub IsBadLine : {A : Type 0} → (A → Type 0) → (A → List Named) → List ℕ → ℕ → Type 0
 IsBadLine Fits fields_of bytes line = IsError bytes line ⊎ IsWrongText Fits fields_of bytes line
+
+-- some line is that of the first token or field that can't stand there
+abbrev pub HasBadLine : {A : Type 0} → (A → Type 0) → (A → List Named) → List ℕ → Type 0
+HasBadLine Fits fields_of bytes = (line : ℕ) × IsBadLine Fits fields_of bytes line
 
 -- it is this value, unless memory runs out
 abbrev pub IsAnswer : {A : Type 0} → A → Result A SchemaError → Type 0

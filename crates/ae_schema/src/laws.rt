@@ -1,10 +1,10 @@
 // What holds of texts and their records, and that what is printed is read back.
-ghost use Rattle.std.specs.Prelude.{◌≡◌, ℕ, List};
+ghost use Rattle.std.specs.Prelude.{◌≡◌, ◌⊎◌, ℕ, List};
 ghost use Rattle.ae_types.specs.declared.project.Project.{Project};
 ghost use Rattle.ae_types.specs.declared.file_table.FileRow.{FileRow};
 ghost use Rattle.ae_types.specs.declared.file_table.Lock.{Lock};
 ghost use Rattle.ae_types.specs.declared.change.Change.{Change};
-ghost use Rattle.ae_schema.specs.Records.{IsTextOf, IsBadLine, IsAnswer};
+ghost use Rattle.ae_schema.specs.Records.{IsTextOf, IsRecord, IsBadLine, HasBadLine, IsAnswer};
 ghost use Rattle.ae_schema.specs.Files.{project_fields, files_fields, change_fields};
 ghost use Rattle.ae_schema.specs.Fits.{ProjectAscends, FilesAscend, ChangeAscends, FitsProject, FitsFiles, FitsChange};
 
@@ -15,20 +15,23 @@ use ae_base::ChangeNo;
 use ae_types::{Change, FileRow, FileRows, Lock, LockList, NumberList, Project};
 use std::alloc::Global;
 
-/// A text of a project's record has no bad line, and no text has two.
+/// Each text is a project's record or has a bad line, never both, and never two.
 pub fn note_project_lines()
+    ensures every { (bytes : List ℕ) → IsRecord FitsProject project_fields bytes ⊎ HasBadLine FitsProject project_fields bytes }
     ensures never_both { (bytes : List ℕ) (p : Project × List ℕ) (line : ℕ) → FitsProject p → IsTextOf bytes (project_fields p) → IsBadLine FitsProject project_fields bytes line → ⊥ }
     ensures one_line { (bytes : List ℕ) (line other : ℕ) → IsBadLine FitsProject project_fields bytes line → IsBadLine FitsProject project_fields bytes other → line ≡ other }
 {}
 
-/// A text of a file table has no bad line, and no text has two.
+/// Each text is a file table or has a bad line, never both, and never two.
 pub fn note_files_lines()
+    ensures every { (bytes : List ℕ) → IsRecord FitsFiles files_fields bytes ⊎ HasBadLine FitsFiles files_fields bytes }
     ensures never_both { (bytes : List ℕ) (t : List FileRow × List Lock) (line : ℕ) → FitsFiles t → IsTextOf bytes (files_fields t) → IsBadLine FitsFiles files_fields bytes line → ⊥ }
     ensures one_line { (bytes : List ℕ) (line other : ℕ) → IsBadLine FitsFiles files_fields bytes line → IsBadLine FitsFiles files_fields bytes other → line ≡ other }
 {}
 
-/// A text of a change's record has no bad line, and no text has two.
+/// Each text is a change's record or has a bad line, never both, and never two.
 pub fn note_change_lines()
+    ensures every { (bytes : List ℕ) → IsRecord FitsChange change_fields bytes ⊎ HasBadLine FitsChange change_fields bytes }
     ensures never_both { (bytes : List ℕ) (c : Change) (line : ℕ) → FitsChange c → IsTextOf bytes (change_fields c) → IsBadLine FitsChange change_fields bytes line → ⊥ }
     ensures one_line { (bytes : List ℕ) (line other : ℕ) → IsBadLine FitsChange change_fields bytes line → IsBadLine FitsChange change_fields bytes other → line ≡ other }
 {}

@@ -1,7 +1,11 @@
 use Rattle.ae_schema.specs.Files.{files_fields}
 use Rattle.ae_schema.specs.Fits.{FitsFiles}
+use Rattle.ae_schema.proofs.Every.{every_table}
 use Rattle.ae_schema.proofs.Texts.{never_both, one_line}
 use Rattle.ae_schema.proofs.laws.note_files_lines.Goals as goal
+
+pub returns-clause-every : goal.returns-clause-every
+returns-clause-every c bytes = every_table bytes
 
 pub returns-clause-never_both : goal.returns-clause-never_both
 returns-clause-never_both c bytes x line fits text bad = never_both FitsFiles files_fields bytes x fits text line bad
