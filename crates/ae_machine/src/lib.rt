@@ -26,6 +26,3 @@ pub use refusing::before;
 pub use there::is_there_yet;
 pub use verdict::Verdict;
 pub use view::{RunRow, RunRowList, ScanList, View};
-
-#[cfg(test)]
-mod tests;

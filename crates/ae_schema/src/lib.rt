@@ -27,8 +27,3 @@ pub use laws::{
     project_again,
 };
 pub use project::{print_project, read_project};
-
-#[cfg(test)]
-mod cases;
-#[cfg(test)]
-mod tests;
