@@ -20,7 +20,7 @@ pub record ReadsProject (files : Image) (project : Project) (numbers : List ℕ)
 -- `files` is the record of these files and locks, and by itself keeps the rules for the deltas of this project
 pub record ReadsTable (files : Image) (project : Project) (rows : List FileRow) (locks : List Lock) : Type 0 where
   pub is : IsTable (files files_file) rows locks
-  pub good : files_are_good (length project.deltas) rows ≡ true
+  pub good : files_are_good (length project.deltas) rows locks ≡ true
 
 -- the file of this number is the record of a change of this number, which by itself keeps the rules
 pub record ReadsChange (files : Image) (number : ℕ) (change : Change) : Type 0 where

@@ -53,7 +53,7 @@ pub(crate) fn good_table(
 {
     match read_files(alloc, bytes) {
         Ok((rows, locks)) => {
-            if files_are_good(project.deltas.len(), rows.as_slice()) {
+            if files_are_good(project.deltas.len(), rows.as_slice(), locks.as_slice()) {
                 Ok((rows, locks))
             } else {
                 Err(Stop::Blamed(Blame::Files))

@@ -12,7 +12,7 @@ use Rattle.ae_store.proofs.records.good_table.Goals as goal
 
 pub returns-else-files_are_good-clause-value : goal.returns-else-files_are_good-clause-value
 returns-else-files_are_good-clause-value c = λ files at.
-    let bad : files_are_good (length c.args.project.now.deltas) c.in-Ok.rows ≡ false = grind arith in (
+    let bad : files_are_good (length c.args.project.now.deltas) c.in-Ok.rows c.in-Ok.locks ≡ false = grind arith in (
       refl,
       none_read (λ (t : List FileRow × List Lock). ReadsTable files c.args.project.now t.0 t.1) (c.in-Ok.rows, c.in-Ok.locks) c.read_files.result c.in-Ok.is
           (λ t reads. c.read_files.ensures.only t reads.is.0 (subst (λ (bytes : List ℕ). IsTextOf bytes (files_fields t)) at reads.is.1))
