@@ -1,6 +1,6 @@
 -- The text of the file of a change, by its number.
 use Rattle.std.proofs.Common.{◌≡◌, ℕ, suc, ◌<◌, ◌≤◌, refl, sym, ◌∙◌, ap, subst, Bool, true, false, cond, nat_eq, eqb-true, if◌then◌else◌, List, [], ◌∷◌, length, get_or, Option, Some, None, arith}
-use Rattle.std.specs.Prelude.{All, is_some, Result, Ok, Err, IfOk}
+use Rattle.std.specs.Prelude.{All, is_some, Result, Ok, Err, IfOk, IfSome}
 use Rattle.std.specs.List.{find}
 use Rattle.std.specs.Str.{bytes_eq}
 use Rattle.ae_types.specs.declared.change.Change.{Change}
@@ -12,12 +12,14 @@ use Rattle.ae_types.proofs.Keys.{by_number}
 use Rattle.ae_types.proofs.Ordered.{some-is}
 use Rattle.ae_types.proofs.Searched.{in-found}
 use Rattle.ae_types.proofs.Splits.{never, to-if}
-use Rattle.ae_schema.specs.Fits.{IsChangeNo, FitsProject, FitsChange}
-use Rattle.ae_schema.specs.Files.{project_fields, change_fields}
+use Rattle.ae_schema.specs.Fits.{IsChangeNo, ProjectAscends, HoldsProject, HoldsFiles, HoldsChange, FitsProject, FitsChange, FilesAscend}
+use Rattle.ae_schema.specs.Files.{project_fields, files_fields, change_fields}
 use Rattle.ae_schema.specs.Records.{IsTextOf}
 use Rattle.ae_types.specs.declared.project.Project.{Project}
-use Rattle.ae_store.specs.Records.{IsProject, IsChange}
-use Rattle.ae_store.specs.Names.{project_file, change_file}
+use Rattle.ae_types.specs.declared.file_table.FileRow.{FileRow}
+use Rattle.ae_types.specs.declared.file_table.Lock.{Lock}
+use Rattle.ae_store.specs.Records.{IsProject, IsTable, IsChange}
+use Rattle.ae_store.specs.Names.{project_file, files_file, change_file}
 use Rattle.ae_store.specs.Changed.{canonical, change_text, text_in, text_of}
 use Rattle.ae_store.specs.Batching.{change_of_state, IsNumbered, ChangeIsWritten}
 use Rattle.ae_store.proofs.BatchNames.{same_number}
@@ -31,7 +33,7 @@ each_has P (m ∷ numbers) n all has = go (nat_eq n m) refl has (each_has P numb
     go true is h rest = subst P (sym (eqb-true n m is)) (all 0 (omega arith))
     go false is h rest = rest h
 
-pub numbered_of : (o : Observation) → Sound o → FitsProject (o.project, o.numbers) → All (λ (change : Change). change.number ≤ 1999) o.changes
+pub numbered_of : (o : Observation) → Sound o → HoldsProject (o.project, o.numbers) → All (λ (change : Change). change.number ≤ 1999) o.changes
 numbered_of o sound fits k d h =
     let change = get_or o.changes k d in
     let found = in-found by_number number_of_change o.changes sound.changes.ascend change (place-in o.changes k d h) in
@@ -68,20 +70,35 @@ if_ok P Q R S (Err e) step p q r = tt
 pub project_is : (o : Observation) (project : Project) (numbers : List ℕ) → project ≡ o.project → numbers ≡ o.numbers → canonical (project_fields (project, numbers)) ≡ text_in o project_file
 project_is o project numbers p n = ap (λ (x : Project). canonical (project_fields (x, numbers))) p ∙ ap (λ (x : List ℕ). canonical (project_fields (o.project, x))) n
 
-pub project_written : (o : Observation) (project : Project) (numbers : List ℕ) → project ≡ o.project → numbers ≡ o.numbers
-    → (text : List ℕ) → text ≡ canonical (project_fields (project, numbers)) → IsTextOf text (project_fields (project, numbers)) → FitsProject (project, numbers) → IsProject (text_in o project_file) o.project o.numbers
-project_written o project numbers p n text is again fits =
+pub project_written : (o : Observation) (project : Project) (numbers : List ℕ) → project ≡ o.project → numbers ≡ o.numbers → Sound o
+    → (text : List ℕ) → text ≡ canonical (project_fields (project, numbers)) → IsTextOf text (project_fields (project, numbers)) → HoldsProject (project, numbers) → IsProject (text_in o project_file) o.project o.numbers
+project_written o project numbers p n sound text is again holds =
+    let fits : FitsProject (project, numbers) = (holds, subst (λ (x : List ℕ). ProjectAscends (project, x)) (sym n) sound.project.numbers_ascend) in
     let start : IsProject (text_in o project_file) project numbers = (fits, subst (λ (t : List ℕ). IsTextOf t (project_fields (project, numbers))) (is ∙ project_is o project numbers p n) again) in
     subst (λ (x : List ℕ). IsProject (text_in o project_file) o.project x) n (subst (λ (x : Project). IsProject (text_in o project_file) x numbers) p start)
 
-pub project_numbered : (o : Observation) (project : Project) (numbers : List ℕ) → project ≡ o.project → numbers ≡ o.numbers → Sound o → FitsProject (project, numbers) → IsNumbered (Some o)
+pub project_numbered : (o : Observation) (project : Project) (numbers : List ℕ) → project ≡ o.project → numbers ≡ o.numbers → Sound o → HoldsProject (project, numbers) → IsNumbered (Some o)
 project_numbered o project numbers p n sound fits =
-    numbered_of o sound (subst (λ (x : List ℕ). FitsProject (o.project, x)) n (subst (λ (x : Project). FitsProject (x, numbers)) p fits))
+    numbered_of o sound (subst (λ (x : List ℕ). HoldsProject (o.project, x)) n (subst (λ (x : Project). HoldsProject (x, numbers)) p fits))
 
-pub change_written : (state : Option Observation) (n : ℕ) → n ≤ 1999 → IsNumbered state → (change : Change) → Some change ≡ change_of_state state n
-    → (text : List ℕ) → text ≡ canonical (change_fields change) → IsTextOf text (change_fields change) → FitsChange change → ChangeIsWritten state n
-change_written None n h all change found text is again fits = tt
-change_written (Some o) n h all change found text is again fits =
+-- the text is that of these files and locks, which their types can hold
+abbrev IsTableText : List ℕ → List FileRow → List Lock → Type 0
+IsTableText text rows locks = HoldsFiles (rows, locks) × (text ≡ canonical (files_fields (rows, locks))) × IsTextOf text (files_fields (rows, locks))
+
+-- the table's text, where the copies are its parts
+pub table_written : (o : Observation) (rows : List FileRow) (locks : List Lock) → rows ≡ o.files → locks ≡ o.locks → Sound o
+    → (text : List ℕ) → text ≡ canonical (files_fields (rows, locks)) → IsTextOf text (files_fields (rows, locks)) → HoldsFiles (rows, locks) → IsTable (text_in o files_file) o.files o.locks
+table_written o rows locks r l sound text is again holds =
+    let ascend : FilesAscend (o.files, o.locks) = (sound.rows.ascend, sound.locks.ascend) in
+    let moved : IsTableText text o.files o.locks = subst (λ (y : List Lock). IsTableText text o.files y) l (subst (λ (x : List FileRow). IsTableText text x locks) r (holds, is, again)) in
+    ((moved.0, ascend), subst (λ (t : List ℕ). IsTextOf t (files_fields (o.files, o.locks))) moved.1 moved.2)
+
+pub change_written : (state : Option Observation) (n : ℕ) → n ≤ 1999 → IsNumbered state → IfSome state Sound → (change : Change) → Some change ≡ change_of_state state n
+    → (text : List ℕ) → text ≡ canonical (change_fields change) → IsTextOf text (change_fields change) → HoldsChange change → ChangeIsWritten state n
+change_written None n h all sound change found text is again holds = tt
+change_written (Some o) n h all sound change found text is again holds =
+    let good = sound.changes.good n change (sym found) in
+    let fits : FitsChange change = (holds, (good.files.ascend, good.runs.ascend)) in
     let same : canonical (change_fields change) ≡ text_in o (change_file n) = ap text_of_change found ∙ sym (text_is (Some o) n h all) in
     to-if (λ (c : Change). IsChange (text_in o (change_file n)) c) (change_at o n)
     (λ (c : Change) e. subst (λ (x : Change). IsChange (text_in o (change_file n)) x) (some-is change c (found ∙ e))

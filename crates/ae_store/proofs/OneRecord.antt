@@ -309,7 +309,7 @@ one_project bytes p q numbers others one other =
 pub one_table : (bytes : List ℕ) (rows others : List FileRow) (locks more : List Lock) → IsTable bytes rows locks → IsTable bytes others more → (rows ≡ others) × (locks ≡ more)
 one_table bytes rows others locks more one other =
     let e = one_structure bytes (files_fields (rows, locks)) (files_fields (others, more)) one.1 other.1 in
-    (one_list FitsFile file_row one_row rows others one.0.0 other.0.0 (ap (field_at 0) e), one_plain lock one_lock locks more (ap (field_at 1) e))
+    (one_list FitsFile file_row one_row rows others one.0.0.0 other.0.0.0 (ap (field_at 0) e), one_plain lock one_lock locks more (ap (field_at 1) e))
 
 pub one_change : (bytes : List ℕ) (c d : Change) → IsChange bytes c → IsChange bytes d → c ≡ d
 one_change bytes c d one other =
@@ -322,12 +322,12 @@ one_change bytes c d one other =
     let baseline_is = one_flag c.attributes.test_baseline_exempt d.attributes.test_baseline_exempt (ap (field_at 5) e) in
     let regression_is = one_flag c.attributes.regression_test_exempt d.attributes.regression_test_exempt (ap (field_at 6) e) in
     let phase_is = one_phase c.phase d.phase (ap (field_at 7) e) in
-    let developer_is = one_optional IsUser no_empty_user c.developer d.developer one.0.1.0 other.0.1.0 (ap (field_at 8) e) in
-    let reviewing_is = one_optional IsUser no_empty_user c.reviewing d.reviewing one.0.1.1 other.0.1.1 (ap (field_at 9) e) in
-    let reviewer_is = one_optional IsUser no_empty_user c.reviewer d.reviewer one.0.1.2 other.0.1.2 (ap (field_at 10) e) in
-    let integrator_is = one_optional IsUser no_empty_user c.integrator d.integrator one.0.1.3 other.0.1.3 (ap (field_at 11) e) in
-    let files_is = one_list FitsChangeFile change_file one_file c.files d.files one.0.2.0 other.0.2.0 (ap (field_at 12) e) in
-    let evidence_is = one_list FitsEvidence evidence_row one_run c.evidence d.evidence one.0.2.1 other.0.2.1 (ap (field_at 13) e) in
+    let developer_is = one_optional IsUser no_empty_user c.developer d.developer one.0.0.1.0 other.0.0.1.0 (ap (field_at 8) e) in
+    let reviewing_is = one_optional IsUser no_empty_user c.reviewing d.reviewing one.0.0.1.1 other.0.0.1.1 (ap (field_at 9) e) in
+    let reviewer_is = one_optional IsUser no_empty_user c.reviewer d.reviewer one.0.0.1.2 other.0.0.1.2 (ap (field_at 10) e) in
+    let integrator_is = one_optional IsUser no_empty_user c.integrator d.integrator one.0.0.1.3 other.0.0.1.3 (ap (field_at 11) e) in
+    let files_is = one_list FitsChangeFile change_file one_file c.files d.files one.0.0.2.0 other.0.0.2.0 (ap (field_at 12) e) in
+    let evidence_is = one_list FitsEvidence evidence_row one_run c.evidence d.evidence one.0.0.2.1 other.0.0.2.1 (ap (field_at 13) e) in
     let history_is = one_plain history_row one_event c.history d.history (ap (field_at 14) e) in
     λ i. record {
       number = number_is i;

@@ -10,6 +10,13 @@ use ae_schema::{print_change, print_files, print_project};
 use ae_types::{Change, State};
 use std::alloc::{AllocError, Global};
 
+// A state keeps the rules.
+fn note_sound(state: &State)
+    ensures { Sound state.now }
+{
+    let _project = state.project();
+}
+
 /// The text of `project`; empty where there is no project.
 pub(crate) fn project_text(alloc: Global, state: Option<&State>) -> Result<Vec<u8>, AllocError>
     ensures text { IfOk result (λ text. text.items ≡ text_of (option_copied state.entry) project_file) }
@@ -29,16 +36,23 @@ pub(crate) fn table_text(alloc: Global, state: Option<&State>) -> Result<Vec<u8>
     ensures written { OnOk result (TableIsWritten (option_copied state.entry)) }
 {
     match state {
-        Some(state) => print_files(alloc, state.files(), state.locks()),
+        Some(state) => {
+            note_sound(state);
+            print_files(alloc, state.files(), state.locks())
+        }
         None => Ok(Vec::new(alloc)),
     }
 }
 
 fn change_of_state<'a>(state: Option<&'a State>, number: ChangeNo) -> Option<&'a Change>
-    ensures { option_copied result ≡ change_of_state (option_copied state.entry) number }
+    ensures change { option_copied result ≡ change_of_state (option_copied state.entry) number }
+    ensures sound { IfSome (option_copied state.entry) Sound }
 {
     match state {
-        Some(state) => state.change(number),
+        Some(state) => {
+            note_sound(state);
+            state.change(number)
+        }
         None => None,
     }
 }
