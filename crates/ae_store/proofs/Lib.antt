@@ -3,6 +3,7 @@ pub mod FileNames
 pub mod Disks
 pub mod OneRecord
 pub mod OneState
+pub mod EveryImage
 pub mod Told
 pub mod LoadSteps
 pub mod BatchEntries

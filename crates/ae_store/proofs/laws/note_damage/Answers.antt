@@ -1,5 +1,9 @@
+use Rattle.ae_store.proofs.EveryImage.{every_image}
 use Rattle.ae_store.proofs.OneState.{one_state, state_not_damaged, one_blamed}
 use Rattle.ae_store.proofs.laws.note_damage.Goals as goal
+
+pub returns-clause-every : goal.returns-clause-every
+returns-clause-every c = every_image
 
 pub returns-clause-one_state : goal.returns-clause-one_state
 returns-clause-one_state c = one_state
