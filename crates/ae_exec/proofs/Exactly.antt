@@ -3,7 +3,7 @@ use Rattle.std.specs.Prelude.{◌≡◌, ◌⊎◌, ◌≤◌, ℕ, List, Option
 use Rattle.std.proofs.Common.{sym, ap, subst, ◌∙◌, inl, inr, arith}
 use Rattle.std.proofs.lemmas.Bool.{cases_lt}
 use Rattle.ae_outside.specs.Image.{Image, IsSame}
-use Rattle.ae_outside.specs.State.{DiskState, MayLeave, Continues, GoesOn}
+use Rattle.ae_outside.specs.State.{DiskState, MayLeave, Continues, GoesOn, reads}
 use Rattle.ae_types.specs.Observation.{Observation}
 use Rattle.ae_vault.specs.declared.entry.Entry.{Entry}
 use Rattle.ae_vault.specs.declared.piece.Piece.{Piece}
@@ -46,3 +46,10 @@ module _ (base made disk : DiskState) (batch : BatchRecord) (old : Option Observ
         let was = (opening made.moment later (omega arith)).each between.0 between.1 in
         (was.0, was.1, changed was.0 between.0 f was.2 between.2)
   ]
+
+-- once a batch is put, all of it is read
+pub commit-whole : (base made disk : DiskState) (batch : BatchRecord) (old : Option Observation) (next : Observation) → ((name : List ℕ) → content_of batch.entries name ≡ entry_for old next name)
+    → effective (reads made) ≡ effective (reads base) → IsAfterBatch batch (reads made) (reads disk) → FilesOver batch.pieces (with_records old next (effective (reads base))) (effective (reads disk))
+commit-whole base made disk batch old next are same after =
+    over-records batch.entries batch.pieces old next are (effective (reads base)) (effective (reads disk))
+    (subst (λ (a : Option Image). FilesOver batch.pieces (with_entries batch.entries a) (effective (reads disk))) same after.files)

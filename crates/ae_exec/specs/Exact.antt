@@ -1,7 +1,7 @@
 -- What a command changes of the files, exactly.
 use Rattle.std.specs.Prelude.{◌≡◌, ◌≤◌, ℕ, List, Option, Some, None, unwrap_or}
 use Rattle.ae_outside.specs.Image.{Image}
-use Rattle.ae_outside.specs.State.{DiskState, MayLeave}
+use Rattle.ae_outside.specs.State.{DiskState, MayLeave, reads}
 use Rattle.ae_types.specs.Observation.{Observation}
 use Rattle.ae_vault.specs.Pieces.{FilesOver}
 use Rattle.ae_vault.specs.declared.piece.Piece.{Piece}
@@ -37,3 +37,10 @@ abbrev pub IsExact : (base disk : DiskState) → Called → (shown : Image) → 
 IsExact base disk called shown =
     IsSettledNow base → (o : Option Observation) (bytes : ℕ → List ℕ) (events : List Event) (next : Observation) → Shows shown o bytes → answer_to o bytes called ≡ Accept events
     → next_of o events ≡ Some next → ChangesExactly base disk o next (pieces_of events)
+
+-- of a command that is accepted where the files stand all is read: each state file whose record differs, put, and the packed file
+-- with its pieces
+abbrev pub IsWhole : (base disk : DiskState) → Called → Type 0
+IsWhole base disk called =
+    (o : Option Observation) (bytes : ℕ → List ℕ) (events : List Event) (next : Observation) → Shows (reads base) o bytes → answer_to o bytes called ≡ Accept events
+    → next_of o events ≡ Some next → FilesOver (pieces_of events) (with_records o next (effective (reads base))) (effective (reads disk))

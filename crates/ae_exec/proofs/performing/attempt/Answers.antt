@@ -1,7 +1,10 @@
-use Rattle.std.proofs.Common.{rules, arith, refl, subst, List, Some}
+use Rattle.std.proofs.Common.{rules, arith, refl, subst, List, Some, Option, inl, inr}
 use Rattle.ae_vault.specs.declared.piece.Piece.{Piece}
-use Rattle.ae_exec.specs.Exact.{ChangesExactly}
-use Rattle.ae_exec.proofs.Exactly.{commit-exact}
+use Rattle.ae_exec.specs.Exact.{ChangesExactly, with_records}
+use Rattle.ae_outside.specs.State.{reads}
+use Rattle.ae_vault.specs.Pieces.{FilesOver}
+use Rattle.ae_vault.specs.Vault.{effective}
+use Rattle.ae_exec.proofs.Exactly.{commit-exact, commit-whole}
 use Rattle.ae_exec.proofs.Leaving.{open_still}
 use Rattle.ae_base.specs.declared.outcome.Outcome.TheVariants.{Done, DiskFault}
 use Rattle.ae_machine.specs.Accepted.{IsDecided}
@@ -12,7 +15,7 @@ use Rattle.ae_exec.specs.Stands.{StandsForLog}
 use Rattle.ae_exec.specs.Step.{step}
 use Rattle.ae_exec.specs.declared.stop.Stop.TheVariants as stop
 use Rattle.ae_exec.proofs.Attempting.{batch_entries, batch_pieces, risen_later, answered_before, site_before, accepted_at, said_at, left_at, takes, planned_before}
-use Rattle.ae_exec.proofs.Ended.{Opened, opened-exact, still-exact, opened-disk, still-disk, put-disk, opened-versions, still-versions, put-versions, stopped-performs, done-performs, disk_err, dirs_err, performs_err}
+use Rattle.ae_exec.proofs.Ended.{Opened, opened-exact, still-exact, opened-disk, still-disk, put-disk, opened-versions, still-versions, put-versions, still-opened, stopped-performs, done-performs, disk_err, dirs_err, performs_err}
 use Rattle.ae_exec.proofs.Endings.{ends_for, ends_err}
 use Rattle.ae_exec.proofs.OwnDirs.{leaves-still}
 use Rattle.ae_exec.proofs.Refining.{opened_still, stopped_refined, fault_refined, done_refined}
@@ -38,6 +41,7 @@ returns-in_err-open_store-clause-performs g c = λ tells seen.
     performs_err (g.D.Disk.state c.args.disk.now) (g.D.Disk.state c.open_store.new.disk) call _ c.in_err-open_store.field-0.0 (search rules) (stopped-performs (g.D.Disk.state c.args.disk.now) (g.D.Disk.state c.open_store.new.disk) call c.in_err-open_store.field-0.0
     (ends_for _ c.in_err-open_store.ensures.stopped (λ none. absurd none) (λ refusal none. absurd none) (λ name is. store (is tells)) (λ rose. tt) (λ none. absurd none))
     (opened-exact (g.D.Disk.state c.args.disk.now) (g.D.Disk.state c.open_store.new.disk) call opened)
+    (λ settled. inl (opened.any_moment settled))
     (λ held log is. (c.in_err-open_store.ensures.refined tells held log (step log call) is.holds is.stands, opened-versions (g.D.Disk.state c.args.disk.now) (g.D.Disk.state c.open_store.new.disk) held log opened is.holds)))
 
 -- ---- it was stopped before anything was put
@@ -61,6 +65,7 @@ returns-in_err-batch-clause-performs g c = λ tells seen.
     (λ name is. damaged_for_files _ _ call name (c.open_store.ensures.files tells) (is tells seen)) (λ rose. tt)
     (λ rose. site_before (g.D.Disk.state c.args.disk.now) (g.D.Disk.state c.open_store.new.disk) call (c.open_store.ensures.files tells) (rose.1 tells seen)))
     (still-exact (g.D.Disk.state c.args.disk.now) (g.D.Disk.state c.open_store.new.disk) (g.D.Disk.state c.make_plan.new.disk) call opened (c.make_plan.ensures.same tells))
+    (λ settled. inl (open_still (g.D.Disk.state c.args.disk.now) (g.D.Disk.state c.open_store.new.disk) (g.D.Disk.state c.make_plan.new.disk) opened.time.later (opened.any_moment settled) (c.make_plan.ensures.same tells)))
     (λ held log is. (
       stopped_refined StandsForLog by_files alike (g.D.Disk.state c.args.disk.now) (g.D.Disk.state c.make_plan.new.disk) held log (step log call) c.in_err-batch.field-0.0
           (opened_still StandsForLog by_files alike (g.D.Disk.state c.args.disk.now) (g.D.Disk.state c.open_store.new.disk) (g.D.Disk.state c.make_plan.new.disk) held log (c.in_ok-open_store.ensures.opened tells held log is.holds is.stands) (c.make_plan.ensures.same tells)),
@@ -91,6 +96,7 @@ returns-in_err-put_batch-clause-performs g c = λ tells seen.
     subst (λ (pieces : List Piece). ChangesExactly (g.D.Disk.state c.args.disk.now) (g.D.Disk.state c.put_batch.new.disk) x next pieces) (batch_pieces (g.D.Disk.state c.args.disk.now) _ o call _ _ _ plan read (tells, seen) x bytes events next shows answered follows)
     (commit-exact (g.D.Disk.state c.args.disk.now) (g.D.Disk.state c.make_plan.new.disk) (g.D.Disk.state c.put_batch.new.disk) _ x next (batch_entries (g.D.Disk.state c.args.disk.now) _ o call _ _ _ plan read (tells, seen) x bytes events next shows answered follows)
     (omega (arith, opened.time.later, (c.make_plan.ensures.same tells).time.later)) (open_still (g.D.Disk.state c.args.disk.now) (g.D.Disk.state c.open_store.new.disk) (g.D.Disk.state c.make_plan.new.disk) opened.time.later (opened.any_moment settled) (c.make_plan.ensures.same tells)) (c.put_batch.ensures.time tells) (c.put_batch.ensures.any_moment tells)))
+    (λ settled. inr (accepted_at (g.D.Disk.state c.args.disk.now) _ o call _ _ _ (planned_before _ _ _ o call _ _ _ (λ told. c.open_store.ensures.files tells) c.in_ok-batch.ensures.planned.2) (read_before (g.D.Disk.state c.args.disk.now) (g.D.Disk.state c.open_store.new.disk) o (c.open_store.ensures.files tells) (c.in_ok-batch.ensures.planned.1 tells)) (tells, seen)))
     (λ held log is.
     let plan = planned_before _ _ _ o call _ _ _ (λ told. c.open_store.ensures.files tells) c.in_ok-batch.ensures.planned.2 in
     let read = read_before (g.D.Disk.state c.args.disk.now) (g.D.Disk.state c.open_store.new.disk) o (c.open_store.ensures.files tells) (c.in_ok-batch.ensures.planned.1 tells) in
@@ -126,6 +132,12 @@ returns-clause-performs g c = λ tells seen.
     subst (λ (pieces : List Piece). ChangesExactly (g.D.Disk.state c.args.disk.now) (g.D.Disk.state c.put_batch.new.disk) x next pieces) (batch_pieces (g.D.Disk.state c.args.disk.now) _ o call _ _ _ plan read (tells, seen) x bytes events next shows answered follows)
     (commit-exact (g.D.Disk.state c.args.disk.now) (g.D.Disk.state c.make_plan.new.disk) (g.D.Disk.state c.put_batch.new.disk) _ x next (batch_entries (g.D.Disk.state c.args.disk.now) _ o call _ _ _ plan read (tells, seen) x bytes events next shows answered follows)
     (omega (arith, opened.time.later, (c.make_plan.ensures.same tells).time.later)) (open_still (g.D.Disk.state c.args.disk.now) (g.D.Disk.state c.open_store.new.disk) (g.D.Disk.state c.make_plan.new.disk) opened.time.later (opened.any_moment settled) (c.make_plan.ensures.same tells)) (c.put_batch.ensures.time tells) (c.put_batch.ensures.any_moment tells)))
+    (λ x bytes events next shows answered follows.
+    let plan = planned_before _ _ _ o call _ _ _ (λ told. c.open_store.ensures.files tells) c.in_ok-batch.ensures.planned.2 in
+    let read = read_before (g.D.Disk.state c.args.disk.now) (g.D.Disk.state c.open_store.new.disk) o (c.open_store.ensures.files tells) (c.in_ok-batch.ensures.planned.1 tells) in
+    subst (λ (pieces : List Piece). FilesOver pieces (with_records x next (effective (reads (g.D.Disk.state c.args.disk.now)))) (effective (reads (g.D.Disk.state c.put_batch.new.disk)))) (batch_pieces (g.D.Disk.state c.args.disk.now) _ o call _ _ _ plan read (tells, seen) x bytes events next shows answered follows)
+    (commit-whole (g.D.Disk.state c.args.disk.now) (g.D.Disk.state c.make_plan.new.disk) (g.D.Disk.state c.put_batch.new.disk) _ x next (batch_entries (g.D.Disk.state c.args.disk.now) _ o call _ _ _ plan read (tells, seen) x bytes events next shows answered follows)
+    (still-opened (g.D.Disk.state c.args.disk.now) (g.D.Disk.state c.open_store.new.disk) (g.D.Disk.state c.make_plan.new.disk) opened (c.make_plan.ensures.same tells)) (c.in_ok-put_batch.ensures.read tells)))
     (λ held log is.
     let plan = planned_before _ _ _ o call _ _ _ (λ told. c.open_store.ensures.files tells) c.in_ok-batch.ensures.planned.2 in
     let read = read_before (g.D.Disk.state c.args.disk.now) (g.D.Disk.state c.open_store.new.disk) o (c.open_store.ensures.files tells) (c.in_ok-batch.ensures.planned.1 tells) in
