@@ -15,7 +15,7 @@ fn not_understood(alloc: Global, place: u32) -> Result<Vec<u8>, AllocError>
     Ok(reply.into_bytes())
 }
 
-/// Writes all of it. A write that fails is not tried again.
+/// Writes all of it. A write that fails, or takes nothing, is not tried again (no clause says this of one that takes nothing).
 pub fn put_all<K: Sink>(sink: &mut K, bytes: &[u8]) -> Result<(), Failed>
     ensures all { OnOk result (K.tells → K.taken sink.new ≡ K.taken sink.old ++ bytes.now) }
     ensures part { K.tells → TakesPrefix (K.taken sink.old) (K.taken sink.new) bytes.now }
