@@ -22,6 +22,3 @@ pub use check::{blamed, state_of};
 pub use error::CheckError;
 pub use files_alone::files_are_good;
 pub use project_alone::project_is_good;
-
-#[cfg(test)]
-mod tests;

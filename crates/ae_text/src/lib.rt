@@ -16,8 +16,3 @@ pub use lines::LineList;
 pub use print::print_tree;
 pub use read::{Parsed, TextError, read_tree};
 pub use tree::{Field, FieldList, Tree, TreeList};
-
-#[cfg(test)]
-mod cases;
-#[cfg(test)]
-mod tests;

@@ -18,6 +18,3 @@ pub use error::VaultError;
 pub use names::{are_entries, no_entry_is_pack};
 pub use piece::{Piece, PieceList, are_pieces};
 pub use vault::Vault;
-
-#[cfg(test)]
-mod tests;

@@ -13,8 +13,3 @@ pub use numbers::NumberList;
 pub use read::{WordsError, read_words, words_have_one_answer};
 pub use spelling::matches_option;
 pub use table::{Function, Listing, Row, Setting};
-
-#[cfg(test)]
-mod cases;
-#[cfg(test)]
-mod tests;
