@@ -27,8 +27,9 @@ use Rattle.ae_types.proofs.TreePaths.{stands}
 use Rattle.ae_machine.specs.Filing.{are_clear}
 use Rattle.ae_machine.specs.LeastClash.{file_folder, folder_in, least_folder, least_from, lesser, path_in, row_folder, rows_folder, standing_path}
 use Rattle.ae_machine.specs.Paths.{no_clash, paths_with}
+use Rattle.ae_machine.specs.Rules.{there_by}
 use Rattle.ae_machine.proofs.LeastClash.{NoneBelow, clash-none, least-clash}
-use Rattle.ae_machine.proofs.PathsThere.{paths-there, there_by}
+use Rattle.ae_machine.proofs.PathsThere.{paths-there}
 use Rattle.ae_machine.proofs.PathsUp.{paths-with-up}
 
 -- ---- at most

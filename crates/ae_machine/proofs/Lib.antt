@@ -39,3 +39,4 @@ mod PathsUp
 mod InFolder
 mod PathClash
 mod ClashingPaths
+mod ByRule

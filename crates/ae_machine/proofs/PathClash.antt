@@ -30,13 +30,14 @@ use Rattle.ae_machine.specs.Filing.{are_clear, are_few, asked_behind}
 use Rattle.ae_machine.specs.LeastClash.{folder_in, row_stays}
 use Rattle.ae_machine.specs.PathClash.{IsClearBut, any_in_folder, asks_for_clashes, file_stays, from_folder, holds_paths, path_clash, place_to}
 use Rattle.ae_machine.specs.Paths.{file_made, files_with, paths_with}
+use Rattle.ae_machine.specs.Rules.{there_by}
 use Rattle.ae_machine.proofs.AcceptedIntegration.{none-clash}
 use Rattle.ae_machine.proofs.AcceptedPaths.{IsOwn}
 use Rattle.ae_machine.proofs.ClashingPaths.{FromFile, FromRow, file-path, first-is, first-none, folders-up, row-path, source}
 use Rattle.ae_machine.proofs.InFolder.{folder-any, folder-place, inside, place-folder}
 use Rattle.ae_machine.proofs.LeastClash.{clash-none, folder-less, least-clash}
 use Rattle.ae_machine.proofs.PathSplits.{set-ascends}
-use Rattle.ae_machine.proofs.PathsThere.{paths-there, there_by}
+use Rattle.ae_machine.proofs.PathsThere.{paths-there}
 use Rattle.ae_machine.proofs.PathsUp.{paths-with-up}
 use Rattle.ae_machine.proofs.ReversedPaths.{at-without}
 

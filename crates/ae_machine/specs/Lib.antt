@@ -23,3 +23,4 @@ pub mod Filing
 pub mod LeastClash
 pub mod Typed
 pub mod PathClash
+pub mod Rules

@@ -20,7 +20,7 @@ pub use deciding::{decide, decide_rest};
 pub use directories::{DirChange, DirChangeList, FileList};
 pub use laws::{
     accepted_events_apply, accepted_events_follow, commands_are_reversed, legal_logs_are_provided,
-    legal_logs_are_sound, legal_logs_have_facts, note_refused_before,
+    legal_logs_are_sound, legal_logs_have_facts, note_refused_before, trees_are_by_rules,
 };
 pub use refusing::before;
 pub use there::is_there_yet;
