@@ -13,15 +13,19 @@ import tempfile
 MADE = 'aegis: project "demo": '
 NO_PROJECT = "aegis: 1: there is no project\n"
 DISK_FAULT = "aegis: disk fault\n"
+# Whether it is known that no process can be traced here; what needs that is then left out.
+WITHOUT_TRACE = os.environ.get("AEGIS_WITHOUT_TRACE") == "1"
 
 # The numbers of system calls.
 WRITE, PREAD, PWRITE, FLOCK, FSYNC, FDATASYNC, FTRUNCATE = 1, 17, 18, 73, 74, 75, 77
 MKDIR, GETDENTS, OPENAT, STATX = 83, 217, 257, 332
-WATCHED = {WRITE, PREAD, PWRITE, FLOCK, FSYNC, FDATASYNC, FTRUNCATE, MKDIR, GETDENTS, OPENAT, STATX}
+# What a write to standard error counts as, which is that of the reply; no system call has this number.
+REPLY = 10000
+WATCHED = {WRITE, PREAD, PWRITE, FLOCK, FSYNC, FDATASYNC, FTRUNCATE, MKDIR, GETDENTS, OPENAT, STATX, REPLY}
 
 TRACEME, PEEKUSER, POKEUSER, SYSCALL, SETOPTIONS = 0, 3, 6, 24, 0x4200
 SEES_CALLS_ENDS_WITH_TRACER = 0x00100001
-NUMBER, ANSWER = 15 * 8, 10 * 8
+NUMBER, ANSWER, FIRST_WORD = 15 * 8, 10 * 8, 14 * 8
 STOP = object()
 
 ptrace = ctypes.CDLL(None, use_errno=True).ptrace
@@ -50,13 +54,16 @@ def has_project(program, top):
 
 
 def can_trace():
-    """Whether a process may be traced here; some containers refuse it. Says so where it may not be."""
+    """Whether a process may be traced here; some containers refuse it. Says so where it may not be.
+
+    A script that needs it then fails, unless the environment has AEGIS_WITHOUT_TRACE=1.
+    """
     child = os.fork()
     if child == 0:
         os._exit(0 if ptrace(TRACEME, 0, None, None) == 0 else 1)
     if os.waitstatus_to_exitcode(os.waitpid(child, 0)[1]) == 0:
         return True
-    print("a process can't be traced here, so what needs that isn't run")
+    print("a process can't be traced here, so what needs that isn't run", file=sys.stderr)
     return False
 
 
@@ -90,6 +97,12 @@ def finish_call(child, failure):
     return status
 
 
+def call_of(child):
+    """The number of the system call at which the child stands."""
+    number = ptrace(PEEKUSER, child, NUMBER, None)
+    return REPLY if number == WRITE and ptrace(PEEKUSER, child, FIRST_WORD, None) == 2 else number
+
+
 def follow(child, watch):
     """Follows a child to its end. `watch` is asked at each watched call from the first STATX on."""
     status = os.waitpid(child, 0)[1]
@@ -99,7 +112,7 @@ def follow(child, watch):
     count = 0
     status = one_call(child)
     while os.WIFSTOPPED(status):
-        number = ptrace(PEEKUSER, child, NUMBER, None)
+        number = call_of(child)
         failure = None
         if number in WATCHED and (count or number == STATX):
             count += 1
