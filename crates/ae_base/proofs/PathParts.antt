@@ -29,7 +29,7 @@ parts-cut (b ∷ bs) lt =
       | false ↦ λ h. ap (before_first_part b) (parts-cut bs (omega (arith, h))) ∙ sym (λ i. take (one i) (b ∷ bs) ∷ parts (drop (two i) (b ∷ bs)))
     ] lt
 
--- where the first `/` stands, the text falls into the part before it and the parts behind it
+-- where the first `/` stands, the text falls into the part before it and the parts after it
 pub parts_good-cut : (text : List ℕ) (at : ℕ) → position is_slash text ≡ Some at → list_all is_part (parts text) ≡ (is_part (take at text) && list_all is_part (parts (drop (at + 1) text)))
 parts_good-cut text at e = elim (cases_lt (prefix_len no_slash text) (length text)) [
   | inl lt ↦
@@ -61,7 +61,7 @@ parts_good-whole text e = elim (cases_lt (prefix_len no_slash text) (length text
   | inr le ↦ ap (list_all is_part) (parts-whole text (omega (arith, fits_all text))) ∙ and_true (is_part text)
 ]
 
--- a path goes through a folder exactly where it begins with it and `/` stands behind
+-- a path goes through a folder exactly where it begins with it and `/` stands after
 pub below_rest : (path folder rest : List ℕ) (r : Bool) → path ≡ folder ++ rest → (IsTrue r ↔ BeginsWithSlash rest) → IsTrue r ↔ IsFolderOf folder path
 below_rest path folder rest r is slash = (
   λ yes. let more = slash.0 yes in (more.0, is ∙ ap (λ (l : List ℕ). folder ++ l) more.1),

@@ -23,7 +23,7 @@ first_of : (a b : Bool) → (not a && b) ≡ true → (a ≡ false) × (b ≡ tr
 first_of true b e = absurd (cc e)
 first_of false b e = (refl, e)
 
--- a word that stands behind isn't the first
+-- a word that stands after isn't the first
 absent : {A : Type 0} (word : A → List ℕ) (x : A) (w : List ℕ) (ys : List A) → list_any (bytes_eq w) (map word ys) ≡ false → Stands x ys → w ≡ word x → ⊥
 absent word x w [] none stands same = stands
 absent word x w (y ∷ ys) none stands same =

@@ -2,6 +2,7 @@
 use Rattle.std.specs.Prelude.{ℕ, List, [], ◌∷◌, ◌++◌, Bool, false, not, ◌==◌, ◌&&◌, ◌||◌, ◌⊎◌, ◌≡◌, if◌then◌else◌, nat_le, length, codes, IsTrue}
 use Rattle.std.specs.List.{list_all}
 use Rattle.std.specs.Str.{bytes_eq}
+use Rattle.ae_base.specs.Bytes.{dash, dot, plus, slash, underscore}
 
 -- `a` to `z`
 abbrev pub is_lower : ℕ → Bool
@@ -20,20 +21,20 @@ is_letter b = is_lower b || is_upper b
 
 -- `a-z0-9_.-`
 abbrev pub is_user_byte : ℕ → Bool
-is_user_byte b = is_lower b || is_digit b || (b == 95) || (b == 46) || (b == 45)
+is_user_byte b = is_lower b || is_digit b || (b == underscore) || (b == dot) || (b == dash)
 
 -- `A-Za-z0-9._-`
 abbrev pub is_name_byte : ℕ → Bool
-is_name_byte b = is_letter b || is_digit b || (b == 46) || (b == 95) || (b == 45)
+is_name_byte b = is_letter b || is_digit b || (b == dot) || (b == underscore) || (b == dash)
 
 -- `A-Za-z0-9._+-`
 abbrev pub is_path_byte : ℕ → Bool
-is_path_byte b = is_name_byte b || (b == 43)
+is_path_byte b = is_name_byte b || (b == plus)
 
 -- 1 to 32 bytes, the first a small letter or `_`
 abbrev pub is_user : List ℕ → Bool
 is_user [] = false
-is_user (b ∷ bs) = (is_lower b || (b == 95)) && nat_le (length bs) 31 && list_all is_user_byte bs
+is_user (b ∷ bs) = (is_lower b || (b == underscore)) && nat_le (length bs) 31 && list_all is_user_byte bs
 
 -- 1 to 64 bytes, the first a letter
 abbrev pub is_project_name : List ℕ → Bool
@@ -41,7 +42,7 @@ is_project_name [] = false
 is_project_name (b ∷ bs) = is_letter b && nat_le (length bs) 63 && list_all is_name_byte bs
 
 abbrev pub is_slash : ℕ → Bool
-is_slash b = b == 47
+is_slash b = b == slash
 
 -- a byte put before the first of these texts
 abbrev pub before_first_part : ℕ → List (List ℕ) → List (List ℕ)
@@ -59,7 +60,7 @@ is_part part = not (length part == 0) && not (bytes_eq part (codes ".")) && not 
 
 abbrev pub starts_with_dash : List ℕ → Bool
 starts_with_dash [] = false
-starts_with_dash (b ∷ bs) = b == 45
+starts_with_dash (b ∷ bs) = b == dash
 
 -- at most 255 bytes of parts that are good, neither beginning with `-` nor `aegis.log`
 abbrev pub is_path : List ℕ → Bool
@@ -68,11 +69,11 @@ is_path text =
     && nat_le (length text) 255 && list_all is_part (parts text)
 
 abbrev pub BeginsWithSlash : List ℕ → Type 0
-BeginsWithSlash text = (rest : List ℕ) × (text ≡ 47 ∷ rest)
+BeginsWithSlash text = (rest : List ℕ) × (text ≡ slash ∷ rest)
 
 -- the first is a folder on the way to the second
 abbrev pub IsFolderOf : List ℕ → List ℕ → Type 0
-IsFolderOf folder path = (rest : List ℕ) × (path ≡ folder ++ 47 ∷ rest)
+IsFolderOf folder path = (rest : List ℕ) × (path ≡ folder ++ slash ∷ rest)
 
 -- one of the two is the other followed by `/` and more
 abbrev pub Clash : List ℕ → List ℕ → Type 0

@@ -1,5 +1,6 @@
 -- The numbers that texts of decimal digits write.
 use Rattle.std.specs.Prelude.{ℕ, ◌+◌, ◌*◌, ◌-◌, List, [], ◌∷◌, ◌&&◌, if◌then◌else◌, nat_le, length, Option, Some, None}
+use Rattle.ae_base.specs.Limits.{most_deltas}
 use Rattle.ae_base.specs.Names.{is_digit}
 
 -- the number that goes on from n by these digits, where it ends below 2 ^ 64
@@ -23,4 +24,4 @@ change_number = number_within 10 10 1999
 
 -- a delta's number: 0 to 1990
 abbrev pub delta_number : List ℕ → Option ℕ
-delta_number = number_within 10 0 1990
+delta_number = number_within 10 0 most_deltas

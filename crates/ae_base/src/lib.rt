@@ -1,6 +1,7 @@
 //! Names, numbers, words, refusals and outcomes: what every crate speaks of.
 #![tactic(auto)]
 
+pub mod limits;
 mod lists;
 mod name_bytes;
 mod numbers;

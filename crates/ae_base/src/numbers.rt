@@ -1,7 +1,9 @@
 // The numbers of changes and deltas.
 ghost use Rattle.std.specs.Prelude.{◌≡◌, ◌≤◌};
+ghost use Rattle.ae_base.specs.Limits.{most_deltas};
 ghost use Rattle.ae_base.specs.Numbers.{number_from, number_within, change_number, delta_number};
 
+use crate::limits::MOST_DELTAS;
 use crate::name_bytes::is_digit_byte;
 use std::fmt;
 use std::marker::Model;
@@ -70,6 +72,7 @@ impl ChangeNo {
         ChangeNo { number }
     }
 
+    /// The number.
     pub fn number(self) -> u16
         ensures value { result ≡ self }
         ensures low { 10 ≤ self }
@@ -86,13 +89,14 @@ pub struct Delta {
 }
 
 impl Model for Delta {
+    ghost use Rattle.ae_base.specs.Limits.{most_deltas};
     ghost use Rattle.std.specs.Prelude.{ℕ, ◌≤◌};
 
     ghost Value = { ℕ };
 
     ghost view = { λ a. a.number };
 
-    ghost invariant = { λ a. a.number ≤ 1990 };
+    ghost invariant = { λ a. a.number ≤ most_deltas };
 
     ghost inverse = { λ n. record { number = n } };
 }
@@ -102,8 +106,8 @@ impl Delta {
     pub fn read(text: &[u8]) -> Option<Delta>
         ensures { result ≡ delta_number text.now }
     {
-        let n = read_number(10, 0, 1990, text)?;
-        if n <= 1990 {
+        let n = read_number(10, 0, MOST_DELTAS as u64, text)?;
+        if n <= MOST_DELTAS as u64 {
             Some(Delta { number: n as u16 })
         } else {
             None
@@ -112,15 +116,16 @@ impl Delta {
 
     /// The delta's number that this number is.
     pub fn of(number: u16) -> Delta
-        requires { number ≤ 1990 }
+        requires { number ≤ most_deltas }
         ensures { result ≡ number }
     {
         Delta { number }
     }
 
+    /// The number.
     pub fn number(self) -> u16
         ensures value { result ≡ self }
-        ensures high { self ≤ 1990 }
+        ensures high { self ≤ most_deltas }
     {
         self.number
     }

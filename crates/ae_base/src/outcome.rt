@@ -27,7 +27,7 @@ pub enum Outcome {
     SourceFault,
     /// This file of the store is damaged.
     Damaged(Text),
-    /// Memory was wanting; nothing is changed.
+    /// Out of memory; nothing is changed.
     Memory,
 }
 

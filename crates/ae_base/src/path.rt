@@ -129,6 +129,7 @@ impl Path {
         }
     }
 
+    /// Its bytes.
     pub fn bytes(&self) -> &[u8]
         ensures value { result.now ≡ self.now }
         ensures path { IsPath self.now }

@@ -71,6 +71,7 @@ impl ProjectName {
         }
     }
 
+    /// Its bytes.
     pub fn bytes(&self) -> &[u8]
         ensures value { result.now ≡ self.now }
         ensures name { IsProjectName self.now }

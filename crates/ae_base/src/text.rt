@@ -46,6 +46,7 @@ impl Text {
         Ok(Text { bytes })
     }
 
+    /// Its bytes.
     pub fn bytes(&self) -> &[u8]
         ensures value { result.now ≡ self.now }
         ensures bytes { AreBytes self.now }

@@ -74,6 +74,7 @@ impl User {
         }
     }
 
+    /// Its bytes.
     pub fn bytes(&self) -> &[u8]
         ensures value { result.now ≡ self.now }
         ensures user { IsUser self.now }

@@ -46,12 +46,14 @@ impl UserSet {
         Ok(set)
     }
 
+    /// How many users it has.
     pub fn len(&self) -> usize
         ensures { result ≡ length self.now }
     {
         self.users.len()
     }
 
+    /// Whether the user is one of them.
     pub fn contains(&self, user: &User) -> bool
         ensures { IsTrue result ↔ Contains self.now user.now }
     {

@@ -1,7 +1,10 @@
 // The words of the records: each is read and written in one way.
 ghost use Rattle.std.specs.Prelude.{◌≡◌, ◌↔◌, Some, find};
 ghost use Rattle.std.specs.Str.{bytes_eq};
+ghost use Rattle.ae_base.specs.Limits.{most_of};
 ghost use Rattle.ae_base.specs.Words.{phase_word, phases, role_word, roles, action_word, actions, usage_word, usages, cause_word, causes, ground_word, grounds, kind_word, kinds, what_word, events_of_history, which_word, limits};
+
+use crate::limits;
 
 /// The phase of a change.
 #[derive(Clone, Copy, Debug, PartialEq, Eq)]
@@ -443,6 +446,25 @@ impl Which {
             Which::Deltas => "deltas",
             Which::Versions => "versions",
             Which::HistoryRows => "history_rows",
+        }
+    }
+
+    /// The most that it allows, which a refusal by it tells.
+    pub fn most(self) -> u64
+        ensures { result ≡ most_of self }
+    {
+        match self {
+            Which::FileBytes => limits::MOST_FILE_BYTES as u64,
+            Which::AttributeBytes => limits::MOST_ATTRIBUTE_BYTES as u64,
+            Which::FrozenBytes => limits::MOST_FROZEN_BYTES as u64,
+            Which::ChangeFiles => limits::MOST_CHANGE_FILES as u64,
+            Which::ProjectFiles => limits::MOST_PROJECT_FILES as u64,
+            Which::ProjectTests => limits::MOST_PROJECT_TESTS as u64,
+            Which::RoleUsers => limits::MOST_ROLE_USERS as u64,
+            Which::Changes => limits::MOST_CHANGES as u64,
+            Which::Deltas => limits::MOST_DELTAS as u64,
+            Which::Versions => limits::MOST_VERSIONS,
+            Which::HistoryRows => limits::MOST_HISTORY_ROWS as u64,
         }
     }
 

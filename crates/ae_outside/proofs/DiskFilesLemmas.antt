@@ -58,7 +58,7 @@ pub put_over : (name bytes : List ℕ) (d : File) (files : List File) → place_
     → bytes_of (set files (place_of name files) (record { name = (get_or files (place_of name files) d).name; bytes = bytes })) ≡ with_file name (λ _. bytes) (bytes_of files)
 put_over name bytes d files lt i other = put_over_at name bytes d files other lt i
 
--- behind the others, where none has the name
+-- after the others, where none has the name
 pub put_behind : (name bytes : List ℕ) (files : List File) → length files ≤ place_of name files
     → bytes_of (files ++ record { name = name; bytes = bytes } ∷ []) ≡ with_file name (λ _. bytes) (bytes_of files)
 put_behind name bytes files le i other = put_behind_at name bytes files other le i

@@ -139,7 +139,7 @@ new_from : (log : List Logged) (read left : Image) → left ≡ read → picked_
 new_from [] read left is = is
 new_from (entry ∷ log) read left is = new_from log (applied entry.change read) (left_after New entry.change read left) (ap (left_after New entry.change read) is ∙ new_after entry.change read)
 
--- what is left by the pick behind the first calls
+-- what is left by the pick after the first calls
 picked_image : (pick : Pick) (calls : ℕ) (disk : DiskRecord) → (state_of disk).image_at (moment_behind calls disk) (picked_behind pick calls disk)
 unfolding state_from
 picked_image pick calls disk = picked_left pick (bytes_of disk.initial) (changes_by calls disk.log)

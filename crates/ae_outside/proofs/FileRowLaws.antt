@@ -1,9 +1,10 @@
 -- Rows of files taken away and put.
-use Rattle.std.specs.Prelude.{◌≡◌, ◌≢◌, ℕ, Bool, true, false, ◌&&◌, not, if◌then◌else◌, List, [], ◌∷◌, ◌++◌, filter, Option, Some, None, refl}
-use Rattle.std.proofs.Common.{inl, inr, sym, ◌∙◌, ap, subst}
+use Rattle.std.specs.Prelude.{◌≡◌, ◌≢◌, ℕ, suc, ◌<◌, length, get_or, IfSome, Bool, true, false, ◌&&◌, not, if◌then◌else◌, List, [], ◌∷◌, ◌++◌, filter, Option, Some, None, refl}
+use Rattle.std.proofs.Common.{arith, inl, inr, sym, ◌∙◌, ap, subst}
 use Rattle.std.specs.Str.{bytes_eq}
 use Rattle.std.proofs.lemmas.Slice.Eq.{bytes_eq-Decides}
 use Rattle.std.proofs.lemmas.Bool.Decides.{Decides-eqb}
+use Rattle.ae_base.specs.Bytes.{AreBytes}
 use Rattle.ae_outside.specs.Trees.{Tree, no_files, with_file}
 use Rattle.ae_outside.specs.TreeLaws.{bool_cases, tree_ext}
 use Rattle.ae_outside.specs.FileRows.{dir_eq, is_at, bytes_after, tree_of, ElsewhereSame, with_row}
@@ -65,10 +66,6 @@ filter_gone p d q drops before (f ∷ fs) = elim (bool_cases (p f)) [
 both_true : (a b : Bool) → (a && b) ≡ true → (a ≡ true) × (b ≡ true)
 both_true true b h = (refl, h)
 both_true false b h = cc
-
-and_is : (a b : Bool) → a ≡ true → b ≡ true → (a && b) ≡ true
-and_is true b p q = q
-and_is false b p q = cc
 
 not_when : (b : Bool) → b ≡ true → not b ≡ false
 not_when true h = refl
@@ -139,9 +136,6 @@ file_put fs f = tree_ext _ _ (λ q. push_after None fs f f.dir q ∙ ap (λ (b :
 pub put_elsewhere : (fs : List FileRow) (f : FileRow) (d : Dir) → d ≢ f.dir → tree_of (fs ++ f ∷ []) d ≡ tree_of fs d
 put_elsewhere fs f d differ = tree_ext _ _ (λ q. push_after None fs f d q ∙ ap (λ (b : Bool). if b then Some f.bytes else tree_of fs d q) (and_false _ _ (dir_differs f.dir d differ)))
 
-pub elsewhere_refl : (dir : Dir) (s : Dir → Tree) → ElsewhereSame dir s s
-elsewhere_refl dir s = record { others = λ d differ. refl }
-
 pub elsewhere_then : (dir : Dir) (s t u : Dir → Tree) → ElsewhereSame dir s t → ElsewhereSame dir t u → ElsewhereSame dir s u
 elsewhere_then dir s t u first second = record { others = λ d differ. second.others d differ ∙ first.others d differ }
 
@@ -152,3 +146,14 @@ tree_push fs f dir = elim (bool_cases (dir_eq f.dir dir)) [
   | inr differs ↦ tree_ext _ _ (λ q. push_after None fs f dir q ∙ ap (λ (b : Bool). if b then Some f.bytes else tree_of fs dir q) (and_false _ _ differs))
       ∙ ap (λ (b : Bool). if b then with_file f.path (Some f.bytes) (tree_of fs dir) else tree_of fs dir) (sym differs)
 ]
+
+-- ---- bytes
+
+-- where each row holds bytes, each file does
+pub rows_hold : (rows : List FileRow) → ((k : ℕ) (d : FileRow) → k < length rows → AreBytes (get_or rows k d).bytes) → (before : Option (List ℕ)) → IfSome before AreBytes → (dir : Dir) (path : List ℕ) → IfSome (bytes_after before rows dir path) AreBytes
+rows_hold [] all before holds dir path = holds
+rows_hold (row ∷ rows) all before holds dir path = rows_hold rows (λ k d lt. all (suc k) d (omega (arith, lt))) (if is_at dir path row then Some row.bytes else before) (one (is_at dir path row)) dir path
+  where
+    one : (b : Bool) → IfSome (if b then Some row.bytes else before) AreBytes
+    one true = all 0 row (omega arith)
+    one false = holds

@@ -1,4 +1,4 @@
--- A piece, and what is left behind it.
+-- A piece, and what is left after it.
 use Rattle.std.proofs.Common.{◌≡◌, ℕ, ◌+◌, ◌++◌, List, take, drop}
 use Rattle.std.proofs.lemmas.List.{take-append-drop, drop-drop}
 

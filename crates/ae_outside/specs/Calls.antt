@@ -9,7 +9,7 @@ pub record Counts : Type 0 where
   pub failed : ℕ
   pub starved : ℕ
 
--- One call more. It failed exactly where its number is listed or it found no memory, and is counted then; want of memory
+-- One call more. It failed exactly where its number is listed or it found no memory, and is counted then; running out of memory
 -- is counted besides.
 pub record IsCall (old new : Counts) (Fault : Type 0) : Type 0 where
   pub listed_stay : new.fails ≡ old.fails

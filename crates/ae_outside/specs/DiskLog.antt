@@ -6,7 +6,7 @@ use Rattle.ae_outside.specs.declared.memory.disk_log.Change.TheVariants.{Write, 
 use Rattle.ae_outside.specs.declared.memory.disk_log.Logged.{Logged}
 use Rattle.ae_outside.specs.Image.{Image, with_file, WriteBegun, CutBegun}
 
--- a file with these bytes at this offset; nothing is put behind its end
+-- a file with these bytes at this offset; nothing is put after its end
 abbrev pub overwritten : ℕ → List ℕ → List ℕ → List ℕ
 overwritten at bytes old = if nat_le at (length old) then take at old ++ bytes ++ drop (at + length bytes) old else old
 

@@ -32,7 +32,7 @@ torn_take at n s t old new le t_is torn = record {
   no_longer = omega (arith, length-take t new, length-take s old, torn.no_longer);
 }
 
--- a write behind the end, which is none
+-- a write after the end, which is none
 torn_past : (at n s : ℕ) (old new : List ℕ) → s < at → IsTorn at n old new → IsTorn at n (take s old) (take s new)
 torn_past at n s old new lt torn =
     let same : take s new ≡ take s old = sym (take_min s at new (omega arith)) ∙ ap (take s) torn.before ∙ take_min s at old (omega arith) in

@@ -59,7 +59,7 @@ state_from start log = record {
 abbrev pub state_of : DiskRecord → DiskState
 state_of disk = state_from (bytes_of disk.initial) disk.log
 
--- the moment behind the first so many calls
+-- the moment after the first so many calls
 abbrev pub moment_behind : ℕ → DiskRecord → ℕ
 moment_behind calls disk = changes_behind calls disk.log
 

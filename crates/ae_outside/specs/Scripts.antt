@@ -18,13 +18,13 @@ without_paths paths tree = steps_over (λ path. with_file path None) paths tree
 abbrev pub run_over : MemRun → Tree → Tree
 run_over run tree = without_paths run.removes (with_snapshots run.writes tree)
 
--- the answer of the run at this place, and 0 behind the last
+-- the answer of the run at this place, and 0 after the last
 abbrev pub exit_of : List MemRun → ℕ → Exit
 exit_of [] n = Code 0
 exit_of (run ∷ runs) zero = run.exit
 exit_of (run ∷ runs) (suc n) = exit_of runs n
 
--- what the run at this place makes of its directory; behind the last one nothing is changed
+-- what the run at this place makes of its directory; after the last one nothing is changed
 abbrev pub after_of : List MemRun → ℕ → Tree → Tree
 after_of [] n tree = tree
 after_of (run ∷ runs) zero tree = run_over run tree

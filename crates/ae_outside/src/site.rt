@@ -2,7 +2,7 @@
 ghost use Rattle.std.specs.Prelude.{◌≡◌, ℕ, ◌∷◌, ◌++◌, [], Some, None, IfOk, OnOk, OnErr, IsErrOf};
 ghost use Rattle.ae_outside.specs.Causes.{Counted, HasCause};
 ghost use Rattle.ae_outside.specs.Trees.{no_files, with_file};
-ghost use Rattle.ae_outside.specs.Site.{SiteState, ChangesOnly, content_within, run_made};
+ghost use Rattle.ae_outside.specs.Site.{SiteState, ChangesOnly, content_within, run_made, HoldsBytes};
 
 use crate::{Content, Dir, Exit, Failed, SiteError};
 use ae_base::Path;
@@ -18,6 +18,10 @@ pub trait Site {
 
     /// How often it has failed.
     ghost faults: { Self → ℕ };
+
+    /// A law: what its files hold are bytes.
+    fn note_bytes(&self)
+        ensures bytes { tells → HoldsBytes (state self.now) };
 
     /// Reads a file of at most so many bytes.
     fn read(

@@ -5,13 +5,12 @@ ghost use Rattle.ae_policy.specs.Changed.{after_adding, after_dropping};
 ghost use Rattle.ae_policy.specs.Answers.{IsAnswer};
 
 use crate::PolicyError;
+use ae_base::limits::MOST_ROLE_USERS;
 use ae_base::{Refusal, Role, User, UserSet, Which};
 use ae_types::Project;
 use std::alloc::Global;
 
 // How many users a role may have.
-const MOST_USERS: usize = 256;
-
 // The users of the role.
 fn users_in(project: &Project, role: Role) -> &UserSet
     ensures { result.now ≡ users_of role project.now }
@@ -40,8 +39,8 @@ pub fn add_user(project: &mut Project, role: Role, user: User) -> Result<(), Pol
     if has_role(project, role, &user) {
         return Err(PolicyError::Refused(Refusal::UserThere(user)));
     }
-    if users_in(project, role).len() >= MOST_USERS {
-        return Err(PolicyError::Refused(Refusal::Limit(Which::RoleUsers, 256)));
+    if users_in(project, role).len() >= MOST_ROLE_USERS {
+        return Err(PolicyError::Refused(Refusal::Limit(Which::RoleUsers, MOST_ROLE_USERS as u64)));
     }
     match role {
         Role::Administrator => project.administrators.insert(user)?,

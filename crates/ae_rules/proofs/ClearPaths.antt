@@ -62,9 +62,6 @@ abbrev pub folders_from : List ℕ → List ℕ → List (List ℕ)
 folders_from front [] = []
 folders_from front (b ∷ bs) = (if is_slash b then front ∷ [] else []) ++ folders_from (front ++ b ∷ []) bs
 
-all-append : (t : List ℕ → Bool) (xs ys : List (List ℕ)) → list_all t (xs ++ ys) ≡ (list_all t xs && list_all t ys)
-all-append t xs ys = Rattle.std.proofs.lemmas.List.Folds.list_all-append t xs ys
-
 from-front : (front path : List ℕ) (t : List ℕ → Bool) → list_all t (map (λ folder. front ++ folder) (folders_of path)) ≡ list_all t (folders_from front path)
 from-front front [] t = refl
 from-front front (b ∷ bs) t = go (is_slash b) (from-front (front ++ b ∷ []) bs t)

@@ -1,4 +1,3 @@
-pub mod Adjacent
 pub mod ClearPaths
 pub mod ChangesGiven
 pub mod Sorting

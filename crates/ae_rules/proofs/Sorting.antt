@@ -9,7 +9,7 @@ use Rattle.ae_types.specs.Versions.{no_two}
 use Rattle.ae_types.proofs.BinarySearch.{in-place, place-in}
 use Rattle.ae_types.proofs.Members.{In, any-in, in-any, all-in, in-all}
 use Rattle.ae_types.proofs.Splits.{never, and2, is-false, is-not, not-is, same-true}
-use Rattle.ae_rules.proofs.Adjacent.{each_next}
+use Rattle.ae_types.proofs.Adjacent.{each_next}
 
 eqb-false : (m n : ℕ) → nat_eq m n ≡ false → m ≡ n → ⊥
 eqb-false m n e is = Rattle.std.proofs.lemmas.Bool.eqb-false m n e is

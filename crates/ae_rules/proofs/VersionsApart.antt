@@ -11,7 +11,7 @@ use Rattle.ae_types.specs.Versions.{has_units, end_of, meet, same_number, no_two
 use Rattle.ae_types.proofs.RulesTogether.{same_number-swaps, meet-swaps}
 use Rattle.ae_types.proofs.Members.{in-all}
 use Rattle.ae_types.proofs.Splits.{never, and4, is-false, below, is-below, most, is-most}
-use Rattle.ae_rules.proofs.Adjacent.{each_next}
+use Rattle.ae_types.proofs.Adjacent.{each_next}
 use Rattle.ae_rules.proofs.Sorting.{sorted-tells}
 
 abbrev pub version_number : VersionRef → ℕ

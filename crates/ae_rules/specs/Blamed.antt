@@ -7,7 +7,7 @@ use Rattle.ae_types.specs.declared.blame.Blame.TheVariants as blame
 use Rattle.ae_types.specs.Observation.{Observation}
 use Rattle.ae_types.specs.Ordered.{Ascends, itself}
 use Rattle.ae_types.specs.Found.{lock_path, number_of_delta}
-use Rattle.ae_types.specs.Trees.{text_cmp}
+use Rattle.ae_base.specs.Rows.{text_cmp}
 use Rattle.ae_types.specs.Rules.{blame_unless, project_fits_changes, files_fit_changes}
 use Rattle.ae_types.specs.Sound.{AreRows, AreChanges}
 use Rattle.ae_rules.specs.declared.error.CheckError.{CheckError}
@@ -28,7 +28,7 @@ pub record IsReadable (o : Observation) : Type 0 where
 abbrev pub blamed_beside : Observation → Option Blame
 blamed_beside o = option_or (blame_unless (project_fits_changes o) blame.Project) (blame_unless (files_fit_changes o) blame.Files)
 
--- the file that it names is the one that is blamed first; want of memory says nothing
+-- the file that it names is the one that is blamed first; running out of memory says nothing
 abbrev pub Names : CheckError → Option Blame → Type 0
 Names (Blamed file) first = first ≡ Some file
 Names Memory first = Unit {0}

@@ -7,7 +7,8 @@ use Rattle.ae_types.specs.declared.file_table.FileRow.{FileRow}
 use Rattle.ae_types.specs.Ordered.{Ascends}
 use Rattle.ae_types.specs.Clashes.{has_path, folders_of}
 use Rattle.ae_types.specs.Found.{file_path, row_path, has_file}
-use Rattle.ae_types.specs.Trees.{text_cmp, tree_row, tree_at, overlaid, paths_of}
+use Rattle.ae_types.specs.Trees.{tree_row, tree_at, overlaid, paths_of}
+use Rattle.ae_base.specs.Rows.{text_cmp}
 
 -- the paths of the tree, with the change's over it where there is one
 abbrev pub paths_over : ℕ → List FileRow → Option Change → List (List ℕ)

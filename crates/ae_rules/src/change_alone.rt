@@ -9,13 +9,14 @@ use crate::phases::{
 };
 use crate::project_alone::is_moment;
 use ae_base::Phase;
+use ae_base::limits::{MOST_CHANGE_FILES, MOST_FILE_BYTES};
 use ae_types::{Change, ChangeFile, Evidence, HistoryRow, VersionRef};
 
 pub(crate) fn length_is_good(version: Option<VersionRef>) -> bool
     ensures { result ≡ length_is_good version }
 {
     match version {
-        Some(version) => version.length <= 4_194_304,
+        Some(version) => version.length as usize <= MOST_FILE_BYTES,
         None => true,
     }
 }
@@ -106,7 +107,7 @@ fn versions_fit(change: &Change) -> bool
 pub fn change_is_good(change: &Change) -> bool
     ensures { result ≡ change_is_good change.now }
 {
-    change.files.len() <= 1000
+    change.files.len() <= MOST_CHANGE_FILES
         && files_ascend(change.files.as_slice())
         && evidence_ascends(change.evidence.as_slice())
         && ranges_are_good(change)

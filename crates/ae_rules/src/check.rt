@@ -100,7 +100,7 @@ fn files_fit_changes(parts: &Parts) -> bool
         && candidates_fit(deltas.len(), files, numbers, changes)
 }
 
-// the rules beside one another, where each part by itself keeps its own
+// The rules beside one another, where each part by itself keeps its own.
 fn blame_beside(alloc: Global, parts: &Parts) -> Result<Option<Blame>, AllocError>
     requires { IsReadable parts.now }
     ensures { IfOk result (λ blame. blame ≡ blamed_beside parts.now) }

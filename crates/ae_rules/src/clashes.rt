@@ -5,12 +5,13 @@ ghost use Rattle.std.specs.Option.{option_and_then};
 ghost use Rattle.ae_types.specs.Clashes.{has_path, none_clash};
 ghost use Rattle.ae_types.specs.Found.{row_path, row_in};
 ghost use Rattle.ae_types.specs.Ordered.{Ascends};
-ghost use Rattle.ae_types.specs.Trees.{text_cmp, tree_row};
+ghost use Rattle.ae_types.specs.Trees.{tree_row};
+ghost use Rattle.ae_base.specs.Rows.{text_cmp};
 ghost use Rattle.ae_rules.specs.Overlay.{paths_over, AreOrdered, is_clear, row_is_clear, file_is_clear};
 
 use ae_types::{Change, FileRow, file_in, row_in};
 
-// the last entry up to the delta doesn't remove the file
+// The last entry up to the delta doesn't remove the file.
 fn stands(deltas: usize, row: &FileRow) -> bool
     ensures { result ≡ is_some (tree_row deltas row.now) }
 {
@@ -58,7 +59,7 @@ fn is_clear(deltas: usize, rows: &[FileRow], change: Option<&Change>, path: &[u8
     true
 }
 
-// the row doesn't stand in the tree, or is in the change, or is clear
+// The row doesn't stand in the tree, or is in the change, or is clear.
 fn row_is_clear(deltas: usize, rows: &[FileRow], change: Option<&Change>, row: &FileRow) -> bool
     requires { AreOrdered rows.now (option_copied change) }
     ensures { result ≡ row_is_clear deltas rows.now (option_copied change.entry) row.now }

@@ -6,7 +6,7 @@ use ae_types::Blame;
 use std::alloc::AllocError;
 use thiserror::Error;
 
-/// Why records are no state: a state file breaks a rule first, or memory is wanting.
+/// Why records are no state: a state file breaks a rule first, or memory runs out.
 #[derive(Debug, Drop, Error)]
 pub enum CheckError {
     #[error("a state file breaks a rule of the records")]

@@ -4,7 +4,7 @@ ghost use Rattle.std.specs.List.{list_all};
 ghost use Rattle.std.specs.Ordering.{nat_cmp};
 ghost use Rattle.ae_types.specs.Ordered.{Ascends, itself};
 ghost use Rattle.ae_types.specs.Found.{lock_path, has_file};
-ghost use Rattle.ae_types.specs.Trees.{text_cmp};
+ghost use Rattle.ae_base.specs.Rows.{text_cmp};
 ghost use Rattle.ae_types.specs.Rules.{lock_has_file, files_have_locks, locks_fit};
 ghost use Rattle.ae_types.specs.Sound.{IsGoodChange, AreChanges};
 ghost use Rattle.ae_rules.specs.Beside.{file_has_lock};

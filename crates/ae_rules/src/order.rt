@@ -3,19 +3,13 @@ ghost use Rattle.std.specs.Prelude.{◌≡◌};
 ghost use Rattle.std.specs.Ordering.{is_lt, nat_cmp};
 ghost use Rattle.ae_types.specs.Ordered.{ascends, itself};
 ghost use Rattle.ae_types.specs.Found.{number_of_change};
-ghost use Rattle.ae_types.specs.Trees.{text_cmp};
-ghost use Rattle.ae_types.specs.Runs.{run_cmp, run_of, during_place, kind_place, path_place};
+ghost use Rattle.ae_types.specs.Runs.{run_cmp, run_of};
 ghost use Rattle.ae_types.specs.Rules.{numbers_ascend, rows_ascend, locks_ascend, past_ascends, files_ascend, evidence_ascends};
 
-use ae_base::{ChangeNo, Delta, Ground, Kind, Path};
-use ae_types::{Change, ChangeFile, Evidence, FileRow, FileVersion, Lock};
-use std::cmp::Ordering;
-
-fn is_path_below(path: &Path, other: &Path) -> bool
-    ensures { result ≡ is_lt (text_cmp path.now other.now) }
-{
-    path.bytes().cmp(other.bytes()).is_lt()
-}
+use ae_base::{ChangeNo, Delta};
+use ae_types::{
+    Change, ChangeFile, Evidence, FileRow, FileVersion, Lock, compare_runs, is_path_below,
+};
 
 fn is_change_below(number: ChangeNo, other: ChangeNo) -> bool
     ensures { result ≡ is_lt (nat_cmp number other) }
@@ -63,48 +57,6 @@ pub(crate) fn files_ascend(files: &[ChangeFile]) -> bool
     ensures { result ≡ files_ascend files.now }
 {
     files.is_sorted_by(|a, b| is_path_below(&a.path, &b.path))
-}
-
-fn during_place(during: Ground) -> u8
-    ensures { result ≡ during_place during }
-{
-    match during {
-        Ground::Develop => 0,
-        Ground::Integrate => 1,
-    }
-}
-
-fn kind_place(kind: Kind) -> u8
-    ensures { result ≡ kind_place kind }
-{
-    match kind {
-        Kind::Build => 0,
-        Kind::Test => 1,
-        Kind::BaselineTest => 2,
-        Kind::RegressionTest => 3,
-    }
-}
-
-// no path comes before all paths
-fn compare_run_paths(path: &Option<Path>, other: &Option<Path>) -> Ordering
-    ensures { result ≡ text_cmp (path_place path.now) (path_place other.now) }
-{
-    match (path, other) {
-        (None, None) => Ordering::Equal,
-        (None, Some(_)) => Ordering::Less,
-        (Some(_), None) => Ordering::Greater,
-        (Some(path), Some(other)) => path.bytes().cmp(other.bytes()),
-    }
-}
-
-fn compare_runs(run: &Evidence, other: &Evidence) -> Ordering
-    ensures { result ≡ run_cmp (run_of run.now) (run_of other.now) }
-{
-    let by_part = during_place(run.during).cmp(&during_place(other.during));
-    let by_kind = kind_place(run.kind).cmp(&kind_place(other.kind));
-    by_part
-        .then(by_kind)
-        .then(compare_run_paths(&run.path, &other.path))
 }
 
 fn is_run_below(run: &Evidence, other: &Evidence) -> bool

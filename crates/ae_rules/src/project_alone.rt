@@ -3,14 +3,15 @@ ghost use Rattle.std.specs.Prelude.{◌≡◌};
 ghost use Rattle.ae_types.specs.Rules.{is_moment, role_is_good, roles_are_good, deltas_are_numbered, deltas_have_moments, next_version_is_good, project_is_good};
 
 use crate::order::numbers_ascend;
+use ae_base::limits::{LAST_MOMENT, MOST_NEXT_VERSION, MOST_ROLE_USERS};
 use ae_base::{ChangeNo, UserSet};
 use ae_types::{DeltaRow, Project};
 
-// the users differ, since they are a set
+// The users differ, since they are a set.
 fn role_is_good(users: &UserSet) -> bool
     ensures { result ≡ role_is_good users.now }
 {
-    users.users().len() <= 256
+    users.users().len() <= MOST_ROLE_USERS
 }
 
 fn roles_are_good(project: &Project) -> bool
@@ -25,7 +26,7 @@ fn roles_are_good(project: &Project) -> bool
 pub(crate) fn is_moment(when: u64) -> bool
     ensures { result ≡ is_moment when }
 {
-    when <= 4_102_444_799
+    when <= LAST_MOMENT
 }
 
 fn deltas_are_numbered(deltas: &[DeltaRow]) -> bool
@@ -50,7 +51,7 @@ fn deltas_have_moments(deltas: &[DeltaRow]) -> bool
 fn next_version_is_good(next: u64) -> bool
     ensures { result ≡ next_version_is_good next }
 {
-    1 <= next && next <= 4_611_686_018_427_388_904
+    1 <= next && next <= MOST_NEXT_VERSION
 }
 
 /// Whether the project and the numbers of its changes, by themselves, keep the rules.

@@ -6,6 +6,7 @@ ghost use Rattle.ae_types.specs.Versions.{live, units, has_units, end_of, meet, 
 ghost use Rattle.ae_types.specs.Rules.{is_in_region, versions_fit};
 ghost use Rattle.ae_rules.specs.Live.{past_versions, frozen_versions, number_is_below};
 
+use ae_base::limits::MOST_UNITS;
 use ae_types::{Change, ChangeFile, FileRow, FileVersion, VersionRef};
 use std::alloc::{AllocError, Global};
 
@@ -88,7 +89,7 @@ fn is_in_region(version: &VersionRef) -> bool
         return true;
     }
     match version.at.checked_add(units(version)) {
-        Some(end) => end <= 16_777_216,
+        Some(end) => end <= MOST_UNITS,
         None => false,
     }
 }
@@ -99,7 +100,7 @@ fn are_in_region(versions: &[VersionRef]) -> bool
     versions.iter().all(|version| is_in_region(version))
 }
 
-// the numbers differ; the versions are sorted by them
+// The numbers differ; the versions are sorted by them.
 fn numbers_differ(versions: &mut [VersionRef]) -> bool
     ensures { result ≡ no_two same_number versions.old }
 {
@@ -119,7 +120,7 @@ fn ends_before(version: &VersionRef, other: &VersionRef) -> bool
     end_of(version) <= u128::from(other.at)
 }
 
-// no two share a unit; the versions are sorted by their places
+// No two share a unit; the versions are sorted by their places.
 fn units_are_apart(versions: &mut [VersionRef]) -> bool
     requires { list_all has_units versions.old ≡ true }
     ensures { result ≡ no_two meet versions.old }
@@ -140,7 +141,7 @@ fn with_units(alloc: Global, versions: &[VersionRef]) -> Result<Vec<VersionRef>,
     Ok(some)
 }
 
-// no two share a unit
+// No two share a unit.
 fn units_fit(alloc: Global, versions: &[VersionRef]) -> Result<bool, AllocError>
     ensures { IfOk result (λ fit. fit ≡ no_two meet versions.now) }
 {

@@ -272,11 +272,11 @@ end_decided = record { some = record {}; some_fits = tt; told = told }
     told [] = inl (record { value = record {}; fits = tt; is = refl; only = λ x fits e. refl })
     told (m ∷ ms) = inr (0, first_wrong (λ (x : End). Unit {0}) (λ x. named [] []) (record {}) tt (m ∷ ms) (field m.0 m.1) (pieces ms) refl (λ y more fits e. cc))
 
--- what fits a field and those behind it
+-- what fits a field and those after it
 abbrev pub ThenFits : {A B : Type 0} → (A → Type 0) → (B → Type 0) → Then A B → Type 0
 ThenFits FitsA FitsB x = FitsA x.first × FitsB x.rest
 
--- the fields of a value and those behind it
+-- the fields of a value and those after it
 abbrev pub then_fields : {A B : Type 0} → List ℕ → List (List ℕ) → (A → Node) → (B → List Node) → Then A B → List Named
 then_fields k ks spelled values x = named (k ∷ ks) (spelled x.first ∷ values x.rest)
 

@@ -36,7 +36,7 @@ use Rattle.std.specs.declared.cmp.Ordering.{Ordering}
 use Rattle.std.specs.Ordering.{nat_cmp}
 use Rattle.ae_types.specs.Ordered.{ascends, itself}
 use Rattle.ae_types.specs.Found.{file_path, row_path, lock_path}
-use Rattle.ae_types.specs.Trees.{text_cmp}
+use Rattle.ae_base.specs.Rows.{text_cmp}
 use Rattle.ae_types.specs.Runs.{run_cmp, run_of}
 use Rattle.ae_schema.specs.declared.fields.Then.{Then}
 use Rattle.ae_schema.specs.declared.fields.End.{End}

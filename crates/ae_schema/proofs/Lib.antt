@@ -1,4 +1,3 @@
-mod Adjacent
 pub mod Places
 pub mod RowLists
 pub mod Texts

@@ -1,5 +1,5 @@
 -- Options that are read.
-use Rattle.std.proofs.Common.{◌≡◌, ℕ, ◌*◌, List, [], ◌∷◌, length, map, Option, Some, None, Result, Ok, Err, Bool, IsTrue, ◌↔◌, refl, sym, ap, ◌∙◌, arith}
+use Rattle.std.proofs.Common.{◌≡◌, ℕ, ◌*◌, List, [], ◌∷◌, length, map, Some, None, Result, Ok, Err, Bool, IsTrue, ◌↔◌, refl, sym, ◌∙◌, arith}
 use Rattle.std.specs.Prelude.{MatchResult}
 use Rattle.hex.specs.Hex.{encode_lower, lower_digits, decode_sized}
 use Rattle.hex.specs.declared.error.FromHexError.{FromHexError}
@@ -15,10 +15,6 @@ no_none x e = absurd (cc)
 
 pub some_is : {A : Type 0} (x y : A) → Some x ≡ Some y → x ≡ y
 some_is x y e = cc
-
--- a value that is read by way of its fields
-pub read_from : {F A : Type 0} (from : F → A) (read : Option F) (f shape : F) → read ≡ Some f → read ≡ Some shape → Some (from f) ≡ Some (from shape)
-read_from from read f shape is e = ap (λ x. Some (from x)) (some_is f shape (sym is ∙ e))
 
 -- the hex digits of a digest decode to it
 pub decoded : (x text : List ℕ) → IsDigest x → encode_lower x ≡ text → decode_sized text 32 ≡ Ok x

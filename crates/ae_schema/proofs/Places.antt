@@ -57,7 +57,7 @@ first_field_wrong FitsA FitsB x fits spelled values k ks m ms none =
     first_wrong (λ y. FitsA y.first × FitsB y.rest) (λ y. named (k ∷ ks) (spelled y.first ∷ values y.rest)) x fits (m ∷ ms) (field m.0 m.1) (pieces ms) refl
     (λ y more f e. let one : k ≡ m.0 = cc in let other : spelled y.first ≡ m.1 = cc in none y.first f.0 (λ i. (one i, other i)))
 
--- a wrong place behind a good field is one further
+-- a wrong place after a good field is one further
 pub behind_wrong : {A B : Type 0} (FitsA : A → Type 0) (FitsB : B → Type 0) (spelled : A → Node) (values : B → List Node)
     → (k : List ℕ) (ks : List (List ℕ)) (x : A) → FitsA x → (m : Named) → (k, spelled x) ≡ m → (ms : List Named) (at : ℕ)
     → IsWrongAt FitsB (λ (z : B). named ks (values z)) ms at
@@ -101,11 +101,11 @@ first_at FitsA FitsB x fits spelled values f (n ∷ ns) d some h [] y is more no
 first_at FitsA FitsB x fits spelled values f (n ∷ ns) d some h (m ∷ ms) y is more none =
     first_field_wrong FitsA FitsB x fits spelled values (f n) (map f ns) (h m) (map h ms) (λ a fit e. none a fit (e ∙ ap h (sym is)))
 
--- what a pattern leaves behind the first element
+-- what a pattern leaves after the first element
 rest_of : {X : Type 0} (x : X) (xs : List X) → take (length (x ∷ xs) - 1) (drop 1 (x ∷ xs)) ≡ xs
 rest_of x xs = take_rest (x ∷ xs) 1
 
--- a wrong place behind the first field, of the fields and names in slices
+-- a wrong place after the first field, of the fields and names in slices
 pub behind_at : {A B X Y : Type 0} (FitsA : A → Type 0) (FitsB : B → Type 0) (spelled : A → Node) (values : B → List Node)
     → (f : X → List ℕ) (ns : List X) (d : X) → 1 ≤ length ns → (h : Y → Named) (ys : List Y) (y : Y) → y ≡ get_or ys 0 y → 1 ≤ length ys
     → (a : A) → FitsA a → (f (get_or ns 0 d), spelled a) ≡ h y → (stop : Stop)

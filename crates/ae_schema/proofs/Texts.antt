@@ -156,7 +156,7 @@ same_error x y e = cc
 
 -- ---- the clauses of a state file's reader, where it refuses
 
--- a refusal answers a text of a record for want of memory alone
+-- a refusal answers a text of a record out of memory alone
 pub bad_answer : {A : Type 0} (Fits : A → Type 0) (fields_of : A → List Named) (bytes : List ℕ) (error : SchemaError)
     → ((line : ℕ) → error ≡ schema_errors.Field line → IsBadLine Fits fields_of bytes line)
     → (x : A) → Fits x → IsTextOf bytes (fields_of x) → IsAnswer x (Err error)

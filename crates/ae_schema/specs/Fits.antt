@@ -1,6 +1,7 @@
 -- Which values stand in a record: those that their types can hold, whose lists are in their order.
 use Rattle.std.specs.Prelude.{◌≡◌, ◌≤◌, ◌<◌, ◌^◌, ℕ, List, IfSome, All, length}
 use Rattle.std.specs.Ordering.{nat_cmp}
+use Rattle.ae_base.specs.Limits.{most_deltas}
 use Rattle.hex.specs.Hex.{IsBytes}
 use Rattle.ae_base.specs.Names.{IsPath, IsUser, IsProjectName}
 use Rattle.ae_base.specs.Users.{AllDiffer}
@@ -16,7 +17,7 @@ use Rattle.ae_types.specs.declared.change.HistoryRow.{HistoryRow}
 use Rattle.ae_types.specs.declared.change.Change.{Change}
 use Rattle.ae_types.specs.Ordered.{Ascends, itself}
 use Rattle.ae_types.specs.Found.{file_path, row_path, lock_path}
-use Rattle.ae_types.specs.Trees.{text_cmp}
+use Rattle.ae_base.specs.Rows.{text_cmp}
 use Rattle.ae_types.specs.Runs.{run_cmp, run_of}
 
 -- a change's number
@@ -25,7 +26,7 @@ IsChangeNo n = (10 ≤ n) × (n ≤ 1999)
 
 -- a delta's number
 abbrev pub IsDelta : ℕ → Type 0
-IsDelta n = n ≤ 1990
+IsDelta n = n ≤ most_deltas
 
 -- 32 bytes
 abbrev pub IsDigest : List ℕ → Type 0

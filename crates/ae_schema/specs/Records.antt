@@ -35,7 +35,7 @@ IsStructure (fields ms) = Unit {0}
 
 -- ---- the first wrong place
 
--- what stands at a place of a record: a field, or behind the last one the end
+-- what stands at a place of a record: a field, or after the last one the end
 pub data Piece : Type 0 where
   field : List ℕ → Node → Piece
   end : Piece
@@ -72,7 +72,7 @@ IsTextOf bytes ms = (lines : List ℕ) × Reads bytes (structure ms) lines
 abbrev pub IsRecord : {A : Type 0} → (A → Type 0) → (A → List Named) → List ℕ → Type 0
 IsRecord {A} Fits fields_of bytes = (x : A) × Fits x × IsTextOf bytes (fields_of x)
 
--- the line behind all line ends
+-- the line after all line ends
 abbrev pub last_line : List ℕ → ℕ
 last_line bytes = line_after (line_ends bytes)
 

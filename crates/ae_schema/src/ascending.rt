@@ -12,13 +12,13 @@ use std::marker::Model;
 
 /// A row that has a key.
 pub(crate) trait Keyed: Value {
-    // what a key is
+    // What a key is.
     ghost Key: { Type 0 };
 
-    // the key of a row
+    // The key of a row.
     ghost key: { Self → Key };
 
-    // the order of keys
+    // The order of keys.
     ghost order: { Key → Key → Ordering };
 
     /// Whether its key comes before that of the other.

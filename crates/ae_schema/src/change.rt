@@ -32,7 +32,7 @@ type SettingsFields = Then<Text, Then<Text, Then<Cause, ExemptionFields>>>;
 
 type ChangeFields = Then<ChangeNo, SettingsFields>;
 
-// The settings, and the fields behind them.
+// The settings, and the fields after them.
 fn attributes_of(fields: SettingsFields) -> (ChangeAttributes, Then<Phase, PersonFields>)
     ensures settings { result.0 ≡ settings_from fields }
     ensures behind { result.1 ≡ fields.rest.rest.rest.rest.rest.rest }

@@ -18,13 +18,13 @@ pub(crate) enum Stop {
 
 /// The values of a record, in the order of its fields.
 pub(crate) trait Fields: Drop {
-    // how many fields there are
+    // How many fields there are.
     ghost count: { ℕ };
 
-    // their values
+    // Their values.
     ghost values: { Self → List Node };
 
-    // what their types can hold
+    // What their types can hold.
     ghost Fits: { Self → Type 0 };
 
     /// The values of the fields, which have these names, one each.
@@ -42,7 +42,7 @@ pub(crate) trait Fields: Drop {
 #[derive(Drop)]
 pub(crate) struct End;
 
-/// A field and those behind it.
+/// A field and those after it.
 #[derive(Drop)]
 pub(crate) struct Then<A, B> {
     pub(crate) first: A,

@@ -36,7 +36,7 @@ pub fn note_change_lines()
     ensures one_line { (bytes : List ℕ) (line other : ℕ) → IsBadLine FitsChange change_fields bytes line → IsBadLine FitsChange change_fields bytes other → line ≡ other }
 {}
 
-/// The project and numbers, printed and read: the same where the numbers ascend, or memory was wanting.
+/// The project and numbers, printed and read: the same where the numbers ascend, or memory ran out.
 pub fn project_again(
     alloc: Global,
     project: &Project,
@@ -50,7 +50,7 @@ pub fn project_again(
     }
 }
 
-/// The files and locks, printed and read: the same where they ascend, or memory was wanting.
+/// The files and locks, printed and read: the same where they ascend, or memory ran out.
 pub fn files_again(
     alloc: Global,
     files: &[FileRow],
@@ -64,7 +64,7 @@ pub fn files_again(
     }
 }
 
-/// The change, printed and read: the same where its files and runs ascend, or memory was wanting.
+/// The change, printed and read: the same where its files and runs ascend, or memory ran out.
 pub fn change_again(alloc: Global, change: &Change) -> Result<Change, SchemaError>
     ensures { ChangeAscends change.now → IsAnswer change.now result }
 {

@@ -5,6 +5,7 @@ ghost use Rattle.ae_text.specs.View.{node};
 
 use crate::parts::string_in;
 use crate::value::Value;
+use ae_base::limits::MOST_DELTAS;
 use ae_base::{ChangeNo, Delta, Path, ProjectName, User};
 use ae_text::Tree;
 use std::alloc::{AllocError, Global};
@@ -179,7 +180,7 @@ impl Value for Delta {
 
     fn of_tree(_alloc: Global, tree: &Tree) -> Result<Option<Delta>, AllocError> {
         match tree {
-            Tree::Number(n) if *n <= 1990 => Ok(Some(Delta::of(*n as u16))),
+            Tree::Number(n) if *n <= MOST_DELTAS as u64 => Ok(Some(Delta::of(*n as u16))),
             _ => Ok(None),
         }
     }

@@ -131,7 +131,7 @@ type PermissionFields = Then<bool, Then<bool, Then<bool, Then<bool, DefaultField
 
 type ProjectFields = Then<Format, Then<Packed, Then<ProjectName, Then<Text, PermissionFields>>>>;
 
-// The settings, and the fields behind them.
+// The settings, and the fields after them.
 fn attributes_of(description: Text, fields: PermissionFields) -> (Attributes, RoleFields)
     ensures settings { result.0 ≡ attributes_from description fields }
     ensures behind { result.1 ≡ fields.rest.rest.rest.rest.rest.rest }

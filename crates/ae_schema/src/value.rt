@@ -10,10 +10,10 @@ use std::alloc::{AllocError, Global};
 
 /// A type whose values are spelled as trees.
 pub(crate) trait Value: Drop {
-    // the tree of a value
+    // The tree of a value.
     ghost spelled: { Self → Node };
 
-    // what the type can hold
+    // What the type can hold.
     ghost Fits: { Self → Type 0 };
 
     /// The value that the tree spells; `None` exactly where it spells none.

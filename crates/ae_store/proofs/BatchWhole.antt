@@ -8,7 +8,7 @@ use Rattle.ae_vault.proofs.Files.{bool_cases, option_cases}
 use Rattle.ae_vault.specs.declared.entry.Entry.{Entry}
 use Rattle.ae_vault.specs.Vault.{content_of, put}
 use Rattle.ae_types.specs.declared.change.Change.{Change}
-use Rattle.ae_types.specs.Found.{change_in, change_at, number_of_change}
+use Rattle.ae_types.specs.Found.{change_in, change_at, has_number, number_of_change}
 use Rattle.ae_types.specs.Observation.{Observation}
 use Rattle.ae_types.specs.Sound.{Sound}
 use Rattle.ae_types.proofs.BinarySearch.{in-place}
@@ -69,12 +69,21 @@ module _ (old : Option Observation) (new : Observation) (entries : List Entry) w
     | inr is ↦ inr is
   ]
 
+  -- a change that was there is there still, or gone
+  each_old : ((k : ℕ) → k < length new.numbers → Done (change_file (get_or new.numbers k 0)))
+      → ((k : ℕ) → k < length (numbers_of old) → has_number new.numbers (get_or (numbers_of old) k 0) ≡ false → Done (change_file (get_or (numbers_of old) k 0)))
+      → (k : ℕ) → k < length (numbers_of old) → Done (change_file (get_or (numbers_of old) k 0))
+  each_old there gone k inside = elim (bool_cases (has_number new.numbers (get_or (numbers_of old) k 0))) [
+    | inl is ↦ each_has (λ n. Done (change_file n)) new.numbers (get_or (numbers_of old) k 0) there is
+    | inr is_gone ↦ gone k inside is_gone
+  ]
+
   pub all_done : AreRight old new entries → Done project_file → Done files_file
       → IfSome old Sound → Sound new
       → ((k : ℕ) → k < length new.numbers → Done (change_file (get_or new.numbers k 0)))
-      → ((k : ℕ) → k < length (numbers_of old) → Done (change_file (get_or (numbers_of old) k 0)))
+      → ((k : ℕ) → k < length (numbers_of old) → has_number new.numbers (get_or (numbers_of old) k 0) ≡ false → Done (change_file (get_or (numbers_of old) k 0)))
       → (name : List ℕ) → Done name
-  all_done right project table sound_old sound_new done_new done_old name = elim (option_cases (content_of entries name)) [
+  all_done right project table sound_old sound_new done_new done_gone name = elim (option_cases (content_of entries name)) [
     | inr some ↦ some.1 ∙ sym (right.right name some.0 some.1)
     | inl none ↦ elim (bool_cases (bytes_eq name project_file)) [
       | inl is ↦ subst Done (sym ((bytes_eq-Decides name project_file).0 is)) project
@@ -82,7 +91,7 @@ module _ (old : Option Observation) (new : Observation) (entries : List Entry) w
         | inl is ↦ subst Done (sym ((bytes_eq-Decides name files_file).0 is)) table
         | inr not_files ↦ elim (looked new sound_new done_new name) [
           | inr is ↦ is
-          | inl new_none ↦ elim (old_looked old sound_old done_old name not_project not_files) [
+          | inl new_none ↦ elim (old_looked old sound_old (each_old done_new done_gone) name not_project not_files) [
             | inr is ↦ is
             | inl old_none ↦ none ∙ sym (ap (λ (t : List ℕ). change_of t (text_in new name)) old_none ∙ ap (change_of []) (text_elsewhere new name not_project not_files ∙ new_none))
           ]

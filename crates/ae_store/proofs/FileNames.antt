@@ -1,10 +1,9 @@
 -- The names of the files of changes are names of a disk.
-use Rattle.std.proofs.Common.{◌≡◌, ℕ, ◌+◌, ◌<◌, ◌^◌, ◌%◌, Bool, true, ◌&&◌, List, [], ◌∷◌, ◌++◌, length, refl, ap, arith, rules}
+use Rattle.std.proofs.Common.{◌≡◌, ℕ, ◌+◌, ◌<◌, ◌^◌, ◌%◌, true, List, [], ◌∷◌, ◌++◌, length, refl, arith, rules}
 use Rattle.std.proofs.lemmas.Bool.Decides.{nat_tests}
 use Rattle.std.proofs.lemmas.Fmt.{decimal_by_steps, length-decimal-le}
 use Rattle.std.specs.Fmt.{decimal}
 use Rattle.ae_outside.specs.DiskNames.{is_name_byte, all_name_bytes, IsDiskName}
-use Rattle.ae_vault.specs.Vault.{is_entry_name}
 use Rattle.ae_store.specs.Names.{change_file}
 
 digit : (n : ℕ) → n < 10 → is_name_byte (48 + n) ≡ true
@@ -22,7 +21,3 @@ change_file_named n lt =
     let all : all_name_bytes (decimal n) ≡ true = decimal_bytes n (omega arith) in
     let short : length (decimal n) < 6 = search (rules, length-decimal-le 5) in
     grind (arith, nat_tests)
-
--- and of the vault
-pub change_file_entry : (n : ℕ) → n < 2 ^ 16 → is_entry_name (change_file n) ≡ true
-change_file_entry n lt = ap (λ (b : Bool). b && true) (change_file_named n lt)

@@ -259,12 +259,6 @@ nothing_read ms some reads =
 pub some_project : (project : Project) (numbers : List ℕ) → IsProject [] project numbers → ⊥
 some_project project numbers is = nothing_read (project_fields (project, numbers)) refl is.1
 
-pub some_table : (rows : List FileRow) (locks : List Lock) → IsTable [] rows locks → ⊥
-some_table rows locks is = nothing_read (files_fields (rows, locks)) refl is.1
-
-pub some_change : (change : Change) → IsChange [] change → ⊥
-some_change change is = nothing_read (change_fields change) refl is.1
-
 one_users : (xs ys : List (List ℕ)) → list_of str xs ≡ list_of str ys → xs ≡ ys
 one_users = one_plain str one_str
 

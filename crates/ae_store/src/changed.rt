@@ -1,20 +1,20 @@
 // A batch of the state files that differ between two states.
-ghost use Rattle.std.specs.Prelude.{◌≡◌, true, ℕ, List, map, Some, IfOk, IfSome, OnOk, EachIndex, slice_index, option_copied};
+ghost use Rattle.std.specs.Prelude.{◌≡◌, ◌<◌, true, false, length, ℕ, List, map, Some, IfOk, IfSome, OnOk, EachIndex, slice_index, option_copied};
 ghost use Rattle.ae_outside.specs.Image.{Image};
 ghost use Rattle.ae_vault.specs.Pieces.{are_pieces};
 ghost use Rattle.ae_vault.specs.Vault.{content_of, put};
-ghost use Rattle.ae_types.specs.Found.{number_of_change};
+ghost use Rattle.ae_types.specs.Found.{number_of_change, has_number};
 ghost use Rattle.ae_types.specs.Sound.{Sound};
 ghost use Rattle.ae_store.specs.Names.{project_file, files_file, change_file};
 ghost use Rattle.ae_store.specs.Records.{StandsFor};
 ghost use Rattle.ae_store.specs.Changed.{entry_for};
-ghost use Rattle.ae_store.specs.Batching.{AreOrdered, AreRight, IsDone, KeepsDone, IsNumbered, ProjectIsWritten, TableIsWritten, ChangeIsWritten};
+ghost use Rattle.ae_store.specs.Batching.{AreOrdered, AreRight, numbers_of, IsDone, KeepsDone, IsNumbered, ProjectIsWritten, TableIsWritten, ChangeIsWritten};
 
 use crate::entries::put_text;
 use crate::names::{FILES, PROJECT, change_name};
 use crate::texts::{change_text, numbers_of, project_text, table_text};
 use ae_base::{ChangeNo, Text};
-use ae_types::State;
+use ae_types::{State, has_number};
 use ae_vault::{Batch, Entry, EntryList, PieceList, Vault};
 use std::alloc::{AllocError, Global};
 
@@ -109,6 +109,31 @@ fn put_changes(
     Ok(())
 }
 
+// The files of the changes that aren't there any more are looked at.
+fn put_gone(
+    alloc: Global,
+    entries: &mut Vec<Entry>,
+    old: Option<&State>,
+    new: &State,
+) -> Result<(), AllocError>
+    requires right { AreRight (option_copied old) new.now entries.old.items }
+    requires numbered { IsNumbered (option_copied old) }
+    requires numbered_new { IsNumbered (Some new.now) }
+    ensures right { OnOk result (AreRight (option_copied old.entry) new.now entries.new.items) }
+    ensures done { OnOk result ((k : ℕ) → k < length (numbers_of (option_copied old.entry)) → has_number new.now.numbers (slice_index (numbers_of (option_copied old.entry)) k) ≡ false
+        → IsDone (option_copied old.entry) new.now entries.new.items (change_file (slice_index (numbers_of (option_copied old.entry)) k))) }
+    ensures kept { OnOk result (KeepsDone (option_copied old.entry) new.now entries.old.items entries.new.items) }
+{
+    new.note_sound();
+    let numbers = numbers_of(old);
+    for number in numbers {
+        if !has_number(new.numbers(), *number) {
+            put_change(alloc, entries, old, new, *number)?;
+        }
+    }
+    Ok(())
+}
+
 // The entries of the state files that change.
 fn changed_entries(
     alloc: Global,
@@ -123,7 +148,7 @@ fn changed_entries(
     put_project(alloc, &mut entries, old, new)?;
     put_table(alloc, &mut entries, old, new)?;
     put_changes(alloc, &mut entries, old, new, new.numbers())?;
-    put_changes(alloc, &mut entries, old, new, numbers_of(old))?;
+    put_gone(alloc, &mut entries, old, new)?;
     Ok(entries)
 }
 

@@ -81,11 +81,11 @@ pub fn load<D: Disk>(alloc: Global, disk: &mut D) -> Result<Option<State>, Store
     requires { D.tells → IsClean (D.state disk.old) }
     // What is answered is what the files stand for,
     ensures found { IfOk result (λ o. D.tells → Stands (reads (D.state disk.old)) o) }
-    // and where they stand for something, that is answered.
+    // And where they stand for something, that is answered.
     ensures only { D.tells → (o : Option Observation) → Stands (reads (D.state disk.old)) o → IsState o result }
     // The name is that of the state file that is blamed,
     ensures damaged { D.tells → (name : List ℕ) → result ≡ Err (StoreError.Damaged name) → IsSomeAnd (effective (reads (D.state disk.old))) (λ files. IsNamed files name) }
-    // and where one is blamed, its name is answered.
+    // And where one is blamed, its name is answered.
     ensures only_damaged { D.tells → (b : Blame) → IsSomeAnd (effective (reads (D.state disk.old))) (λ files. (files project_file ≢ []) × IsDamaged files b) → IsBlamed b result }
     ensures change { D.tells → GoesOn IsSame (D.state disk.old) (D.state disk.new) }
     ensures cause { Counted (D.faults disk.old) (D.faults disk.new) (IsErrOf result StoreError.DiskFault) }

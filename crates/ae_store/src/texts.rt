@@ -14,7 +14,7 @@ use std::alloc::{AllocError, Global};
 fn note_sound(state: &State)
     ensures { Sound state.now }
 {
-    let _project = state.project();
+    state.note_sound();
 }
 
 /// The text of `project`; empty where there is no project.

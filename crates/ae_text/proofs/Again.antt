@@ -99,7 +99,7 @@ pieces_are : (s : List ℕ) → AreBytes s → ArePieces (flat_map piece s) s
 pieces_are [] h = refl
 pieces_are (b ∷ s) h = (piece b, flat_map piece s, flat_map-cons piece b s, piece_is b h.0, pieces_are s h.1)
 
--- ---- tokens in a row: `rest` makes those behind, wherever they begin
+-- ---- tokens in a row: `rest` makes those after, wherever they begin
 
 abbrev After : (List Placed → Type 0) → List ℕ → Type 0
 After Q after = (from : ℕ) → (qs : List Placed) × Q qs × Begins from after qs

@@ -11,7 +11,7 @@ use Rattle.ae_text.specs.WellFormed.{LacksName}
 use Rattle.ae_text.proofs.Shaped.{IsShaped, AreShaped, FieldsAreShaped}
 use Rattle.ae_text.specs.Grammar.{IsValue, AreItems, AreMoreItems, AreFields, IsSentence}
 use Rattle.ae_text.specs.View.{items_of, members_of}
-use Rattle.ae_text.specs.Pushdown.{Frame, in_list, in_fields, Place, at_name, at_equals, at_value, at_semicolon, at_item, at_comma, done, State, Fault, moved, deliver, fields_of, list_of, has_name, noted, value_step, open_step, is_sign_of, step, and_step, run}
+use Rattle.ae_text.specs.Pushdown.{Frame, in_list, in_fields, Place, at_name, at_equals, at_value, at_semicolon, at_item, at_comma, done, State, Fault, moved, deliver, fields_of, list_of, has_name, noted, value_step, open_step, is_sign_of, step, run}
 
 -- the place of what waits for a value
 abbrev pub waits : Frame → Place
@@ -40,10 +40,6 @@ pub waits-step : (limit : ℕ) (outer : List Frame) (starts : List ℕ) (f : Fra
 unfolding step
 waits-step limit outer starts (in_list vs) p e = rw e refl
 waits-step limit outer starts (in_fields fs k) p e = refl
-
-pub one_step : (limit : ℕ) (r : Result State Fault) (p : Placed) (ps : List Placed) → run limit r (p ∷ ps) ≡ run limit (and_step limit r p) ps
-unfolding run
-one_step limit r p ps = refl
 
 pub opened : (limit : ℕ) (outer : List Frame) (starts : List ℕ) (f : Frame) (place : Place) → length outer < limit
     → open_step limit outer starts f place ≡ moved (f ∷ outer) starts place

@@ -71,7 +71,7 @@ never_wrong bytes ms lines line front p h w =
           let o = before_last h.all front p x more e in
           sentence_ends bytes ms lines h o.0 w.can_go_on.0 (subst (λ (ps : List Placed). GoesOn max_depth (ps ++ w.can_go_on.0 ∷ [])) o.1 w.can_go_on.1)
 
--- of two wrong tokens none stands behind the other
+-- of two wrong tokens none stands after the other
 not_behind : (bytes : List ℕ) (a b : ℕ) (front other : List Placed) (p q : Placed) → IsWrongAt bytes a front p → IsWrongAt bytes b other q → (more : List Placed) → other ++ q ∷ [] ≡ (front ++ p ∷ []) ++ more
     → front ++ p ∷ [] ≡ other ++ q ∷ []
 not_behind bytes a b front other p q w v [] e = sym (e ∙ append-nil (front ++ p ∷ []))

@@ -50,9 +50,6 @@ Opens limit outer starts f t s =
     ⊎ (((t ≡ sign 91) × (length outer < limit) × (s ≡ record { outer = f ∷ outer; place = at_item []; starts = starts }))
     ⊎ ((t ≡ sign 123) × (length outer < limit) × (s ≡ record { outer = f ∷ outer; place = at_name []; starts = starts })))
 
-same_ok : (a b : State) (r : Result State Fault) → r ≡ Ok a → r ≡ Ok b → b ≡ a
-same_ok a b r p q = cc
-
 opens : (limit : ℕ) (outer : List Frame) (starts : List ℕ) (f : Frame) (place : Place) (s : State) → open_step limit outer starts f place ≡ Ok s
     → (length outer < limit) × (s ≡ record { outer = f ∷ outer; place = place; starts = starts })
 opens limit outer starts f place s e = guarded (ltb (length outer) limit) refl e where
@@ -130,7 +127,7 @@ lists limit outer starts vs t s e = chosen (is_sign_of 93 t) refl e where
   chosen true h e = let c = closes outer starts (list_of vs) s e in inl (sign_is 93 t h, c.0, c.1, c.2, c.3)
   chosen false h e = inr (h, e)
 
--- behind a value in a list
+-- after a value in a list
 abbrev pub Commas : List Frame → List ℕ → List Node → Token → State → Type 0
 Commas outer starts vs t s =
     ((t ≡ sign 44) × (s ≡ record { outer = outer; place = at_item vs; starts = starts }))
@@ -240,7 +237,7 @@ module _ (limit : ℕ) (last : State) (is_done : IsDone last) (n : ℕ) (found :
         shaped depth end v h = absurd h
         shaped depth bad v h = absurd h
 
-  -- a first value, and those behind it
+  -- a first value, and those after it
   item_then : (depth : ℕ) (outer : List Frame) (starts : List ℕ) (f : Frame) (vs : List Node) (p : Placed) (ps : List Placed) → length (p ∷ ps) < suc n → length outer + suc depth ≡ limit
       → (s : State) → value_step limit (f ∷ outer) starts (in_list vs) p.token ≡ Ok s → run limit (Ok s) ps ≡ Ok last
       → (j : Node) × (js : Items) × (first : List Placed) × (later : List Placed) × (c : Placed) × (rest : List Placed) × (p ∷ ps ≡ (first ++ later) ++ c ∷ rest) × (c.token ≡ sign 93)

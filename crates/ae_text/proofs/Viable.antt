@@ -83,10 +83,6 @@ nested_tail (in_list vs) [] h = tt
 nested_tail (in_list vs) (g ∷ outer) h = h
 nested_tail (in_fields fs k) outer h = h
 
-nested_other : (outer : List Frame) (vs ws : List Node) → AreNested (in_list vs ∷ outer) → AreNested (in_list ws ∷ outer)
-nested_other [] vs ws h = h
-nested_other (g ∷ outer) vs ws h = h
-
 value_reaches : (limit : ℕ) (outer : List Frame) (starts : List ℕ) (f : Frame) (t : Token) (s : State) → AreNested (f ∷ outer) → length outer ≤ limit → value_step limit outer starts f t ≡ Ok s → Reached limit s
 value_reaches limit outer starts f t s h le e =
     elim (value_opens limit outer starts f t s e) [
@@ -165,18 +161,6 @@ stopped_ends limit front e stopped (more, ms, places, sentence, names_differ, ne
     cc
 
 -- ---- a greater limit
-
-open_more : (limit more : ℕ) (outer : List Frame) (starts : List ℕ) (f : Frame) (place : Place) (s : State) → limit ≤ more → open_step limit outer starts f place ≡ Ok s → open_step more outer starts f place ≡ Ok s
-open_more limit more outer starts f place s le e = guarded (ltb (length outer) limit) refl e where
-  guarded : (b : Bool) → ltb (length outer) limit ≡ b → cond b (moved (f ∷ outer) starts place) (Err too_deep) ≡ Ok s → open_step more outer starts f place ≡ Ok s
-  guarded true h e = let lt : length outer < limit = ltb-true _ _ h in rw (lt-ltb (length outer) more (omega arith)) e
-  guarded false h e = absurd cc
-
-open_no_syntax : (limit : ℕ) (outer : List Frame) (starts : List ℕ) (f : Frame) (place : Place) → open_step limit outer starts f place ≡ Err syntax → ⊥
-open_no_syntax limit outer starts f place e = guarded (ltb (length outer) limit) e where
-  guarded : (b : Bool) → cond b (moved (f ∷ outer) starts place) (Err too_deep) ≡ Err syntax → ⊥
-  guarded true e = cc
-  guarded false e = cc
 
 open_deep : (limit : ℕ) (outer : List Frame) (starts : List ℕ) (f : Frame) (place : Place) → length outer ≤ limit → open_step limit outer starts f place ≡ Err too_deep
     → (s : State) × (open_step (suc limit) outer starts f place ≡ Ok s)

@@ -34,12 +34,12 @@ abbrev mutual
   value_text (list js) = 91 ∷ (items_text [] js ++ 93 ∷ [])
   value_text (fields ms) = 123 ∷ (spaced_fields_text ms ++ 32 ∷ 125 ∷ [])
 
-  -- the first behind `before`, and each later one behind `, `
+  -- the first after `before`, and each later one after `, `
   pub items_text : List ℕ → Items → List ℕ
   items_text before no_items = []
   items_text before (item j js) = before ++ (value_text j ++ items_text (44 ∷ 32 ∷ []) js)
 
-  -- each field behind a space
+  -- each field after a space
   pub spaced_fields_text : Members → List ℕ
   spaced_fields_text no_members = []
   spaced_fields_text (member k j ms) = 32 ∷ (field_text k (value_text j) ++ spaced_fields_text ms)

@@ -23,7 +23,7 @@ abbrev mutual
   AreItems ps no_items = ps ≡ []
   AreItems ps (item j js) = (first : List Placed) × (rest : List Placed) × (ps ≡ first ++ rest) × IsValue first j × AreMoreItems rest js
 
-  -- behind a value: each further one behind `,`, and one `,` may stand after the last
+  -- after a value: each further one after `,`, and one `,` may stand after the last
   pub AreMoreItems : List Placed → Items → Type 0
   AreMoreItems ps no_items = (ps ≡ []) ⊎ ((comma : Placed) × (ps ≡ comma ∷ []) × (comma.token ≡ sign 44))
   AreMoreItems ps (item j js) =

@@ -4,17 +4,17 @@ use Rattle.ae_base.specs.Names.{is_digit}
 use Rattle.ae_text.specs.WellFormed.{begins_word, goes_on_word}
 use Rattle.ae_text.specs.Token.{Token, Placed, word, number, string, sign, end, bad, is_blank, is_sign, begins_with}
 
--- behind the first `*/`
+-- after the first `*/`
 abbrev pub after_end : List ℕ → Option (List ℕ)
 after_end [] = None
 after_end (b ∷ bs) = if (b == 42) && begins_with 47 bs then Some (drop 1 bs) else after_end bs
 
--- behind a comment, of which the `/` is gone
+-- after a comment, of which the `/` is gone
 abbrev pub after_slash : List ℕ → Option (List ℕ)
 after_slash [] = None
 after_slash (b ∷ bs) = if b == 42 then after_end bs else None
 
--- behind a blank or a comment
+-- after a blank or a comment
 unfoldable pub after_one : List ℕ → Option (List ℕ)
 after_one [] = None
 after_one (b ∷ bs) = if is_blank b then Some bs else if b == 47 then after_slash bs else None
@@ -24,7 +24,7 @@ abbrev pub or_else : List ℕ → Option (List ℕ) → (List ℕ → List ℕ) 
 or_else bytes None next = bytes
 or_else bytes (Some rest) next = next rest
 
--- behind all blanks and comments; the number bounds the turns
+-- after all blanks and comments; the number bounds the turns
 unfoldable pub skipped : ℕ → List ℕ → List ℕ
 skipped zero bytes = bytes
 skipped (suc n) bytes = or_else bytes (after_one bytes) (skipped n)
@@ -51,18 +51,18 @@ octal_value x y z = 64 * (x - 48) + 8 * (y - 48) + (z - 48)
 abbrev pub octal_byte : ℕ → ℕ → ℕ → Option ℕ
 octal_byte x y z = if is_octal x && is_octal y && is_octal z && nat_lt (octal_value x y z) 256 then Some (octal_value x y z) else None
 
--- the byte, and the bytes behind it
+-- the byte, and the bytes after it
 abbrev pub with_rest : List ℕ → Option ℕ → Option (ℕ × List ℕ)
 with_rest bs o = option_map (λ n. (n, bs)) o
 
--- the byte of the three octal digits at the front, and the bytes behind them
+-- the byte of the three octal digits at the front, and the bytes after them
 unfoldable pub octal_at : List ℕ → Option (ℕ × List ℕ)
 octal_at [] = None
 octal_at (x ∷ []) = None
 octal_at (x ∷ y ∷ []) = None
 octal_at (x ∷ y ∷ z ∷ bs) = with_rest bs (octal_byte x y z)
 
--- the byte of the escape at the front, of which the `\` is gone, and the bytes behind it
+-- the byte of the escape at the front, of which the `\` is gone, and the bytes after it
 unfoldable pub escape_at : List ℕ → Option (ℕ × List ℕ)
 escape_at [] = None
 escape_at (b ∷ bs) =
@@ -72,7 +72,7 @@ escape_at (b ∷ bs) =
     else if b == 92 then Some (92, bs)
     else octal_at (b ∷ bs)
 
--- the byte that the first piece stands for, and the bytes behind that piece
+-- the byte that the first piece stands for, and the bytes after that piece
 unfoldable pub piece_at : List ℕ → Option (ℕ × List ℕ)
 piece_at [] = None
 piece_at (b ∷ bs) = if b == 34 then None else if b == 92 then escape_at bs else Some (b, bs)
@@ -87,12 +87,12 @@ abbrev pub string_step : (List ℕ → List ℕ → Option (List ℕ × List ℕ
 string_step next front bytes (Some p) = next (front ++ p.0 ∷ []) p.1
 string_step next front bytes None = closed_string front bytes
 
--- what the pieces stand for, up to the closing quote, behind `front`; the number bounds the turns
+-- what the pieces stand for, up to the closing quote, after `front`; the number bounds the turns
 unfoldable pub string_in : ℕ → List ℕ → List ℕ → Option (List ℕ × List ℕ)
 string_in zero front bytes = None
 string_in (suc n) front bytes = string_step (string_in n) front bytes (piece_at bytes)
 
--- what the pieces stand for, and the bytes behind the closing quote
+-- what the pieces stand for, and the bytes after the closing quote
 abbrev pub string_at : List ℕ → Option (List ℕ × List ℕ)
 string_at bytes = string_in (suc (length bytes)) [] bytes
 
@@ -106,7 +106,7 @@ abbrev pub string_token : List ℕ → Option (List ℕ × List ℕ) → Token �
 string_token bytes (Some p) = (string p.0, p.1)
 string_token bytes None = (bad, bytes)
 
--- the token at the front, and the bytes behind it
+-- the token at the front, and the bytes after it
 unfoldable pub token_at : List ℕ → Token × List ℕ
 token_at [] = (end, [])
 token_at (b ∷ bs) =
@@ -116,19 +116,19 @@ token_at (b ∷ bs) =
     else if is_sign b then (sign b, bs)
     else (bad, b ∷ bs)
 
--- behind all blanks and comments
+-- after all blanks and comments
 abbrev pub gapless : List ℕ → List ℕ
 gapless bytes = skipped (length bytes) bytes
 
--- the next token, with `total` bytes in all, and the bytes behind it
+-- the next token, with `total` bytes in all, and the bytes after it
 abbrev pub next : ℕ → List ℕ → Placed
 next total bytes = record { at = total - length (gapless bytes); token = (token_at (gapless bytes)).0 }
 
--- the bytes behind the next token
+-- the bytes after the next token
 abbrev pub behind : List ℕ → List ℕ
 behind bytes = (token_at (gapless bytes)).1
 
--- these are the next tokens, and these the bytes behind them
+-- these are the next tokens, and these the bytes after them
 abbrev pub Leads : ℕ → List ℕ → List Placed → List ℕ → Type 0
 Leads total bytes [] rest = bytes ≡ rest
 Leads total bytes (p ∷ ps) rest = (p ≡ next total bytes) × Leads total (behind bytes) ps rest

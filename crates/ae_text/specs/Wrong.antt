@@ -9,7 +9,7 @@ use Rattle.ae_text.specs.WellFormed.{MembersHaveDistinctNames, MembersFitDepth, 
 abbrev pub GoesOn : ℕ → List Placed → Type 0
 GoesOn depth front = (more : List Placed) × (ms : Members) × (places : List ℕ) × IsSentence (front ++ more) ms places × MembersHaveDistinctNames ms × MembersFitDepth depth ms
 
--- The bytes begin with `front` and then p, which stands in this line: behind `front` another token can stand, and p can't.
+-- The bytes begin with `front` and then p, which stands in this line: after `front` another token can stand, and p can't.
 pub record IsWrongAt (bytes : List ℕ) (line : ℕ) (front : List Placed) (p : Placed) : Type 0 where
   pub tokens_are : Begins 0 bytes (front ++ p ∷ [])
   pub can_go_on : (other : Placed) × GoesOn max_depth (front ++ other ∷ [])
@@ -46,11 +46,11 @@ closes (sign b) = (b == 93) || (b == 125)
 closes end = false
 closes bad = false
 
--- how many lists and structures are open behind a token, where n are before it
+-- how many lists and structures are open after a token, where n are before it
 abbrev pub level_behind_one : ℕ → Token → ℕ
 level_behind_one n t = if opens t then n + 1 else if closes t then n - 1 else n
 
--- how many are open behind these tokens
+-- how many are open after these tokens
 abbrev pub level_behind : ℕ → List Placed → ℕ
 level_behind n [] = n
 level_behind n (p ∷ ps) = level_behind (level_behind_one n p.token) ps

@@ -27,6 +27,7 @@ impl LineList {
         LineList { lines }
     }
 
+    /// The line of each, counted from 1.
     pub fn lines(&self) -> &[u32]
         ensures { result.now ≡ self.now }
     {

@@ -43,7 +43,7 @@ impl OpenFields {
         self.names.contains(name)
     }
 
-    /// These fields and one more behind them.
+    /// These fields and one more after them.
     pub(crate) fn with(
         self,
         alloc: Global,

@@ -55,7 +55,7 @@ impl State {
     }
 }
 
-// The state behind the next token, and the bytes behind it.
+// The state after the next token, and the bytes after it.
 fn turn(alloc: Global, total: usize, state: State, rest: &[u8]) -> Result<(State, &[u8]), Fault>
     requires { length rest.now ≤ total }
     ensures ok { IfOk result (λ r. (step max_depth (state_of state) (next total rest.now) ≡ Ok (state_of r.0)) × (r.1.now ≡ behind rest.now)) }
@@ -75,7 +75,7 @@ fn turn(alloc: Global, total: usize, state: State, rest: &[u8]) -> Result<(State
     }
 }
 
-// The state behind the last token.
+// The state after the last token.
 fn parse(alloc: Global, bytes: &[u8]) -> Result<State, Fault>
     ensures ok { IfOk result (λ s. (is_done (place_of s.place) ≡ true) × ((rest : List ℕ) × Taken bytes.now rest (state_of s))) }
     ensures err { IfErr result (IsFault bytes.now) }

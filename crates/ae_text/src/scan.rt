@@ -40,7 +40,7 @@ fn goes_on_byte(b: u8) -> bool
     is_letter_byte(b) || is_digit_byte(b)
 }
 
-// The bytes behind the first `*/`.
+// The bytes after the first `*/`.
 fn behind_end(bytes: &[u8]) -> Option<&[u8]>
     ensures value { option_map (λ s. s.now) result ≡ after_end bytes.now }
     ensures shorter { IfSome result (λ s. length s.now < length bytes.now) }
@@ -57,7 +57,7 @@ fn behind_end(bytes: &[u8]) -> Option<&[u8]>
     None
 }
 
-// The bytes behind one blank or comment.
+// The bytes after one blank or comment.
 #[tactic(auto, unfolding(crate::specs::Scan::after_one))]
 fn behind_one(bytes: &[u8]) -> Option<&[u8]>
     ensures value { option_map (λ s. s.now) result ≡ after_one bytes.now }
@@ -135,7 +135,7 @@ fn read_octal(bytes: &[u8]) -> Option<(u8, &[u8])>
     }
 }
 
-// The byte of an escape behind its `\`, and the bytes behind it.
+// The byte of an escape after its `\`, and the bytes after it.
 #[tactic(auto, unfolding(crate::specs::Scan::escape_at))]
 fn read_escape(bytes: &[u8]) -> Option<(u8, &[u8])>
     ensures value { option_map (λ p. (p.0, p.1.now)) result ≡ escape_at bytes.now }
@@ -151,7 +151,7 @@ fn read_escape(bytes: &[u8]) -> Option<(u8, &[u8])>
     }
 }
 
-// The byte that a piece of a string stands for, and the bytes behind it.
+// The byte that a piece of a string stands for, and the bytes after it.
 #[tactic(auto, unfolding(crate::specs::Scan::piece_at))]
 fn read_piece(bytes: &[u8]) -> Option<(u8, &[u8])>
     ensures value { option_map (λ p. (p.0, p.1.now)) result ≡ piece_at bytes.now }
@@ -165,7 +165,7 @@ fn read_piece(bytes: &[u8]) -> Option<(u8, &[u8])>
     }
 }
 
-/// The bytes behind all blanks and comments.
+/// The bytes after all blanks and comments.
 pub(crate) fn skip_gap(bytes: &[u8]) -> &[u8]
     ensures value { result.now ≡ gapless bytes.now }
     ensures shorter { length result.now ≤ length bytes.now }
@@ -177,7 +177,7 @@ pub(crate) fn skip_gap(bytes: &[u8]) -> &[u8]
     rest
 }
 
-// What the pieces stand for, and the bytes behind the closing quote.
+// What the pieces stand for, and the bytes after the closing quote.
 fn read_string(alloc: Global, bytes: &[u8]) -> Result<Option<(Text, &[u8])>, AllocError>
     ensures value { IfOk result (λ o. option_map (λ p. (p.0, p.1.now)) o ≡ string_at bytes.now) }
     ensures shorter { IfOk result (λ o. IfSome o (λ p. length p.1.now < length bytes.now)) }
@@ -201,7 +201,7 @@ fn close_string(front: Text, bytes: &[u8]) -> Option<(Text, &[u8])>
     }
 }
 
-/// The token at the front, and the bytes behind it.
+/// The token at the front, and the bytes after it.
 #[tactic(auto, unfolding(crate::specs::Scan::token_at))]
 pub(crate) fn read_token(alloc: Global, bytes: &[u8]) -> Result<(Token, &[u8]), AllocError>
     ensures value { IfOk result (λ r. (token_of r.0, r.1.now) ≡ token_at bytes.now) }

@@ -79,6 +79,7 @@ impl TreeList {
         TreeList { items: trees }
     }
 
+    /// The values of the list, in their order.
     pub fn items(&self) -> &[Tree]
         ensures { items_seen result.now ≡ items self.now }
     {
@@ -94,6 +95,7 @@ impl FieldList {
         FieldList { items: fields }
     }
 
+    /// The fields, in their order.
     pub fn items(&self) -> &[Field]
         ensures { members_seen result.now ≡ members self.now }
     {

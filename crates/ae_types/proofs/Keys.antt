@@ -9,7 +9,7 @@ use Rattle.std.specs.FinMap.{slice_cmp-IsAntisymmetric, nat_cmp-IsAntisymmetric}
 use Rattle.std.specs.Cmp.Lexicographic.{same_text as same_bytes}
 use Rattle.std.proofs.lemmas.Cmp.{nat_list_cmp_total, nat_cmp_total, nat_list_eq_equiv, nat_eq_equiv}
 use Rattle.std.specs.Str.{bytes_eq}
-use Rattle.ae_types.specs.Trees.{text_cmp}
+use Rattle.ae_base.specs.Rows.{text_cmp}
 use Rattle.std.specs.Cmp.Lexicographic.{on_texts}
 use Rattle.std.specs.Option.{option_eq}
 use Rattle.ae_base.specs.declared.words.Ground.{Ground}

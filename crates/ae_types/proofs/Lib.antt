@@ -1,3 +1,4 @@
+pub mod Adjacent
 pub mod BinarySearch
 pub mod Clashing
 pub mod Keys

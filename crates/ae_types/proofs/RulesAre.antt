@@ -99,7 +99,7 @@ sound-blamed o s =
         && facts-deltas o.project.deltas o.numbers o.changes (deltas-ascend o.project.deltas s.project.numbered) s.changes.ascend s.deltas i
         && facts-versions o.files o.changes (in-order (length o.project.deltas) o s.rows s.changes) o.project.next_version s.versions i
 
-    files : (n : ℕ) (x : Change) → Rattle.ae_types.specs.Found.change_in o.changes n ≡ Some x → Rattle.ae_types.specs.Ordered.Ascends Rattle.ae_types.specs.Trees.text_cmp Rattle.ae_types.specs.Found.file_path x.files
+    files : (n : ℕ) (x : Change) → Rattle.ae_types.specs.Found.change_in o.changes n ≡ Some x → Rattle.ae_types.specs.Ordered.Ascends Rattle.ae_base.specs.Rows.text_cmp Rattle.ae_types.specs.Found.file_path x.files
     files n x found = (s.changes.good n x found).files.ascend
 
     fifth : files_fit_changes o ≡ true

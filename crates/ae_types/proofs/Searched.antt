@@ -56,10 +56,6 @@ module _ {K : Type 0} (o : Order K) {A : Type 0} (key : A → K) where
   in-found (x ∷ xs) a r (inl e) = subst (λ s. at o key (key s) (x ∷ xs) ≡ Some s) e (at-first o key x xs)
   in-found (x ∷ xs) a r (inr h) = at-skip x xs (key r) r a.0 (in-found xs a.1 r h)
 
-  -- two members of one key are the same
-  pub one-row : (xs : List A) → Ascends o key xs → (r s : A) → In xs r → In xs s → key r ≡ key s → r ≡ s
-  one-row xs a r s h m e = some-is r s (sym (in-found xs a r h) ∙ ap (λ k. at o key k xs) e ∙ in-found xs a s m)
-
   -- ---- tests of all rows
 
   pub all-found : (t : A → Bool) (xs : List A) → list_all t xs ≡ true → (k : K) (r : A) → at o key k xs ≡ Some r → t r ≡ true

@@ -12,7 +12,8 @@ use Rattle.ae_types.specs.declared.version.VersionRef.{VersionRef}
 use Rattle.ae_types.specs.Clashes.{has_path}
 use Rattle.ae_types.specs.Found.{file_path, row_path, file_in, row_in, has_file}
 use Rattle.ae_types.specs.Ordered.{put_by}
-use Rattle.ae_types.specs.Trees.{TreeRow, tree_path, text_cmp, entry_row, last_up_to, tree_row, tree_at, frozen_row, put_rows, overlaid, paths_of}
+use Rattle.ae_types.specs.Trees.{TreeRow, tree_path, entry_row, last_up_to, tree_row, tree_at, frozen_row, put_rows, overlaid, paths_of}
+use Rattle.ae_base.specs.Rows.{text_cmp}
 use Rattle.ae_types.proofs.Keys.{by_text}
 use Rattle.ae_types.proofs.Ordered.{Ascends, at, at-put, at-rows, some-is, none-some}
 

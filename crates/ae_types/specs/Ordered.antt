@@ -10,7 +10,7 @@ abbrev pub Above : {K A : Type 0} → (K → K → Ordering) → (A → K) → K
 Above cmp key k [] = Unit {0}
 Above cmp key k (row ∷ rows) = (cmp k (key row) ≡ Less) × Above cmp key k rows
 
--- each key is below those of the rows behind it
+-- each key is below those of the rows after it
 abbrev pub Ascends : {K A : Type 0} → (K → K → Ordering) → (A → K) → List A → Type 0
 Ascends cmp key [] = Unit {0}
 Ascends cmp key (row ∷ rows) = Above cmp key (key row) rows × Ascends cmp key rows

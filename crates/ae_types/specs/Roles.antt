@@ -2,6 +2,7 @@
 use Rattle.std.specs.Prelude.{ℕ, Bool, true, false, ◌&&◌, not, List, Option, Some, None, if◌then◌else◌, length, nat_le}
 use Rattle.std.specs.List.{list_any}
 use Rattle.std.specs.Str.{bytes_eq}
+use Rattle.ae_base.specs.Limits.{most_role_users}
 use Rattle.ae_base.specs.declared.words.Role.{Role}
 use Rattle.ae_base.specs.declared.words.Role.TheVariants.{Administrator, Developer, Reviewer, Integrator}
 use Rattle.ae_base.specs.declared.words.Which.TheVariants.{RoleUsers}
@@ -33,7 +34,7 @@ has_user users user = list_any (bytes_eq user) users
 
 -- why the user isn't added to a role with these users
 abbrev pub refuses_adding : List (List ℕ) → List ℕ → Option Refusal
-refuses_adding users user = if has_user users user then Some (UserThere user) else if nat_le 256 (length users) then Some (Limit RoleUsers 256) else None
+refuses_adding users user = if has_user users user then Some (UserThere user) else if nat_le most_role_users (length users) then Some (Limit RoleUsers most_role_users) else None
 
 -- why the user isn't dropped from the role with these users
 abbrev pub refuses_dropping : Role → List (List ℕ) → List ℕ → Option Refusal

@@ -5,6 +5,7 @@ use Rattle.std.specs.List.{list_all, find}
 use Rattle.std.specs.Option.{option_map, option_or}
 use Rattle.std.specs.Ordering.{nat_cmp}
 use Rattle.std.specs.Str.{bytes_eq}
+use Rattle.ae_base.specs.Limits.{last_moment, most_change_files, most_deltas, most_file_bytes, most_next_version, most_role_users, most_units}
 use Rattle.ae_base.specs.declared.words.Phase.{Phase}
 use Rattle.ae_types.specs.declared.blame.Blame.{Blame}
 use Rattle.ae_types.specs.declared.blame.Blame.TheVariants as blame
@@ -22,7 +23,8 @@ use Rattle.ae_types.specs.Observation.{Observation}
 use Rattle.ae_types.specs.Ordered.{ascends, itself}
 use Rattle.ae_types.specs.Phases.{is_awaiting_development, is_integrating, is_completed, is_reviewed, may_be_reviewing, has_integrator, holds_locks, is_remove}
 use Rattle.ae_types.specs.Found.{number_of_change, file_path, row_path, entry_delta, lock_path, change_in, row_in, entry_in, lock_in, delta_in, has_number, has_file, there_and, if_there}
-use Rattle.ae_types.specs.Trees.{text_cmp, tree_at, overlaid, paths_of}
+use Rattle.ae_types.specs.Trees.{tree_at, overlaid, paths_of}
+use Rattle.ae_base.specs.Rows.{text_cmp}
 use Rattle.ae_types.specs.Runs.{run_cmp, run_of}
 use Rattle.ae_types.specs.Clashes.{none_clash}
 use Rattle.ae_types.specs.Versions.{live, has_units, end_of, meet, same_number, no_two}
@@ -31,11 +33,11 @@ use Rattle.ae_types.specs.Versions.{live, has_units, end_of, meet, same_number, 
 
 -- a moment, in seconds since 1970, up to the end of 2099
 abbrev pub is_moment : ℕ → Bool
-is_moment when = nat_le when 4102444799
+is_moment when = nat_le when last_moment
 
 -- a version has at most 4 MiB
 abbrev pub length_is_good : Option VersionRef → Bool
-length_is_good version = if_there version (λ version. nat_le version.length 4194304)
+length_is_good version = if_there version (λ version. nat_le version.length most_file_bytes)
 
 abbrev pub same_bool : Bool → Bool → Bool
 same_bool true other = other
@@ -50,7 +52,7 @@ users_differ (user ∷ users) = list_all (λ other. not (bytes_eq user other)) u
 
 -- no user stands twice in the role, and it has at most 256
 abbrev pub role_is_good : List (List ℕ) → Bool
-role_is_good users = users_differ users && nat_le (length users) 256
+role_is_good users = users_differ users && nat_le (length users) most_role_users
 
 abbrev pub roles_are_good : Project → Bool
 roles_are_good project = role_is_good project.administrators && role_is_good project.developers && role_is_good project.reviewers && role_is_good project.integrators
@@ -75,7 +77,7 @@ deltas_have_moments deltas = list_all (λ (delta : DeltaRow). is_moment delta.wh
 
 -- the next version is numbered from 1 to 2 ^ 62 + 1000
 abbrev pub next_version_is_good : ℕ → Bool
-next_version_is_good next = nat_le 1 next && nat_le next 4611686018427388904
+next_version_is_good next = nat_le 1 next && nat_le next most_next_version
 
 abbrev pub project_is_good : Project → List ℕ → Bool
 project_is_good project numbers =
@@ -153,7 +155,7 @@ files_are_in_time change = not (is_awaiting_development change.phase) || nat_eq 
 
 abbrev pub change_is_good : Change → Bool
 change_is_good change =
-    nat_le (length change.files) 1000 && files_ascend change.files && evidence_ascends change.evidence && ranges_are_good change
+    nat_le (length change.files) most_change_files && files_ascend change.files && evidence_ascends change.evidence && ranges_are_good change
     && people_are_good change && list_all (version_fits change.phase) change.files && files_are_in_time change
 
 -- a change that is good, and one of those that the project numbers
@@ -167,7 +169,7 @@ integrating changes = filter (λ (change : Change). is_integrating change.phase)
 
 -- at most one change is being integrated, and where one is there are fewer than 1,990 deltas
 abbrev pub integration_fits : ℕ → List Change → Bool
-integration_fits deltas changes = nat_le (length (integrating changes)) 1 && (nat_eq (length (integrating changes)) 0 || nat_lt deltas 1990)
+integration_fits deltas changes = nat_le (length (integrating changes)) 1 && (nat_eq (length (integrating changes)) 0 || nat_lt deltas most_deltas)
 
 -- the change that the delta names has a number; where it is looked at, it is completed
 abbrev pub delta_has_change : List ℕ → List Change → DeltaRow → Bool
@@ -185,7 +187,7 @@ deltas_fit deltas numbers changes = list_all (delta_has_change numbers changes) 
 
 -- where it has units, it ends in the region of 16,777,216 units
 abbrev pub is_in_region : VersionRef → Bool
-is_in_region version = not (has_units version) || nat_le (end_of version) 16777216
+is_in_region version = not (has_units version) || nat_le (end_of version) most_units
 
 -- the next number is greater than each, none stands at two places, and no two share a unit of the region
 abbrev pub versions_fit : ℕ → List VersionRef → Bool

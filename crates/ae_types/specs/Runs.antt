@@ -16,7 +16,8 @@ use Rattle.ae_types.specs.declared.change.Evidence.{Evidence}
 use Rattle.ae_types.specs.Observation.{Observation}
 use Rattle.ae_types.specs.Phases.{is_remove, is_test}
 use Rattle.ae_types.specs.Found.{has_file, there_and}
-use Rattle.ae_types.specs.Trees.{text_cmp, TreeRow, baseline_of}
+use Rattle.ae_types.specs.Trees.{TreeRow, baseline_of}
+use Rattle.ae_base.specs.Rows.{text_cmp}
 
 -- ---- what a run was of, and the order of the rows of evidence
 

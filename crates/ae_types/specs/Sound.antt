@@ -2,6 +2,7 @@
 use Rattle.std.specs.Prelude.{◌≡◌, ℕ, ◌<◌, ◌≤◌, true, false, ◌&&◌, not, List, [], Option, Some, None, is_some, length, IfSome, IsSomeAnd, All}
 use Rattle.std.specs.Option.{option_map}
 use Rattle.std.specs.Ordering.{nat_cmp}
+use Rattle.ae_base.specs.Limits.{last_moment, most_change_files, most_deltas, most_file_bytes, most_next_version, most_role_users, most_units}
 use Rattle.ae_base.specs.Users.{AllDiffer}
 use Rattle.ae_base.specs.declared.words.Phase.{Phase}
 use Rattle.ae_base.specs.declared.words.Role.{Role}
@@ -19,7 +20,8 @@ use Rattle.ae_types.specs.Observation.{Observation}
 use Rattle.ae_types.specs.Ordered.{Ascends, itself}
 use Rattle.ae_types.specs.Phases.{is_awaiting_development, is_integrating, is_completed, is_reviewed, may_be_reviewing, has_integrator, holds_locks, is_remove}
 use Rattle.ae_types.specs.Found.{number_of_change, file_path, row_path, entry_delta, lock_path, change_in, file_in, row_in, entry_in, lock_in, delta_in, delta_of, has_number, has_file}
-use Rattle.ae_types.specs.Trees.{text_cmp, tree_at, overlaid, paths_of}
+use Rattle.ae_types.specs.Trees.{tree_at, overlaid, paths_of}
+use Rattle.ae_base.specs.Rows.{text_cmp}
 use Rattle.ae_types.specs.Runs.{RunKey, run_cmp, run_of, evidence_in}
 use Rattle.ae_types.specs.Roles.{users_of}
 use Rattle.ae_types.specs.Rules.{deltas_are_numbered}
@@ -28,11 +30,11 @@ use Rattle.ae_types.specs.Versions.{Place, version_at, has_units, end_of, meet}
 
 -- up to the end of 2099
 abbrev pub IsMoment : ℕ → Type 0
-IsMoment when = when ≤ 4102444799
+IsMoment when = when ≤ last_moment
 
 -- at most 4 MiB
 abbrev pub FitsLength : Option VersionRef → Type 0
-FitsLength version = IfSome version (λ (version : VersionRef). version.length ≤ 4194304)
+FitsLength version = IfSome version (λ (version : VersionRef). version.length ≤ most_file_bytes)
 
 -- what is so of each change that is found
 abbrev pub EachChange : List Change → (ℕ → Change → Type 0) → Type 0
@@ -42,7 +44,7 @@ EachChange changes P = (number : ℕ) (change : Change) → change_in changes nu
 
 pub record IsGoodRole (users : List (List ℕ)) : Type 0 where
   pub differ : AllDiffer users
-  pub few : length users ≤ 256
+  pub few : length users ≤ most_role_users
 
 pub record IsGoodProject (project : Project) (numbers : List ℕ) : Type 0 where
   pub roles : (role : Role) → IsGoodRole (users_of role project)
@@ -50,7 +52,7 @@ pub record IsGoodProject (project : Project) (numbers : List ℕ) : Type 0 where
   pub numbers_ascend : Ascends nat_cmp itself numbers
   pub numbered : deltas_are_numbered project.deltas ≡ true
   pub moments : (number : ℕ) (delta : DeltaRow) → delta_in project.deltas number ≡ Some delta → IsMoment delta.when
-  pub next : (1 ≤ project.next_version) × (project.next_version ≤ 4611686018427388904)
+  pub next : (1 ≤ project.next_version) × (project.next_version ≤ most_next_version)
 
 -- ---- the file table by itself
 
@@ -76,7 +78,7 @@ pub record ArePeople (change : Change) : Type 0 where
 
 -- its files in that phase
 pub record AreFiles (phase : Phase) (files : List ChangeFile) : Type 0 where
-  pub few : length files ≤ 1000
+  pub few : length files ≤ most_change_files
   pub ascend : Ascends text_cmp file_path files
   pub frozen : (path : List ℕ) (file : ChangeFile) → file_in files path ≡ Some file → is_some file.frozen ≡ (holds_locks phase && not (is_remove file.action))
   pub lengths : (path : List ℕ) (file : ChangeFile) → file_in files path ≡ Some file → FitsLength file.frozen
@@ -102,7 +104,7 @@ pub record AreChanges (numbers : List ℕ) (changes : List Change) : Type 0 wher
 -- at most one change is being integrated, and then there is room for its delta
 pub record IsIntegrating (deltas : ℕ) (changes : List Change) : Type 0 where
   pub one : (m n : ℕ) (change other : Change) → change_in changes m ≡ Some change → change_in changes n ≡ Some other → is_integrating change.phase ≡ true → is_integrating other.phase ≡ true → m ≡ n
-  pub room : EachChange changes (λ number change. is_integrating change.phase ≡ true → deltas < 1990)
+  pub room : EachChange changes (λ number change. is_integrating change.phase ≡ true → deltas < most_deltas)
 
 -- the deltas name each completed change once, and no other
 pub record AreDeltas (deltas : List DeltaRow) (numbers : List ℕ) (changes : List Change) : Type 0 where
@@ -116,7 +118,7 @@ pub record AreDeltas (deltas : List DeltaRow) (numbers : List ℕ) (changes : Li
 pub record AreVersions (next : ℕ) (rows : List FileRow) (changes : List Change) : Type 0 where
   pub below : (place : Place) (version : VersionRef) → version_at rows changes place ≡ Some version → version.number < next
   pub apart : (p q : Place) (one other : VersionRef) → version_at rows changes p ≡ Some one → version_at rows changes q ≡ Some other → one.number ≡ other.number → p ≡ q
-  pub inside : (place : Place) (version : VersionRef) → version_at rows changes place ≡ Some version → has_units version ≡ true → end_of version ≤ 16777216
+  pub inside : (place : Place) (version : VersionRef) → version_at rows changes place ≡ Some version → has_units version ≡ true → end_of version ≤ most_units
   pub unshared : (p q : Place) (one other : VersionRef) → version_at rows changes p ≡ Some one → version_at rows changes q ≡ Some other → meet one other ≡ true → p ≡ q
 
 -- ---- the file table beside the changes

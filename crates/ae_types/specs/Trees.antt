@@ -2,9 +2,7 @@
 use Rattle.std.specs.Prelude.{ℕ, not, List, [], ◌∷◌, Option, Some, None, if◌then◌else◌, length, nat_le, filter, map}
 use Rattle.std.specs.List.{filter_map}
 use Rattle.std.specs.Option.{option_map, option_and_then}
-use Rattle.std.specs.Ordering.{nat_cmp}
-use Rattle.std.specs.Cmp.Lexicographic.{slice_cmp}
-use Rattle.std.specs.declared.cmp.Ordering.{Ordering}
+use Rattle.ae_base.specs.Rows.{text_cmp}
 use Rattle.ae_base.specs.declared.words.Usage.{Usage}
 use Rattle.ae_types.specs.declared.change.Change.{Change}
 use Rattle.ae_types.specs.declared.change.ChangeFile.{ChangeFile}
@@ -13,11 +11,7 @@ use Rattle.ae_types.specs.declared.file_table.FileVersion.{FileVersion}
 use Rattle.ae_types.specs.declared.version.VersionRef.{VersionRef}
 use Rattle.ae_types.specs.Observation.{Observation}
 use Rattle.ae_types.specs.Ordered.{put_by}
-use Rattle.ae_types.specs.Found.{row_in, has_file}
-
--- the order of paths and other texts: that of their bytes
-abbrev pub text_cmp : List ℕ → List ℕ → Ordering
-text_cmp = slice_cmp nat_cmp
+use Rattle.ae_types.specs.Found.{entry_delta, row_in, has_file}
 
 -- a file of a tree
 pub record TreeRow : Type 0 where
@@ -40,15 +34,18 @@ past_of o path = past_in (row_in o.files path)
 abbrev pub edit_of : Observation → List ℕ → ℕ
 edit_of o path = length (past_of o path)
 
--- the entry, where there is none behind it
-abbrev pub unless_later : FileVersion → Option FileVersion → Option FileVersion
+-- the entry, where there is no later one
+abbrev pub unless_later : {A : Type 0} → A → Option A → Option A
 unless_later entry (Some later) = Some later
 unless_later entry None = Some entry
 
--- the last entry up to a delta
+-- the last entry up to a delta, of entries that each have one
+abbrev pub last_by : {A : Type 0} → (A → ℕ) → ℕ → List A → Option A
+last_by delta_of delta [] = None
+last_by delta_of delta (entry ∷ past) = if nat_le (delta_of entry) delta then unless_later entry (last_by delta_of delta past) else last_by delta_of delta past
+
 abbrev pub last_up_to : ℕ → List FileVersion → Option FileVersion
-last_up_to delta [] = None
-last_up_to delta (entry ∷ past) = if nat_le entry.delta delta then unless_later entry (last_up_to delta past) else last_up_to delta past
+last_up_to = last_by entry_delta
 
 -- the file that an entry makes of a path, where it doesn't remove it
 abbrev pub entry_row : List ℕ → FileVersion → Option TreeRow

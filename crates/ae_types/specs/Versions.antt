@@ -28,14 +28,17 @@ version_at rows changes (in_change number path) = option_and_then (λ (change : 
 
 -- ---- units of 64 bytes
 
--- how many units hold the bytes
+-- how many units hold so many bytes, and those of a version
+abbrev pub units_for : ℕ → ℕ
+units_for length = (length + 63) / 64
+
 abbrev pub units : VersionRef → ℕ
-units version = (version.length + 63) / 64
+units version = units_for version.length
 
 abbrev pub has_units : VersionRef → Bool
 has_units version = nat_lt 0 version.length
 
--- the first unit behind it
+-- the first unit after it
 abbrev pub end_of : VersionRef → ℕ
 end_of version = version.at + units version
 

@@ -77,7 +77,7 @@ pub struct Change {
 /// Changes, ascending by number.
 pub type ChangeList = Rows<Change>;
 
-// an equal user, or nobody
+// An equal user, or nobody.
 fn copy_user(alloc: Global, user: Option<&User>) -> Result<Option<User>, AllocError>
     ensures { IfOk result (λ copy. copy ≡ option_copied user.entry) }
 {
@@ -87,7 +87,7 @@ fn copy_user(alloc: Global, user: Option<&User>) -> Result<Option<User>, AllocEr
     }
 }
 
-// an equal path, or none
+// An equal path, or none.
 fn copy_path(alloc: Global, path: Option<&Path>) -> Result<Option<Path>, AllocError>
     ensures { IfOk result (λ copy. copy ≡ option_copied path.entry) }
 {

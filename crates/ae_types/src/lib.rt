@@ -6,6 +6,7 @@ mod change;
 mod file_table;
 mod laws;
 mod lookup;
+mod order;
 mod project;
 mod rows;
 mod state;
@@ -19,10 +20,8 @@ pub use change::{
 pub use file_table::{FileRow, FileRows, FileVersion, FileVersionList, Lock, LockList};
 pub use laws::note_rules;
 pub use lookup::{change_in, delta_in, entry_in, file_in, has_number, lock_in, row_in};
+pub use order::{compare_runs, compare_to_run, is_path_below};
 pub use project::{Attributes, DeltaList, DeltaRow, EndAction, NumberList, Project};
 pub use rows::{Rows, TryCopy};
 pub use state::{Parts, State};
 pub use version::VersionRef;
-
-#[cfg(test)]
-mod tests;

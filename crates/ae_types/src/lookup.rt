@@ -3,7 +3,7 @@ ghost use Rattle.std.specs.Prelude.{◌≡◌, option_copied};
 ghost use Rattle.std.specs.Ordering.{nat_cmp};
 ghost use Rattle.ae_types.specs.Ordered.{Ascends, itself};
 ghost use Rattle.ae_types.specs.Found.{number_of_change, file_path, row_path, entry_delta, lock_path, number_of_delta, change_in, file_in, row_in, entry_in, lock_in, delta_in, has_number};
-ghost use Rattle.ae_types.specs.Trees.{text_cmp};
+ghost use Rattle.ae_base.specs.Rows.{text_cmp};
 
 use crate::{Change, ChangeFile, DeltaRow, FileRow, FileVersion, Lock};
 use ae_base::{ChangeNo, Delta, Path};

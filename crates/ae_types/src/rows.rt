@@ -53,12 +53,14 @@ impl<T> Rows<T> {
         Ok(())
     }
 
+    /// How many rows there are.
     pub fn len(&self) -> usize
         ensures { result ≡ length self.now }
     {
         self.rows.len()
     }
 
+    /// The rows, in their order.
     pub fn as_slice(&self) -> &[T]
         ensures { result.now ≡ self.now }
     {

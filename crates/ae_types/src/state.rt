@@ -79,6 +79,14 @@ impl State {
         }
     }
 
+    /// A law: a state is sound. The proof knows it where a field is used.
+    pub fn note_sound(&self)
+        ensures sound { Sound self.now }
+    {
+        let _ = &self.project;
+    }
+
+    /// The record of the project.
     pub fn project(&self) -> &Project
         ensures project { result.now ≡ self.now.project }
         ensures sound { Sound self.now }
@@ -93,12 +101,14 @@ impl State {
         self.numbers.as_slice()
     }
 
+    /// The rows of the file table, in the order of their paths.
     pub fn files(&self) -> &[FileRow]
         ensures { result.now ≡ self.now.files }
     {
         self.files.as_slice()
     }
 
+    /// The locks, in the order of their paths.
     pub fn locks(&self) -> &[Lock]
         ensures { result.now ≡ self.now.locks }
     {

@@ -103,11 +103,6 @@ module _ (batch : BatchRecord) (unnamed : no_entry_is_pack batch.entries ≡ tru
   pub through_pieces : Throughout (BatchAt batch base) base.moment s
   through_pieces = at_pieces
 
-  pub pieces_clean : IsClean s
-  pieces_clean f is =
-      let was = goes.images_since s.moment f goes.time.later (omega arith) is in
-      still_closed was.0 f was.2 (clean was.0 was.1)
-
   module _ (has : (f : Image) → MayLeave s f → HasPieces batch.pieces (f pack)) where
     has_read : HasPieces batch.pieces (reads s pack)
     has_read = has (reads s) (s.reads_is_image s.moment (omega arith))
@@ -165,18 +160,12 @@ module _ (batch : BatchRecord) (no_entries : batch.entries ≡ []) (no_pieces : 
   has_none : (f : Image) → MayLeave base f → HasPieces batch.pieces (f pack)
   has_none f left = subst (λ (ps : List Piece). HasPieces ps (f pack)) (sym no_pieces) tt
 
-  pub nothing_through : Throughout (BatchAt batch base) base.moment base
-  nothing_through = through_pieces batch unnamed base clean base stays
-
   after_nothing : (f : Image) → IsAfter batch.entries f f
   after_nothing f = same (effective f) ∙ ap (λ (es : List Entry). with_entries es (effective f)) (sym no_entries)
     where
       same : (o : Option Image) → o ≡ with_entries [] o
       same (Some image) = refl
       same None = refl
-
-  pub nothing_all : (f : Image) → MayLeave base f → (from : Image) × MayLeave base from × IsAfterBatch batch from f
-  nothing_all = all_after batch unnamed base clean base stays has_none base (λ f left. (f, left, after_nothing f))
 
   pub nothing_read : IsAfterBatch batch (reads base) (reads base)
   nothing_read = read_after batch unnamed base clean base stays has_none (reads base) (after_nothing (reads base))

@@ -10,7 +10,7 @@ use Rattle.ae_vault.specs.declared.entry.Entry.{Entry}
 use Rattle.ae_vault.specs.Body.{content_bytes, entry_bytes, body_of, Fit}
 use Rattle.ae_vault.specs.Vault.{bytes_read, kind_read, entry_read, entries_read, body_entries, are_entries}
 
--- a front of known length, and what is behind it
+-- a front of known length, and what is after it
 front : (n : ℕ) (xs ys : List ℕ) → n ≡ length xs → take n (xs ++ ys) ≡ xs
 front n xs ys is = ap (λ (m : ℕ). take m (xs ++ ys)) is ∙ take-append_seam xs ys
 
@@ -74,10 +74,6 @@ body_reads entries are few fit =
 abbrev pub behind : List Entry → Option (List Entry) → Option (List Entry)
 behind entries = option_and_then (λ (more : List Entry). Some (entries ++ more))
 
-pub behind_none : (o : Option (List Entry)) → o ≡ behind [] o
-behind_none None = refl
-behind_none (Some es) = refl
-
 pub behind_push : (entries : List Entry) (e : Entry) (o : Option (List Entry)) → behind entries (option_and_then (λ (es : List Entry). Some (e ∷ es)) o) ≡ behind (entries ++ e ∷ []) o
 behind_push entries e None = refl
 behind_push entries e (Some es) = ap Some (sym (append_assoc entries (e ∷ []) es))
@@ -95,10 +91,6 @@ pub read_none : (left n : ℕ) (entries : List Entry) (rest : List ℕ) → left
 read_none left n entries rest is reads =
     ap (λ (k : ℕ). behind entries (entries_read k rest)) is
     ∙ ap (λ (o : Option (Entry × List ℕ)). behind entries (option_and_then (λ (r : Entry × List ℕ). option_and_then (λ (es : List Entry). Some (r.0 ∷ es)) (entries_read n r.1)) o)) reads
-
-pub read_end : (left : ℕ) (entries : List Entry) (rest : List ℕ) → left ≡ 0 → rest ≡ [] → behind entries (entries_read left rest) ≡ Some entries
-read_end left entries rest done is =
-    ap (λ (k : ℕ). behind entries (entries_read k rest)) done ∙ ap (λ (l : List ℕ). behind entries (entries_read 0 l)) is ∙ ap Some (append-nil entries)
 
 pub read_more : (left : ℕ) (entries : List Entry) (rest : List ℕ) → left ≡ 0 → rest ≢ [] → behind entries (entries_read left rest) ≡ None
 read_more left entries [] done is = absurd (is refl)

@@ -1,12 +1,12 @@
 -- Entries with an empty text, put as absent files.
-use Rattle.std.specs.Prelude.{◌≡◌, ℕ, suc, Bool, true, false, ◌&&◌, not, List, [], ◌∷◌, ◌++◌, length, map, Option, Some, None, unwrap_or, if◌then◌else◌}
+use Rattle.std.specs.Prelude.{◌≡◌, ℕ, suc, Bool, true, false, ◌&&◌, not, List, [], ◌∷◌, length, Option, Some, None, unwrap_or, if◌then◌else◌}
 use Rattle.std.specs.Ordering.{is_lt, nat_cmp}
 use Rattle.std.specs.Cmp.Lexicographic.{slice_cmp}
 use Rattle.std.specs.Str.{bytes_eq}
 use Rattle.std.proofs.Common.{refl, ap}
 use Rattle.ae_outside.specs.Image.{Image}
 use Rattle.ae_vault.specs.declared.entry.Entry.{Entry}
-use Rattle.ae_vault.specs.Body.{entries_put, entry_put, text_put}
+use Rattle.ae_vault.specs.Body.{entries_put, text_put}
 use Rattle.ae_vault.specs.Pieces.{no_entry_is_pack, pack}
 use Rattle.ae_vault.specs.Vault.{all_entry_names, are_entries, content_of, is_entry_name, names_ascend, or_else, put}
 
@@ -41,10 +41,6 @@ pack-put (e ∷ entries) = ap (λ b. not (bytes_eq e.name pack) && b) (pack-put 
 pub length-put : (entries : List Entry) → length (entries_put entries) ≡ length entries
 length-put [] = refl
 length-put (e ∷ entries) = ap (λ (n : ℕ). suc n) (length-put entries)
-
-pub put-more : (entries : List Entry) (e : Entry) → entries_put (entries ++ e ∷ []) ≡ entries_put entries ++ entry_put e ∷ []
-put-more [] e = refl
-put-more (d ∷ entries) e = ap (λ (es : List Entry). entry_put d ∷ es) (put-more entries e)
 
 -- ---- and so does what is put
 

@@ -1,5 +1,5 @@
 -- Pieces written one after another.
-use Rattle.std.proofs.Common.{◌≡◌, ◌≢◌, ◌⊎◌, inl, inr, ℕ, zero, suc, ◌+◌, ◌-◌, ◌<◌, ◌≤◌, ◌^◌, Bool, true, false, ◌&&◌, ◌||◌, ◌==◌, if◌then◌else◌, List, [], ◌∷◌, ◌++◌, length, get_or, take, drop, refl, sym, ◌∙◌, ap, subst, arith, length-append, length-take, length-drop}
+use Rattle.std.proofs.Common.{◌≡◌, ◌≢◌, ◌⊎◌, inl, inr, ℕ, zero, suc, ◌+◌, ◌-◌, ◌<◌, ◌≤◌, Bool, true, false, ◌&&◌, ◌||◌, ◌==◌, if◌then◌else◌, List, [], ◌∷◌, ◌++◌, length, get_or, take, drop, refl, sym, ◌∙◌, ap, subst, arith, length-append, length-take, length-drop}
 use Rattle.std.specs.List.{list_all}
 use Rattle.std.specs.Str.{bytes_eq}
 use Rattle.std.proofs.lemmas.Bool.{cases_lt}
@@ -12,7 +12,7 @@ use Rattle.ae_outside.specs.State.{DiskState, reads, GoesOn}
 use Rattle.ae_outside.specs.Time.{goes_on_refl, goes_on_weaker, goes_on_then}
 use Rattle.ae_vault.specs.declared.piece.Piece.{Piece}
 use Rattle.ae_vault.specs.Packing.{PackBegun, IsExtended}
-use Rattle.ae_vault.specs.Pieces.{pack, is_piece, are_apart, ends_before, none_meet, are_pieces, IsIn, IsCovered, KeepsOutside, HasPiece, HasPieces, PackedOver}
+use Rattle.ae_vault.specs.Pieces.{pack, are_apart, ends_before, none_meet, are_pieces, IsIn, IsCovered, KeepsOutside, HasPiece, HasPieces, PackedOver}
 use Rattle.ae_vault.proofs.Files.{bool_cases}
 
 torn_at : (at n k : ℕ) (old new : List ℕ) → IsTorn at n old new → (k < at) ⊎ (at + n ≤ k) → get_or new k 0 ≡ get_or old k 0
@@ -208,15 +208,6 @@ has_one_more pieces i q size old new lt is good size_is longer same has one =
     let more : take (i + 1) pieces ≡ take i pieces ++ q ∷ [] = take_more pieces i q lt ∙ ap (λ (x : Piece). take i pieces ++ x ∷ []) (sym is) in
     subst (λ (ps : List Piece). HasPieces ps new) (sym more) (has_last (take i pieces) q new (stays (take i pieces) q size old new (apart_before pieces i q lt is none) size_is longer same has) one)
 
--- a piece ends where its place can be counted
-pub ends_low : (pieces : List Piece) (i : ℕ) (q : Piece) → i < length pieces → q ≡ get_or pieces i q → list_all is_piece pieces ≡ true → q.at + length q.bytes ≤ 2 ^ 30
-ends_low [] i q lt is good = absurd (omega (arith, lt))
-ends_low (p ∷ pieces) zero q lt is good =
-    let one : is_piece p ≡ true = grind (arith, nat_tests) in
-    let same : is_piece q ≡ true = ap is_piece is ∙ one in
-    grind (arith, nat_tests)
-ends_low (p ∷ pieces) (suc i) q lt is good = ends_low pieces i q (omega (arith, lt)) is (grind (arith, nat_tests))
-
 -- An image comes from one at the start that is no longer than what was read.
 over_step : (p : Piece) (ps : List Piece) (read f g : Image) → PackBegun (p ∷ ps) (length (read pack)) f g → PackedOver (p ∷ ps) (cut_to read pack f) g
 over_step p ps read f g step = record {
@@ -251,7 +242,7 @@ packs_over (p ∷ ps) size s t some is goes = begun_over p ps s t (subst (λ (n 
 same_begun : (ps : List Piece) (n : ℕ) (f g : Image) → IsSame f g → PackBegun ps n f g
 same_begun ps n f g same = subst (λ (h : Image). PackBegun ps n f h) (sym same) (begun_refl ps n f)
 
--- calls that change nothing, before and behind
+-- calls that change nothing, before and after
 pub begun_behind : (ps : List Piece) (n : ℕ) (r s t : DiskState) → GoesOn IsSame r s → GoesOn (PackBegun ps n) s t → GoesOn (PackBegun ps n) r t
 begun_behind ps n r s t first second = begun_on ps n r s t (goes_on_weaker _ _ r s (same_begun ps n) first) second
 

@@ -4,7 +4,7 @@ use Rattle.ae_outside.specs.Image.{Image, SameElsewhere}
 use Rattle.ae_vault.specs.declared.piece.Piece.{Piece}
 use Rattle.ae_vault.specs.Pieces.{pack, KeepsOutside}
 
--- Outside the pieces the first so many bytes are as they were. What is behind them may be any: a stop may leave
+-- Outside the pieces the first so many bytes are as they were. What is after them may be any: a stop may leave
 -- the file longer than it reads, and zero bytes are written from the end that is read.
 pub record PackBegun (pieces : List Piece) (size : ℕ) (old new : Image) : Type 0 where
   pub others : SameElsewhere pack old new

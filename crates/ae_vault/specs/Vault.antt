@@ -1,4 +1,4 @@
--- The files that an image stands for, where a redo body may lie behind an open gate.
+-- The files that an image stands for, where a redo body may lie after an open gate.
 use Rattle.std.specs.Prelude.{◌≡◌, ℕ, zero, suc, Bool, true, false, not, nat_lt, ◌&&◌, ◌||◌, ◌==◌, nat_le, List, [], ◌∷◌, length, take, drop, codes, Option, Some, None, unwrap_or, option_and_then, if◌then◌else◌}
 use Rattle.std.specs.List.{list_all}
 use Rattle.std.specs.Ordering.{is_lt, nat_cmp}
@@ -65,7 +65,7 @@ all_entry_names = list_all (λ (e : Entry). is_entry_name e.name)
 abbrev pub are_entries : List Entry → Bool
 are_entries entries = all_entry_names entries && names_ascend entries
 
--- the body's grammar: the bytes of an entry of this name, behind their length, and what follows them
+-- the body's grammar: the bytes of an entry of this name, after their length, and what follows them
 abbrev pub bytes_read : List ℕ → List ℕ → Option (Entry × List ℕ)
 bytes_read name rest =
     if nat_lt (length rest) 8 then None
@@ -85,7 +85,7 @@ abbrev pub entry_read : List ℕ → Option (Entry × List ℕ)
 entry_read [] = None
 entry_read (n ∷ bytes) = if nat_lt (length bytes) n then None else kind_read (take n bytes) (drop n bytes)
 
--- so many entries, and nothing behind them
+-- so many entries, and nothing after them
 abbrev pub entries_read : ℕ → List ℕ → Option (List Entry)
 entries_read zero [] = Some []
 entries_read zero (b ∷ bytes) = None

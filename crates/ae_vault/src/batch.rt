@@ -41,12 +41,14 @@ impl Batch {
         self.entries.len() == 0 && self.pieces.len() == 0
     }
 
+    /// The entries, in the order of their names.
     pub fn entries(&self) -> &[Entry]
         ensures { result.now ≡ self.now.entries }
     {
         self.entries.as_slice()
     }
 
+    /// The pieces of the packed file, in their order.
     pub fn pieces(&self) -> &[Piece]
         ensures value { result.now ≡ self.now.pieces }
         ensures pieces { are_pieces self.now.pieces ≡ true }

@@ -27,7 +27,7 @@ pub fn read_body(alloc: Global, bytes: &[u8]) -> Result<Vec<Entry>, VaultError>
     Ok(entries)
 }
 
-// So many entries, and nothing behind them.
+// So many entries, and nothing after them.
 fn read_entries(alloc: Global, count: u32, bytes: &[u8]) -> Result<Vec<Entry>, VaultError>
     ensures entries { IfOk result (λ entries. entries_read count bytes.now ≡ Some entries.items) }
     ensures damaged { IsErrOf result VaultError.Damaged → entries_read count bytes.now ≡ None }

@@ -55,12 +55,14 @@ impl EntryList {
         Ok(())
     }
 
+    /// How many entries there are.
     pub fn len(&self) -> usize
         ensures { result ≡ length self.now }
     {
         self.entries.len()
     }
 
+    /// The entries, in the order of their names.
     pub fn as_slice(&self) -> &[Entry]
         ensures { result.now ≡ self.now }
     {

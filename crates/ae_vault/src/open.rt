@@ -19,7 +19,7 @@ impl Vault {
         ensures clean { OnOk result (D.tells → IsClean (D.state disk.new)) }
         // Where the disk is settled, a stop at any moment leaves the files that one before it would have left,
         ensures any_moment { D.tells → IsSettled (reads (D.state disk.old)) (MayLeave (D.state disk.old)) → Throughout (OpenAt (D.state disk.old)) (D.state disk.old).moment (D.state disk.new) }
-        // and from the sync of the gate on those of a stop that left the gate as it is read.
+        // And from the sync of the gate on those of a stop that left the gate as it is read.
         ensures synced { D.tells → IsSettled (reads (D.state disk.old)) (MayLeave (D.state disk.old)) → GoesOn IsSame (D.state disk.old) (D.state disk.new) ⊎ IsRecovering (D.state disk.old) (D.state disk.new) }
         ensures synced_ok { OnOk result (D.tells → IsSettled (reads (D.state disk.old)) (MayLeave (D.state disk.old)) → IsRecovering (D.state disk.old) (D.state disk.new)) }
         // However it ends, what is read are the files that were read before.

@@ -9,6 +9,7 @@ ghost use Rattle.ae_vault.specs.Pieces.{pack, are_pieces, HasPiece, HasPieces, P
 use crate::Piece;
 use ae_outside::{Disk, Failed};
 
+/// The file with the bytes of all versions.
 pub const PACK: &str = "pack";
 
 const ZEROS: [u8; 512] = [0; 512];

@@ -56,12 +56,14 @@ impl PieceList {
         Ok(())
     }
 
+    /// How many pieces there are.
     pub fn len(&self) -> usize
         ensures { result ≡ length self.now }
     {
         self.pieces.len()
     }
 
+    /// The pieces, in their order.
     pub fn as_slice(&self) -> &[Piece]
         ensures { result.now ≡ self.now }
     {
@@ -69,7 +71,7 @@ impl PieceList {
     }
 }
 
-// the end of the last place that a piece may have
+// The end of the last place that a piece may have.
 const LIMIT: u64 = 1 << 30;
 
 fn len_of(piece: &Piece) -> u64

@@ -1,4 +1,4 @@
-// The vault: a redo body, and a gate that opens behind it.
+// The vault: a redo body, and a gate that opens after it.
 ghost use Rattle.std.specs.Prelude.{◌≡◌, ◌⊎◌, ◌<◌, ◌≤◌, ◌+◌, ◌-◌, ◌^◌, ◌∷◌, [], List, ℕ, Bool, true, false, Option, Some, None, length, OnOk, IsOk, unwrap_or, ◌==◌};
 ghost use Rattle.ae_outside.specs.DiskNames.{IsDiskName};
 ghost use Rattle.ae_outside.specs.Image.{Image, SameElsewhere};
@@ -13,8 +13,10 @@ use crate::packed::write_pieces;
 use crate::{Batch, Entry};
 use ae_outside::{Disk, Failed};
 
+/// The file that says whether the body counts.
 pub const GATE: &str = "gate";
 
+/// The file with the entries that are put all or none.
 pub const BODY: &str = "body";
 
 /// Writes a whole file.
@@ -117,7 +119,7 @@ impl Vault {
         ensures any_moment { D.tells → Throughout (BatchAt batch (D.state disk.old)) (D.state disk.old).moment (D.state disk.new) }
         // However it ends, one of the two is read;
         ensures one_of_two { D.tells → IsBeforeBatch batch (reads (D.state disk.old)) (reads (D.state disk.new)) ⊎ IsAfterBatch batch (reads (D.state disk.old)) (reads (D.state disk.new)) }
-        // and after Ok all is there, whatever stops then.
+        // And after Ok all is there, whatever stops then.
         ensures clean { OnOk result (D.tells → IsClean (D.state disk.new)) }
         ensures all { OnOk result (D.tells → (f : Image) → MayLeave (D.state disk.new) f → (from : Image) × MayLeave (D.state disk.old) from × IsAfterBatch batch from f) }
         ensures read { OnOk result (D.tells → IsAfterBatch batch (reads (D.state disk.old)) (reads (D.state disk.new))) }

@@ -2,6 +2,7 @@
 use Rattle.std.specs.Prelude.{ℕ, ◌≡◌, List, [], ◌∷◌, Bool, true, false, ◌&&◌, not, Option, Some, None, length, nat_le, is_some}
 use Rattle.std.specs.List.{list_all}
 use Rattle.std.specs.Option.{is_none}
+use Rattle.ae_base.specs.Limits.{most_deltas}
 use Rattle.ae_words.specs.Spelling.{is_empty}
 use Rattle.ae_base.specs.Names.{is_user, is_project_name, is_path}
 use Rattle.ae_words.specs.Table.{row, allows}
@@ -77,7 +78,7 @@ is_change_number n = nat_le 10 n && nat_le n 1999
 
 -- 0 to 1990
 abbrev pub is_delta_number : ℕ → Bool
-is_delta_number n = nat_le n 1990
+is_delta_number n = nat_le n most_deltas
 
 -- what options and the name give is of its kind
 pub record AreKinds (c : Command) : Type 0 where

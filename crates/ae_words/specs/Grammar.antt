@@ -16,7 +16,7 @@ abbrev pub said : Option Listing → Command → List Item → Command
 said l c [] = c
 said l c (i ∷ is) = said l (or_as_before c (step l c i)) is
 
--- the word at this place is bad: it belongs to an item that is bad behind the items before it
+-- the word at this place is bad: it belongs to an item that is bad after the items before it
 pub record IsBadItem (l : Option Listing) (c : Command) (is : List Item) (place : ℕ) : Type 0 where
   pub before : List Item
   pub bad : Item
@@ -39,7 +39,7 @@ pub record IsCommand (words : List (List ℕ)) (c : Command) : Type 0 where
   pub says : c ≡ command c.function words
   pub whole : is_whole c ≡ true
 
--- the first bad word of a function's words, or the place behind the last where one is missing
+-- the first bad word of a function's words, or the place after the last where one is missing
 abbrev pub IsFirstIn : Function → List (List ℕ) → ℕ → Type 0
 IsFirstIn f words place =
     (IsBad f words place × ((p : ℕ) → IsBad f words p → place ≤ p))

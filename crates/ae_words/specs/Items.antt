@@ -1,5 +1,6 @@
 -- Options with their values, and plain words.
 use Rattle.std.specs.Prelude.{ℕ, ◌+◌, List, [], ◌∷◌, Bool, true, false, ◌==◌, if◌then◌else◌, Option, Some, None, position, take, drop, find}
+use Rattle.ae_base.specs.Bytes.{dash, equals_sign}
 use Rattle.ae_words.specs.Spelling.{spells}
 use Rattle.ae_words.specs.Table.{function_pattern, all_functions, listing_pattern, all_listings, setting_pattern, all_settings}
 use Rattle.ae_words.specs.declared.table.Function.{Function}
@@ -29,21 +30,21 @@ is_flag _ = false
 -- a second dash is ignored
 abbrev pub without_dash : List ℕ → List ℕ
 without_dash [] = []
-without_dash (b ∷ bs) = if b == 45 then bs else b ∷ bs
+without_dash (b ∷ bs) = if b == dash then bs else b ∷ bs
 
--- what stands behind the dash of an option word
+-- what stands after the dash of an option word
 abbrev pub behind_dash : List ℕ → Option (List ℕ)
 behind_dash [] = None
-behind_dash (b ∷ bs) = if b == 45 then Some (without_dash bs) else None
+behind_dash (b ∷ bs) = if b == dash then Some (without_dash bs) else None
 
--- the text before this place and the text behind it
+-- the text before this place and the text after it
 abbrev pub parted : List ℕ → Option ℕ → List ℕ × Option (List ℕ)
 parted text None = (text, None)
 parted text (Some i) = (take i text, Some (drop (i + 1) text))
 
--- the name, and what stands behind the first `=`
+-- the name, and what stands after the first `=`
 abbrev pub name_and_value : List ℕ → List ℕ × Option (List ℕ)
-name_and_value text = parted text (position (λ b. b == 61) text)
+name_and_value text = parted text (position (λ b. b == equals_sign) text)
 
 -- what one word is
 pub data Word : Type 0 where
@@ -61,12 +62,12 @@ abbrev pub flag_word : Setting → Option (List ℕ) → Word
 flag_word o None = flag o
 flag_word o (Some v) = wrong
 
--- the value stands behind the `=`, or is the next word
+-- the value stands after the `=`, or is the next word
 abbrev pub valued_word : Setting → Option (List ℕ) → Word
 valued_word o None = asks o
 valued_word o (Some v) = written o v
 
--- what an option word is, by the option that its name spells and what stands behind its `=`
+-- what an option word is, by the option that its name spells and what stands after its `=`
 abbrev pub option_word : Option Setting → Option (List ℕ) → Word
 option_word None v = wrong
 option_word (Some o) v = if is_flag o then flag_word o v else valued_word o v
@@ -75,7 +76,7 @@ option_word (Some o) v = if is_flag o then flag_word o v else valued_word o v
 abbrev pub named_word : List ℕ × Option (List ℕ) → Word
 named_word p = option_word (setting_named p.0) p.1
 
--- the same for what stands behind its dash; a word without one is plain
+-- the same for what stands after its dash; a word without one is plain
 abbrev pub word_behind : Option (List ℕ) → Word
 word_behind None = plain
 word_behind (Some text) = named_word (name_and_value text)
@@ -98,7 +99,7 @@ abbrev pub valued_item : ℕ → Setting → List (List ℕ) → Item
 valued_item at o [] = a_wrong at
 valued_item at o (v ∷ vs) = an_option at o (at + 1) v
 
--- the item that begins with a word at this place, with these words behind it
+-- the item that begins with a word at this place, with these words after it
 abbrev pub item : ℕ → List ℕ → Word → List (List ℕ) → Item
 item at text plain behind = a_plain at text
 item at text (flag o) behind = a_flag at o
@@ -117,16 +118,16 @@ items_from at is_value [] = []
 items_from at true (w ∷ ws) = items_from (at + 1) false ws
 items_from at false (w ∷ ws) = item at w (word w) ws ∷ items_from (at + 1) (takes_next (word w)) ws
 
--- the items behind the first word
+-- the items after the first word
 abbrev pub items : List (List ℕ) → List Item
 items [] = []
 items (w ∷ ws) = items_from 2 false ws
 
--- the function that the name spells, where no `=` stands behind it
+-- the function that the name spells, where no `=` stands after it
 abbrev pub unvalued_function : List ℕ × Option (List ℕ) → Option Function
 unvalued_function p = elim p.1 [ None ↦ function_named p.0 | Some v ↦ None ]
 
--- the same for what stands behind the dash
+-- the same for what stands after the dash
 abbrev pub function_behind : Option (List ℕ) → Option Function
 function_behind None = None
 function_behind (Some text) = unvalued_function (name_and_value text)

@@ -52,7 +52,7 @@ listed c (Some l) = Some (record c { listing = Some l })
 abbrev pub with_listing : Command → List ℕ → Option Command
 with_listing c w = if is_some c.listing then None else listed c (listing_named w)
 
--- the number that a word writes behind so many: the start, the number of changes, the number of files
+-- the number that a word writes after so many: the start, the number of changes, the number of files
 abbrev pub next_number : ℕ → List ℕ → Option ℕ
 next_number n w =
     if n == 0 then number_within 20 0 18446744073709551615 w
@@ -60,7 +60,7 @@ next_number n w =
     else if n == 2 then number_within 20 1 99 w
     else None
 
--- the command with the number behind those before, if there is one
+-- the command with the number after those before, if there is one
 abbrev pub numbered : Command → Option ℕ → Option Command
 numbered c None = None
 numbered c (Some n) = Some (record c { numbers = c.numbers ++ n ∷ [] })

@@ -111,7 +111,7 @@ pub(crate) fn named_function(text: &[u8]) -> Option<Function>
     }
 }
 
-/// The first item of the words from this place on, and the place and the words behind it.
+/// The first item of the words from this place on, and the place and the words after it.
 pub(crate) fn next_item(at: usize, words: &[String]) -> Option<(Item<'_>, usize, &[String])>
     requires { at + length words.now < 18446744073709551615 }
     ensures item { MatchOption result (words.now ≡ [])

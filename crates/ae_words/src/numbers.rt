@@ -44,12 +44,14 @@ impl NumberList {
         Ok(())
     }
 
+    /// How many numbers there are.
     pub fn len(&self) -> usize
         ensures { result ≡ length self.now }
     {
         self.numbers.len()
     }
 
+    /// The numbers, in their order.
     pub fn as_slice(&self) -> &[u64]
         ensures { result.now ≡ self.now }
     {

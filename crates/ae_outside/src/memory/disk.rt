@@ -39,7 +39,7 @@ impl Model for MemDisk {
     ghost invariant = { λ a. Keeps a.initial a.files a.log.items a.calls };
 }
 
-// so many bytes from a place on, fewer at the end
+// So many bytes from a place on, fewer at the end.
 fn part(bytes: &[u8], at: usize, len: usize) -> &[u8]
     ensures { result.now ≡ take len (drop at bytes.now) }
 {
@@ -61,7 +61,7 @@ impl MemDisk {
     /// How many calls it has had.
     pub fn calls(&self) -> u64
         ensures calls { result ≡ self.now.counts.calls }
-        // The moment behind all of them is now.
+        // The moment after all of them is now.
         ensures now { moment_behind result self.now ≡ (state_of self.now).moment }
     {
         self.calls.calls()
@@ -74,7 +74,7 @@ impl MemDisk {
         self.calls.starved()
     }
 
-    /// The disk after a stop behind the first so many calls, by what is made of the bytes that weren't stable then.
+    /// The disk after a stop after the first so many calls, by what is made of the bytes that weren't stable then.
     pub fn after_stop(&self, alloc: Global, calls: u64, pick: Pick) -> Result<MemDisk, AllocError>
         requires { calls ≤ self.now.counts.calls }
         // It reads as picked, which is one of the images of that moment, and for `New` what was read then.
@@ -90,7 +90,7 @@ impl MemDisk {
         MemDisk::starting(alloc, start, &[])
     }
 
-    // an empty log over these files, and no call yet
+    // An empty log over these files, and no call yet.
     fn starting(alloc: Global, initial: Files, fails: &[u64]) -> Result<MemDisk, AllocError>
         ensures { IfOk result (λ disk. disk ≡ new_disk initial fails.now) }
     {
@@ -115,7 +115,7 @@ impl MemDisk {
         self.files.bytes_of(name.as_bytes())
     }
 
-    // counts a call, and says whether it is one that fails
+    // Counts a call, and says whether it is one that fails.
     fn begins(&mut self) -> bool
         ensures listed { IsTrue result ↔ Contains self.old.counts.fails (next self.old.counts.calls) }
         ensures counted { self.new ≡ record self.old { counts = record self.old.counts { calls = next self.old.counts.calls; failed = (if result then next self.old.counts.failed else self.old.counts.failed) } } }
@@ -124,7 +124,7 @@ impl MemDisk {
         self.calls.begins()
     }
 
-    // the change into the log and the files, or neither
+    // The change into the log and the files, or neither.
     fn log_change(&mut self, change: Result<Change, AllocError>) -> Result<(), AllocError>
         ensures ok { OnOk result (IsOkAnd change (λ change. self.new ≡ with_change change self.old)) }
         ensures err { OnErr result (self.new ≡ self.old) }
@@ -137,7 +137,7 @@ impl MemDisk {
         Ok(())
     }
 
-    // the change, where there is memory for it
+    // The change, where there is memory for it.
     fn note(&mut self, change: Result<Change, AllocError>) -> Result<(), Failed>
         ensures ok { OnOk result (IsOkAnd change (λ change. self.new ≡ with_change change self.old)) }
         ensures err { OnErr result (self.new ≡ with_starved self.old) }

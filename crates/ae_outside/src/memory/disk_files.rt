@@ -33,7 +33,7 @@ impl Model for Files {
     ghost view = { λ a. a.rows.items };
 }
 
-// the place of the first file of this name, behind the last one where there is none
+// The place of the first file of this name, after the last one where there is none.
 fn place(files: &[File], name: &[u8]) -> usize
     ensures place { result ≡ position_or_len (λ file. bytes_eq file.name name.now) files.now }
     ensures within { result ≤ length files.now }
@@ -48,7 +48,7 @@ fn place(files: &[File], name: &[u8]) -> usize
     at
 }
 
-// the bytes with some put over them, or behind them
+// The bytes with some put over them, or after them.
 fn overwrite(alloc: Global, old: &[u8], at: usize, bytes: &[u8]) -> Result<Text, AllocError>
     requires { at ≤ length old.now }
     ensures { IfOk result (λ text. text ≡ take at old.now ++ bytes.now ++ drop (at + length bytes.now) old.now) }
@@ -61,7 +61,7 @@ fn overwrite(alloc: Global, old: &[u8], at: usize, bytes: &[u8]) -> Result<Text,
     Ok(Text::of(new))
 }
 
-// the first so many bytes
+// The first so many bytes.
 fn shorten(alloc: Global, old: &[u8], len: u64) -> Result<Text, AllocError>
     ensures { IfOk result (λ text. text ≡ take len old.now) }
 {
@@ -70,6 +70,7 @@ fn shorten(alloc: Global, old: &[u8], len: u64) -> Result<Text, AllocError>
 }
 
 impl Files {
+    /// No files.
     pub fn new(alloc: Global) -> Files
         ensures { result ≡ [] }
     {
@@ -78,6 +79,7 @@ impl Files {
         }
     }
 
+    /// A copy of them.
     pub fn copy(&self, alloc: Global) -> Result<Files, AllocError>
         ensures { IfOk result (λ files. files ≡ self.now) }
     {
@@ -90,6 +92,7 @@ impl Files {
         Ok(Files { rows })
     }
 
+    /// The bytes of the file of this name; none for an absent file.
     pub fn bytes_of(&self, name: &[u8]) -> &[u8]
         ensures { result.now ≡ bytes_of self.now name.now }
     {
@@ -101,6 +104,7 @@ impl Files {
         &[]
     }
 
+    /// The file of this name gets these bytes.
     pub fn put(&mut self, alloc: Global, name: &[u8], bytes: Text) -> Result<(), AllocError>
         ensures ok { OnOk result (bytes_of self.new ≡ with_file name.now (λ _. bytes) (bytes_of self.old)) }
         ensures err { OnErr result (self.new ≡ self.old) }
@@ -115,7 +119,8 @@ impl Files {
         Ok(())
     }
 
-    // bytes behind the end are no write
+    // Bytes after the end are no write.
+    /// Bytes are put into the file of this name from an offset on.
     pub fn write(
         &mut self,
         alloc: Global,
@@ -135,6 +140,7 @@ impl Files {
         Ok(())
     }
 
+    /// The file of this name is cut to a length, in bytes.
     pub fn cut(&mut self, alloc: Global, name: &[u8], len: u64) -> Result<(), AllocError>
         ensures ok { OnOk result (bytes_of self.new ≡ with_file name.now (take len) (bytes_of self.old)) }
         ensures err { OnErr result (self.new ≡ self.old) }
@@ -144,6 +150,7 @@ impl Files {
         Ok(())
     }
 
+    /// Does one change.
     pub fn apply(&mut self, alloc: Global, change: &Change) -> Result<(), AllocError>
         ensures ok { OnOk result (bytes_of self.new ≡ applied change.now (bytes_of self.old)) }
         ensures err { OnErr result (self.new ≡ self.old) }

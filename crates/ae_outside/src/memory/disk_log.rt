@@ -5,7 +5,7 @@ ghost use Rattle.ae_outside.specs.declared.memory.disk_log.Change.TheVariants.{W
 use ae_base::Text;
 use std::alloc::{AllocError, Global};
 
-/// What a call did to a file: bytes put at an offset, the bytes behind a length cut away, or all of it made stable.
+/// What a call did to a file: bytes put at an offset, the bytes after a length cut away, or all of it made stable.
 #[derive(Drop)]
 pub enum Change {
     Write { name: Text, at: u64, bytes: Text },
@@ -27,6 +27,7 @@ fn text_of(alloc: Global, bytes: &[u8]) -> Result<Text, AllocError>
 }
 
 impl Change {
+    /// Bytes are put into the file of this name from an offset on.
     pub fn write(alloc: Global, name: &str, at: u64, bytes: &[u8]) -> Result<Change, AllocError>
         ensures { IfOk result (λ change. change ≡ Write name.now at bytes.now) }
     {
@@ -37,6 +38,7 @@ impl Change {
         })
     }
 
+    /// The file of this name is cut to a length, in bytes.
     pub fn cut(alloc: Global, name: &str, len: u64) -> Result<Change, AllocError>
         ensures { IfOk result (λ change. change ≡ Cut name.now len) }
     {
@@ -46,6 +48,7 @@ impl Change {
         })
     }
 
+    /// All of the file of this name is made stable.
     pub fn sync(alloc: Global, name: &str) -> Result<Change, AllocError>
         ensures { IfOk result (λ change. change ≡ Sync name.now) }
     {

@@ -71,7 +71,7 @@ fn leave_cut(
     }
 }
 
-// what is left after one more change, where `read` is what was read before it
+// What is left after one more change, where `read` is what was read before it.
 fn leave(
     alloc: Global,
     left: &mut Files,

@@ -6,14 +6,14 @@ use crate::{Disk, MemDisk};
 use std::alloc::Global;
 use std::test::Fail;
 
-// whether the file holds these bytes
+// Whether the file holds these bytes.
 fn holds(alloc: Global, disk: &mut MemDisk, name: &str, bytes: &[u8]) -> Result<bool, Fail>
     requires { IsDiskName name.now }
 {
     Ok(disk.read_at(alloc, name, 0, 99)?.as_slice() == bytes)
 }
 
-// a disk whose file "a" holds this text, and is stable
+// A disk whose file "a" holds this text, and is stable.
 fn with_file(alloc: Global, text: &str) -> Result<MemDisk, Fail>
     requires { length text.now < 99 }
 {

@@ -3,13 +3,13 @@ ghost use Rattle.std.specs.Prelude.{◌≡◌, ◌∷◌, ◌++◌, [], Some, No
 ghost use Rattle.ae_outside.specs.Causes.{Counted, HasCause};
 ghost use Rattle.ae_outside.specs.Calls.{IsCall, IsFed};
 ghost use Rattle.ae_outside.specs.Trees.{no_files, with_file, within};
-ghost use Rattle.ae_outside.specs.Site.{ChangesOnly, content_within, run_made};
+ghost use Rattle.ae_outside.specs.Site.{ChangesOnly, HoldsBytes, content_within, run_made};
 ghost use Rattle.ae_outside.specs.FileRows.{tree_of, ElsewhereSame};
 ghost use Rattle.ae_outside.specs.Scripts.{exit_of, after_of};
 
 use super::calls::Calls;
 use super::site_files::{
-    FileRow, bytes_of, drop_dir, drop_file, put_file, run_over_files, snapshot_of,
+    FileRow, bytes_of, drop_dir, drop_file, note_file_bytes, put_file, run_over_files, snapshot_of,
 };
 use super::site_run::{MemRunList, RunDone, RunDoneList};
 use crate::{Content, Dir, Exit, Failed, Site, SiteError};
@@ -29,7 +29,7 @@ pub struct MemSite {
 impl MemSite {
     ghost use Rattle.ae_outside.specs.MemSites.{state_of, script_of, done_of, counts_of};
 
-    /// Empty directories. The runs answer and do as the script says, one after another, and behind its end they answer
+    /// Empty directories. The runs answer and do as the script says, one after another, and after its end they answer
     /// `Code(0)` and change nothing. The calls of these numbers fail, counted from 1.
     pub fn new(alloc: Global, script: MemRunList, fails: &[u64]) -> Result<MemSite, AllocError>
         ensures state { IfOk result (λ site. state_of site ≡ record { trees = λ dir. no_files; runs = [] }) }
@@ -67,7 +67,7 @@ impl MemSite {
         self.calls.starved()
     }
 
-    // makes the next run of the script
+    // Makes the next run of the script.
     fn runs_next(&mut self, dir: &Dir, command: &str) -> Result<Exit, AllocError>
         ensures script { script_of self.new ≡ script_of self.old }
         ensures counts { counts_of self.new ≡ counts_of self.old }
@@ -94,7 +94,7 @@ impl MemSite {
     }
 }
 
-// the run of the script at this place
+// The run of the script at this place.
 fn runs_at(
     alloc: Global,
     files: &mut Vec<FileRow>,
@@ -122,6 +122,12 @@ impl Site for MemSite {
     ghost state = { λ site. state_of site };
 
     ghost faults = { λ site. (counts_of site).failed };
+
+    fn note_bytes(&self)
+        ensures bytes { HoldsBytes (state_of self.now) }
+    {
+        note_file_bytes(self.files.as_slice());
+    }
 
     fn read(
         &mut self,

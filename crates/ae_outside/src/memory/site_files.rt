@@ -1,5 +1,6 @@
 // The rows of files of a site in memory: the last row of a file counts.
-ghost use Rattle.std.specs.Prelude.{◌≡◌, Some, None, option_copied, IfOk, OnOk};
+ghost use Rattle.std.specs.Prelude.{◌≡◌, ℕ, List, Some, None, option_copied, IfOk, IfSome, OnOk};
+ghost use Rattle.ae_base.specs.Bytes.{AreBytes};
 ghost use Rattle.ae_outside.specs.Trees.{no_files, with_file, with_rows};
 ghost use Rattle.ae_outside.specs.FileRows.{dir_eq, is_at, tree_of, with_row, ElsewhereSame};
 ghost use Rattle.ae_outside.specs.Scripts.{without_paths, run_over};
@@ -9,7 +10,7 @@ use crate::Dir;
 use ae_base::{Path, Snapshot, Text};
 use std::alloc::{AllocError, Global};
 
-// a file of a directory
+// A file of a directory.
 #[derive(Drop)]
 pub(crate) struct FileRow {
     pub dir: Dir,
@@ -35,7 +36,7 @@ fn is_file(row: &FileRow, dir: &Dir, path: &Path) -> bool
     is_dir(&row.dir, dir) && row.path == *path
 }
 
-// the bytes of the last row of this file
+// The bytes of the last row of this file.
 pub(crate) fn bytes_of<'a>(files: &'a [FileRow], dir: &Dir, path: &Path) -> Option<&'a Text>
     ensures { option_copied result ≡ tree_of files.now dir.now path.now }
 {
@@ -48,7 +49,16 @@ pub(crate) fn bytes_of<'a>(files: &'a [FileRow], dir: &Dir, path: &Path) -> Opti
     found
 }
 
-// takes away all rows of the file
+// A law: what the files hold are bytes.
+pub(crate) fn note_file_bytes(files: &[FileRow])
+    ensures { (dir : Dir) (path : List ℕ) → IfSome (tree_of files.now dir path) AreBytes }
+{
+    for file in files {
+        let _bytes = file.bytes.bytes();
+    }
+}
+
+// Takes away all rows of the file.
 pub(crate) fn drop_file(files: &mut Vec<FileRow>, dir: &Dir, path: &Path)
     ensures here { tree_of files.new.items dir.now ≡ with_file path.now None (tree_of files.old.items dir.now) }
     ensures others { ElsewhereSame dir.now (tree_of files.old.items) (tree_of files.new.items) }
@@ -56,7 +66,7 @@ pub(crate) fn drop_file(files: &mut Vec<FileRow>, dir: &Dir, path: &Path)
     files.retain(|row| !is_file(row, dir, path));
 }
 
-// takes away all files of the directory
+// Takes away all files of the directory.
 pub(crate) fn drop_dir(files: &mut Vec<FileRow>, dir: &Dir)
     ensures here { tree_of files.new.items dir.now ≡ no_files }
     ensures others { ElsewhereSame dir.now (tree_of files.old.items) (tree_of files.new.items) }
@@ -128,7 +138,7 @@ fn drop_files(files: &mut Vec<FileRow>, dir: &Dir, paths: &[Path])
     }
 }
 
-// what a run of the script does to its directory
+// What a run of the script does to its directory.
 pub(crate) fn run_over_files(
     alloc: Global,
     files: &mut Vec<FileRow>,
@@ -145,7 +155,7 @@ pub(crate) fn run_over_files(
     Ok(())
 }
 
-// puts the file's row, where it is of the directory
+// Puts the file's row, where it is of the directory.
 fn note_file(
     alloc: Global,
     snapshot: &mut Snapshot,
@@ -160,7 +170,7 @@ fn note_file(
     Ok(())
 }
 
-// the files of a directory
+// The files of a directory.
 pub(crate) fn snapshot_of(
     alloc: Global,
     files: &[FileRow],

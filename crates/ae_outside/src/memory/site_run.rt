@@ -38,6 +38,7 @@ impl MemRunList {
         MemRunList { runs }
     }
 
+    /// The runs, in their order.
     pub fn as_slice(&self) -> &[MemRun]
         ensures { result.now ≡ self.now }
     {
@@ -79,6 +80,7 @@ impl RunDoneList {
         }
     }
 
+    /// The runs, in their order.
     pub fn as_slice(&self) -> &[RunDone]
         ensures { result.now ≡ self.now }
     {

@@ -59,7 +59,7 @@ impl MemSource {
     }
 }
 
-// moves what stands at a place of `from` to the front of `into`, at most so many bytes, and answers their number
+// Moves what stands at a place of `from` to the front of `into`, at most so many bytes, and answers their number.
 fn move_piece(from: &[u8], at: usize, most: usize, into: &mut [u8]) -> usize
     requires { at ≤ length from.now }
     ensures least { result ≡ min most (min (length into.old) (length (drop at from.now))) }
@@ -84,7 +84,7 @@ impl Source for MemSource {
         requires { 0 < length into.old }
         ensures at_most { IfOk result (λ n. n ≤ length into.new) }
         ensures moved { IfOk result (λ n. self.old.left ≡ take n into.new ++ self.new.left) }
-        // What stands in the buffer behind the piece stays, and all of it where the call fails.
+        // What stands in the buffer after the piece stays, and all of it where the call fails.
         ensures beyond { IfOk result (λ n. drop n into.new ≡ drop n into.old) }
         ensures not_moved { OnErr result (into.new ≡ into.old) }
         ensures rest { IfOk result (λ n. self.new.left ≡ drop n self.old.left) }

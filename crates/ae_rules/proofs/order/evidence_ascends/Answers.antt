@@ -3,7 +3,7 @@ use Rattle.std.specs.Ordering.{is_lt}
 use Rattle.std.proofs.lemmas.Fn.{always_returns_same}
 use Rattle.ae_types.specs.declared.change.Evidence.{Evidence}
 use Rattle.ae_types.specs.Runs.{run_cmp, run_of}
-use Rattle.ae_rules.proofs.Adjacent.{adjacent-ascends}
+use Rattle.ae_types.proofs.Adjacent.{adjacent-ascends}
 use Rattle.ae_rules.proofs.order.evidence_ascends.Goals as goal
 
 pub returns : goal.returns

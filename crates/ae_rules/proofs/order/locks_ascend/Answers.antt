@@ -3,8 +3,8 @@ use Rattle.std.specs.Ordering.{is_lt}
 use Rattle.std.proofs.lemmas.Fn.{always_returns_same}
 use Rattle.ae_types.specs.declared.file_table.Lock.{Lock}
 use Rattle.ae_types.specs.Found.{lock_path}
-use Rattle.ae_types.specs.Trees.{text_cmp}
-use Rattle.ae_rules.proofs.Adjacent.{adjacent-ascends}
+use Rattle.ae_base.specs.Rows.{text_cmp}
+use Rattle.ae_types.proofs.Adjacent.{adjacent-ascends}
 use Rattle.ae_rules.proofs.order.locks_ascend.Goals as goal
 
 pub returns : goal.returns

@@ -2,7 +2,7 @@ use Rattle.std.proofs.Common.{ℕ, rules}
 use Rattle.std.specs.Ordering.{is_lt, nat_cmp}
 use Rattle.std.proofs.lemmas.Fn.{always_returns_same}
 use Rattle.ae_types.specs.Ordered.{itself}
-use Rattle.ae_rules.proofs.Adjacent.{adjacent-ascends}
+use Rattle.ae_types.proofs.Adjacent.{adjacent-ascends}
 use Rattle.ae_rules.proofs.order.numbers_ascend.Goals as goal
 
 pub returns : goal.returns

@@ -3,7 +3,7 @@ use Rattle.std.specs.Ordering.{is_lt, nat_cmp}
 use Rattle.std.proofs.lemmas.Fn.{always_returns_same}
 use Rattle.ae_types.specs.declared.file_table.FileVersion.{FileVersion}
 use Rattle.ae_types.specs.Found.{entry_delta}
-use Rattle.ae_rules.proofs.Adjacent.{adjacent-ascends}
+use Rattle.ae_types.proofs.Adjacent.{adjacent-ascends}
 use Rattle.ae_rules.proofs.order.past_ascends.Goals as goal
 
 pub returns : goal.returns

@@ -1,7 +1,7 @@
 use Rattle.std.proofs.Common.{◌∙◌, rules}
 use Rattle.std.proofs.lemmas.Fn.{always_returns_same}
 use Rattle.std.proofs.lemmas.List.Sorted.{IsNonDecreasingBy-from_sort_by_key}
-use Rattle.ae_rules.proofs.Adjacent.{adjacent-next}
+use Rattle.ae_types.proofs.Adjacent.{adjacent-next}
 use Rattle.ae_rules.proofs.VersionsApart.{version_number, numbered_before, numbers-sorted}
 use Rattle.ae_rules.proofs.versions.numbers_differ.Goals as goal
 

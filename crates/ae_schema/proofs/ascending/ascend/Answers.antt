@@ -1,7 +1,7 @@
 use Rattle.std.proofs.Common.{rules}
 use Rattle.std.specs.Ordering.{is_lt}
 use Rattle.std.proofs.lemmas.Fn.{always_returns_same}
-use Rattle.ae_schema.proofs.Adjacent.{adjacent-ascends}
+use Rattle.ae_types.proofs.Adjacent.{adjacent-ascends}
 use Rattle.ae_schema.proofs.ascending.ascend.Goals as goal
 
 pub returns : goal.returns

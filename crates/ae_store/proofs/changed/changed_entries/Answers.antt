@@ -7,18 +7,17 @@ use Rattle.ae_store.proofs.changed.changed_entries.Goals as goal
 
 pub returns-clause-entries : goal.returns-clause-entries
 returns-clause-entries c =
-    all_done (option_copied c.args.old) c.args.new.now c.put_changes-2.new.entries.items c.in_ok-put_changes-2.ensures.right
-    (c.in_ok-put_changes-2.ensures.kept project_file (c.in_ok-put_changes.ensures.kept project_file (c.in_ok-put_table.ensures.kept project_file c.in_ok-put_project.ensures.done)))
-    (c.in_ok-put_changes-2.ensures.kept files_file (c.in_ok-put_changes.ensures.kept files_file c.in_ok-put_table.ensures.done))
+    all_done (option_copied c.args.old) c.args.new.now c.put_gone.new.entries.items c.in_ok-put_gone.ensures.right
+    (c.in_ok-put_gone.ensures.kept project_file (c.in_ok-put_changes.ensures.kept project_file (c.in_ok-put_table.ensures.kept project_file c.in_ok-put_project.ensures.done)))
+    (c.in_ok-put_gone.ensures.kept files_file (c.in_ok-put_changes.ensures.kept files_file c.in_ok-put_table.ensures.done))
     c.in_ok-put_project.ensures.sound c.in_ok-put_project.ensures.sound_new
-    (subst (λ (numbers : List ℕ). (k : ℕ) → k < length numbers → IsDone (option_copied c.args.old) c.args.new.now c.put_changes-2.new.entries.items (change_file (get_or numbers k 0))) c.numbers.ensures
-    (λ k h. c.in_ok-put_changes-2.ensures.kept (change_file (get_or c.numbers.result.now k 0)) (c.in_ok-put_changes.ensures.done k h)))
-    (subst (λ (numbers : List ℕ). (k : ℕ) → k < length numbers → IsDone (option_copied c.args.old) c.args.new.now c.put_changes-2.new.entries.items (change_file (get_or numbers k 0))) c.numbers_of.ensures
-    c.in_ok-put_changes-2.ensures.done)
+    (subst (λ (numbers : List ℕ). (k : ℕ) → k < length numbers → IsDone (option_copied c.args.old) c.args.new.now c.put_gone.new.entries.items (change_file (get_or numbers k 0))) c.numbers.ensures
+    (λ k h. c.in_ok-put_gone.ensures.kept (change_file (get_or c.numbers.result.now k 0)) (c.in_ok-put_changes.ensures.done k h)))
+    c.in_ok-put_gone.ensures.done
 
 pub returns-clause-stands : goal.returns-clause-stands
 returns-clause-stands c = λ files all stands.
-    all_stand (option_copied c.args.old) c.args.new.now c.put_changes-2.new.entries.items (returns-clause-entries c) c.in_ok-put_project.ensures.sound_new
+    all_stand (option_copied c.args.old) c.args.new.now c.put_gone.new.entries.items (returns-clause-entries c) c.in_ok-put_project.ensures.sound_new
     c.in_ok-put_project.ensures.numbered c.in_ok-put_project.ensures.numbered_new
     c.in_ok-put_project.ensures.written c.in_ok-put_project.ensures.written_new
     c.in_ok-put_table.ensures.written c.in_ok-put_table.ensures.written_new
