@@ -26,8 +26,9 @@ use Rattle.ae_machine.specs.Fits.{IsAtMost, clean_but_last, config_asked, is_cle
 use Rattle.ae_machine.specs.Legal.{ViewFits}
 use Rattle.ae_machine.specs.Real.{command_for, dir_of_runs}
 use Rattle.ae_machine.specs.Runs.{kind_of, needed_of, tracked_by}
-use Rattle.ae_dirs.specs.declared.jobs.Job.{Job}
-use Rattle.ae_dirs.specs.Jobs.{AreJobs, RunsFit}
+use Rattle.ae_machine.specs.declared.jobs.Job.{Job}
+use Rattle.ae_machine.specs.Jobs.{AreJobs}
+use Rattle.ae_dirs.specs.Jobs.{RunsFit}
 use Rattle.ae_dirs.specs.Runs.{AllClean, AreRuns, CleanTillLast, EndsUnclean}
 use Rattle.ae_dirs.proofs.RealRuns.{runs-are-real}
 use Rattle.ae_dirs.proofs.SameRows.{row_decides}

@@ -16,12 +16,12 @@ use Rattle.ae_types.specs.declared.version.VersionRef.{VersionRef}
 use Rattle.ae_types.specs.Observation.{Observation}
 use Rattle.ae_types.specs.Sound.{Sound}
 use Rattle.ae_types.specs.Versions.{live}
-use Rattle.ae_types.proofs.Members.{In, in-left, in-flat, in-map, in-some, map-in, some-in}
+use Rattle.ae_types.proofs.Members.{In, in-left, in-flat, map-in, some-in}
 use Rattle.ae_types.specs.Trees.{TreeRow, baseline_of, entry_row, last_delta, last_up_to, tree_at, tree_row, unless_later}
 use Rattle.ae_machine.specs.Sight.{with_bytes}
 use Rattle.ae_exec.specs.Bytes.{HaveBytes, bytes_at, rows_at}
 use Rattle.ae_exec.specs.Reading.{IsInside, versions_of as tree_versions}
-use Rattle.ae_exec.proofs.Shown.{in-list, list-in, live-in}
+use Rattle.ae_exec.proofs.Shown.{in-list, live-in}
 
 abbrev pub versions_of : FileRow → List VersionRef
 versions_of row = filter_map (λ (entry : FileVersion). entry.version) row.past

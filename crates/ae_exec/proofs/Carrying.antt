@@ -1,6 +1,6 @@
 -- What one more event does to the versions.
-use Rattle.std.proofs.Common.{◌≡◌, ◌⊎◌, inl, inr, ℕ, zero, suc, ◌+◌, ◌-◌, ◌*◌, ◌/◌, ◌%◌, ◌<◌, ◌≤◌, ◌^◌, Bool, true, false, cond, ◌&&◌, ◌||◌, ◌==◌, List, [], ◌∷◌, ◌++◌, length, get_or, Option, Some, None, refl, sym, ◌∙◌, ap, subst, arith, length-append}
-use Rattle.std.specs.Prelude.{IfSome, IsSomeAnd, Contains, nat_lt, nat_le, is_none}
+use Rattle.std.proofs.Common.{◌≡◌, ◌⊎◌, inl, inr, ℕ, suc, ◌+◌, ◌-◌, ◌*◌, ◌/◌, ◌%◌, ◌<◌, ◌≤◌, ◌^◌, Bool, true, false, cond, ◌&&◌, ◌||◌, ◌==◌, List, [], ◌∷◌, ◌++◌, length, get_or, Option, Some, None, refl, sym, ◌∙◌, ap, subst, arith, length-append}
+use Rattle.std.specs.Prelude.{IfSome, IsSomeAnd, Contains, nat_lt, nat_le}
 use Rattle.std.specs.List.{list_all}
 use Rattle.std.specs.Option.{option_map, option_to_list}
 use Rattle.std.specs.Str.{bytes_eq}
@@ -19,16 +19,16 @@ use Rattle.ae_types.specs.declared.version.VersionRef.{VersionRef}
 use Rattle.ae_types.specs.Observation.{Observation}
 use Rattle.ae_types.specs.Found.{change_at, file_path}
 use Rattle.ae_types.specs.Sound.{Sound}
-use Rattle.ae_types.specs.Versions.{Place, version_at, units, has_units, end_of, meet}
+use Rattle.ae_types.specs.Versions.{Place, version_at, meet}
 use Rattle.ae_types.proofs.Keys.{by_text}
 use Rattle.ae_types.proofs.Ordered.{Ascends, Above, some-is, none-some}
 use Rattle.ae_vault.specs.declared.piece.Piece.{Piece}
-use Rattle.ae_vault.specs.Pieces.{IsIn, IsCovered, is_piece, are_apart, ends_before, none_meet, are_pieces}
+use Rattle.ae_vault.specs.Pieces.{IsIn, IsCovered, is_piece, are_apart, none_meet, are_pieces}
 use Rattle.ae_log.specs.declared.event.Event.{Event}
 use Rattle.ae_log.specs.declared.event.EventKind.{EventKind}
 use Rattle.ae_log.specs.declared.event.EventKind.TheVariants as on
 use Rattle.ae_log.specs.After.{after}
-use Rattle.ae_log.specs.Applies.{Applies, AppliesBy, AppliesTo, Suits, comes_in, MayEnd, EndFits, AreInSpace, made_version, tree_shape, files_shape}
+use Rattle.ae_log.specs.Applies.{Applies, AppliesBy, Suits, comes_in, AreInSpace, made_version, tree_shape, files_shape}
 use Rattle.ae_log.specs.Files.{Version, versions, version_bytes, next_version, present, ref_of, version_of, frozen_file, numbered, first_place, other_places}
 use Rattle.ae_log.specs.Log.{Log}
 use Rattle.ae_log.specs.Observed.{observation, observation_with}
@@ -37,11 +37,11 @@ use Rattle.ae_log.proofs.Numbered.{within, new_version, frozen_at}
 use Rattle.ae_history.specs.Packed.{AreOf}
 use Rattle.ae_history.specs.Placing.{units_of, padded, piece_at, pieces_at}
 use Rattle.ae_exec.specs.Stands.{version_in}
-use Rattle.ae_exec.specs.Carried.{pieces_by, IsApart, Stood, IsPut, CarriesVersions}
+use Rattle.ae_exec.specs.Carried.{pieces_by, IsApart, Stood, IsPut}
 use Rattle.ae_exec.specs.Made.{IsMade, VersionsAreMade, FollowsVersions, VersionsFollow}
 use Rattle.ae_exec.proofs.Bytes.{length-padded}
 use Rattle.ae_exec.proofs.Came.{Came, stood, made, MadeBy, comes}
-use Rattle.ae_exec.proofs.TreeVersions.{bytes-at, piece-in, row_path, other-path, PieceOf, piece-of}
+use Rattle.ae_exec.proofs.TreeVersions.{bytes-at, piece-in, row_path, other-path, piece-of}
 
 -- ---- bytes by number
 

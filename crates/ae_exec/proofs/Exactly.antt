@@ -1,9 +1,9 @@
 -- A command changes just the state files whose records differ, and the packed file in its pieces.
 use Rattle.std.specs.Prelude.{◌≡◌, ◌⊎◌, ◌≤◌, ℕ, List, Option, Some, None, unwrap_or}
-use Rattle.std.proofs.Common.{sym, ap, subst, ◌∙◌, inl, inr, arith}
+use Rattle.std.proofs.Common.{ap, subst, ◌∙◌, inl, inr, arith}
 use Rattle.std.proofs.lemmas.Bool.{cases_lt}
-use Rattle.ae_outside.specs.Image.{Image, IsSame}
-use Rattle.ae_outside.specs.State.{DiskState, MayLeave, Continues, GoesOn, reads}
+use Rattle.ae_outside.specs.Image.{Image}
+use Rattle.ae_outside.specs.State.{DiskState, Continues, reads}
 use Rattle.ae_types.specs.Observation.{Observation}
 use Rattle.ae_vault.specs.declared.entry.Entry.{Entry}
 use Rattle.ae_vault.specs.declared.piece.Piece.{Piece}
@@ -13,7 +13,6 @@ use Rattle.ae_vault.specs.Pieces.{BatchAt, FilesOver, IsPacked, IsBeforeBatch, I
 use Rattle.ae_vault.specs.Vault.{content_of, effective}
 use Rattle.ae_store.specs.Changed.{entry_for}
 use Rattle.ae_exec.specs.Exact.{ChangesExactly, IsChangedBy, not_yet, pieces_alone, whole, with_records}
-use Rattle.ae_exec.proofs.Leaving.{open_still}
 
 -- ---- before anything is put
 

@@ -1,5 +1,6 @@
 -- What follows of an answer to a command.
 use Rattle.std.specs.Prelude.{◌≡◌, ◌⊎◌, ℕ, true, false, Bool, List, [], ◌∷◌, Option, Some, None, IfSome, IsSome, IsSomeAnd, is_some, if◌then◌else◌, Result, Ok, Err, IfOk}
+use Rattle.std.specs.List.{list_all}
 use Rattle.std.proofs.Common.{inl, inr, refl, sym, ap, subst, ◌∙◌}
 use Rattle.std.proofs.lemmas.List.Elements.{All-nil, All-cons, All-map, All-same, All-tail}
 use Rattle.ae_base.specs.declared.refusal.Refusal.{Refusal}
@@ -20,7 +21,7 @@ use Rattle.ae_log.specs.Observed.{observation}
 use Rattle.ae_machine.specs.declared.verdict.Verdict.{Verdict}
 use Rattle.ae_machine.specs.declared.verdict.Verdict.TheVariants.{Accept, Refuse}
 use Rattle.ae_machine.specs.Accepted.{AppliesAll, AreStart, IsDecided, decided}
-use Rattle.ae_machine.specs.Call.{Given, given_of, first_of}
+use Rattle.ae_machine.specs.Call.{Given, call_of, change_of, given_of, first_of}
 use Rattle.ae_machine.specs.Called.{Called, answer_to, attributes_seen, occasion_after, only_attributes, answer_after, view}
 use Rattle.ae_machine.specs.Legal.{Legal, Occasion, verdict_after}
 use Rattle.ae_machine.specs.Space.{placing}
@@ -32,8 +33,11 @@ use Rattle.ae_machine.specs.declared.view.View.{View}
 use Rattle.ae_machine.specs.Verdict.{answer, refusal, refusal_before, refused_before, asked_of_sight, new_project, events_of, event_of, kinds_of, is_new_project, change_of_events, verdict, verdict_on}
 use Rattle.ae_exec.specs.Next.{next_of, MayBegin, MayFollow, AreMade, IfAccepted, IsComplete}
 use Rattle.ae_exec.specs.Plan.{IsPlanned, IsStep}
+use Rattle.ae_exec.specs.declared.reply.Finished.{Finished}
 use Rattle.ae_exec.specs.Bytes.{HaveBytes, ShowsLog}
-use Rattle.ae_exec.specs.Seen.{IsAnswer, IsDecidedSo}
+use Rattle.ae_exec.specs.Seen.{IsAnswer, IsDecidedSo, IsRefusedOn, ReadsForAnswer}
+use Rattle.ae_machine.specs.Fits.{makes_runs}
+use Rattle.ae_machine.specs.Versions.{ShowsVersions, is_shown, versions_of_runs}
 use Rattle.ae_exec.specs.Said.{is_made}
 use Rattle.ae_machine.proofs.Accepted.{accepted-apply}
 use Rattle.ae_machine.proofs.AcceptedLogs.{accepted-starts, accepted-follow, first-follow, legal-stands}
@@ -44,16 +48,14 @@ use Rattle.ae_exec.proofs.Stores.{one}
 
 -- ---- the events of an accepted command
 
-no_bytes : ℕ → List ℕ
-no_bytes number = []
-
 may-begin : (events : List Event) → AreStart events → MayBegin events
 may-begin events start = subst MayBegin (sym start.only) start.starts
 
-pub may-follow : (o : Option Observation) (occasion : Occasion) (v : Verdict) → IfSome o Sound → IsDecided occasion → IsDecidedSo o occasion.command occasion.who occasion.when occasion.view v → IfAccepted v (MayFollow o)
-may-follow None occasion (Accept events) sound is answers = may-begin events (accepted-starts no_bytes occasion events (answers no_bytes))
-may-follow (Some o) occasion (Accept events) sound is answers = accepted-apply o no_bytes occasion events sound is (answers no_bytes)
-may-follow o occasion (Refuse refusal) sound is answers = tt
+pub may-follow : (o : Option Observation) (bytes : ℕ → List ℕ) (occasion : Occasion) (v : Verdict) → IfSome o Sound → IsDecided occasion → ShowsVersions o bytes occasion.command occasion.who occasion.view
+    → IsDecidedSo o occasion.command occasion.who occasion.when occasion.view v → IfAccepted v (MayFollow o)
+may-follow None bytes occasion (Accept events) sound is shows answers = may-begin events (accepted-starts bytes occasion events (answers bytes shows))
+may-follow (Some o) bytes occasion (Accept events) sound is shows answers = accepted-apply o bytes occasion events sound is (answers bytes shows)
+may-follow o bytes occasion (Refuse _) sound is shows answers = tt
 
 -- ---- they are of the kinds that are made so far
 
@@ -76,13 +78,14 @@ events-made given there =
     All-map (λ (event : Event). is_made event.what ≡ true) (event_of given.call.who given.when (change_of_events given.call.command.function given.call)) (kinds_of given.call.command.function given)
     (kinds-made given.call.command.function given there)
 
-pub all-made : (o : Option Observation) (occasion : Occasion) (v : Verdict) → IsDecided occasion → IsDecidedSo o occasion.command occasion.who occasion.when occasion.view v → IfAccepted v AreMade
-all-made None occasion (Accept events) is answers = start-made events (accepted-starts no_bytes occasion events (answers no_bytes))
-all-made (Some o) occasion (Accept events) is answers =
-    let given = given_of placing o no_bytes occasion.command occasion.who occasion.when occasion.view in
-    All-same (λ (event : Event). is_made event.what ≡ true) events (events_of given) (behind (is_new_project occasion.command.function) given events _ (answers no_bytes))
+pub all-made : (o : Option Observation) (bytes : ℕ → List ℕ) (occasion : Occasion) (v : Verdict) → IsDecided occasion → ShowsVersions o bytes occasion.command occasion.who occasion.view
+    → IsDecidedSo o occasion.command occasion.who occasion.when occasion.view v → IfAccepted v AreMade
+all-made None bytes occasion (Accept events) is shows answers = start-made events (accepted-starts bytes occasion events (answers bytes shows))
+all-made (Some o) bytes occasion (Accept events) is shows answers =
+    let given = given_of placing o bytes occasion.command occasion.who occasion.when occasion.view in
+    All-same (λ (event : Event). is_made event.what ≡ true) events (events_of given) (behind (is_new_project occasion.command.function) given events _ (answers bytes shows))
     (events-made given is.there)
-all-made o occasion (Refuse refusal) is answers = tt
+all-made o bytes occasion (Refuse _) is shows answers = tt
 
 -- ---- the refusal that comes before reading
 
@@ -94,11 +97,24 @@ first_on_none : (b : Bool) (v : Verdict) (refusal : Refusal) → (if b then None
 first_on_none true v refusal is = cc
 first_on_none false v refusal is = cc
 
-pub refused_first : (files : Option Image) (o : Option Observation) (called : Called) (refusal : Refusal) → refused_before o called.command called.who ≡ Some refusal → IsAnswer files o called (Refuse refusal)
-refused_first files None called refusal is bytes have = first_on_none (is_new_project called.command.function) (new_project called.command called.who called.when (view None bytes called)) refusal is
-refused_first files (Some o) called refusal is bytes have = first_on (is_new_project called.command.function) (given_of placing o bytes called.command called.who called.when (view (Some o) bytes called)) refusal is
+answered_first : (files : Option Image) (o : Option Observation) (called : Called) (refusal : Refusal) → refused_before o called.command called.who ≡ Some refusal → IsAnswer files o called (Refuse refusal)
+answered_first files None called refusal is bytes have = first_on_none (is_new_project called.command.function) (new_project called.command called.who called.when (view None bytes called)) refusal is
+answered_first files (Some o) called refusal is bytes have = first_on (is_new_project called.command.function) (given_of placing o bytes called.command called.who called.when (view (Some o) bytes called)) refusal is
+
+-- such a one reads no versions for its answer
+reads-no : (o : Option Observation) (called : Called) (refusal : Refusal) → refused_before o called.command called.who ≡ Some refusal → ReadsForAnswer o called → ⊥
+reads-no (Some o) called refusal is passes = let both : Some refusal ≡ None = sym is ∙ passes.before in cc
+reads-no None called refusal is passes = passes
+
+pub refused_first : (files : Option Image) (o : Option Observation) (called : Called) (refusal : Refusal) → refused_before o called.command called.who ≡ Some refusal → IsRefusedOn files o called refusal
+refused_first files o called refusal is = record { answer = answered_first files o called refusal is; kept = λ passes. absurd (reads-no o called refusal is passes) }
 
 -- ---- from the answers of calls
+
+-- of a command without runs the answer depends on no version
+pub quiet-shows : (o : Option Observation) (bytes : ℕ → List ℕ) (command : Command) (who : List ℕ) (seen : View) → makes_runs command.function ≡ false → ShowsVersions o bytes command who seen
+quiet-shows None bytes command who seen none = tt
+quiet-shows (Some o) bytes command who seen none = ap (λ (b : Bool). list_all (is_shown bytes seen) (if b then versions_of_runs (call_of o command who) (change_of (call_of o command who)) else [])) none
 
 -- the answer with an equal view
 pub same_answer : (o : Option Observation) (command : Command) (who : List ℕ) (when : ℕ) (seen other : View) (v w : Verdict) → seen ≡ other → v ≡ w → IsDecidedSo o command who when seen v → IsDecidedSo o command who when other w
@@ -106,14 +122,15 @@ same_answer o command who when seen other v w same_view same_v answers =
     subst (λ (x : Verdict). IsDecidedSo o command who when other x) same_v (subst (λ (x : View). IsDecidedSo o command who when x v) same_view answers)
 
 -- the answer with what is seen
-pub seen_answer : (files : Option Image) (o : Option Observation) (called : Called) (v : Verdict) → is_there_yet called.command.function ≡ true
+pub seen_answer : (files : Option Image) (o : Option Observation) (called : Called) (v : Verdict) → is_there_yet called.command.function ≡ true → makes_runs called.command.function ≡ false
     → IsDecidedSo o called.command called.who called.when (only_attributes (attributes_seen called.before called.command.attributes)) v → IsAnswer files o called v
-seen_answer files o called v there answers bytes have =
-    subst (λ (x : View). verdict placing o bytes called.command called.who called.when x ≡ v) (sym (quiet-view o bytes called there)) (answers bytes)
+seen_answer files o called v there none answers bytes have =
+    subst (λ (x : View). verdict placing o bytes called.command called.who called.when x ≡ v) (sym (quiet-view o bytes called there none))
+    (answers bytes (quiet-shows o bytes called.command called.who (only_attributes (attributes_seen called.before called.command.attributes)) none))
 
-pub if_answered : {E : Type 0} (result : Result Verdict E) (f : (ℕ → List ℕ) → Verdict) → ((bytes : ℕ → List ℕ) → IfOk result (λ v. v ≡ f bytes)) → IfOk result (λ v. (bytes : ℕ → List ℕ) → f bytes ≡ v)
-if_answered (Ok v) f is = λ bytes. sym (is bytes)
-if_answered (Err error) f is = tt
+pub if_answered : {E : Type 0} (result : Result Verdict E) (f : (ℕ → List ℕ) → Verdict) (P : (ℕ → List ℕ) → Type 0) → ((bytes : ℕ → List ℕ) → P bytes → IfOk result (λ v. v ≡ f bytes)) → IfOk result (λ v. (bytes : ℕ → List ℕ) → P bytes → f bytes ≡ v)
+if_answered (Ok v) f P is = λ bytes shows. sym (is bytes shows)
+if_answered (Err error) f P is = tt
 
 -- one event more is applied
 pub one_more : (o next : Observation) (events rest : List Event) (event : Event) (end : Observation) → events ≡ event ∷ rest → next ≡ after o event
@@ -179,7 +196,7 @@ answer-after image log o called v stands shows answers =
     subst (λ (x : Option Observation). answer_to x (version_bytes log) called ≡ v) same
     (answers (version_bytes log) (subst (λ (x : Option Observation). HaveBytes (effective image) x (version_bytes log)) (sym same) shows.bytes_are))
 
-module _ (image : Image) (told : Type 0) (o : Option Observation) (called : Called) (status : Bool) (batch : BatchRecord) (said : List ℕ) (plan : IsPlanned told (effective image) o called status batch said) where
+module _ (image : Image) (told : Type 0) (o : Option Observation) (called : Called) (status : Bool) (batch : BatchRecord) (said : Finished) (plan : IsPlanned told (effective image) o called status batch said) where
   same-events : (log : Log) (events : List Event) → told → Stands image o → ShowsLog image log → answer_after log called ≡ Accept events → plan.events ≡ events
   same-events log events tells stands shows accepted =
       let answered : answer_after log called ≡ Accept plan.events = answer-after image log o called (Accept plan.events) stands shows (plan.accepted tells) in

@@ -1,18 +1,16 @@
 -- What two commands leave, one after the other.
-use Rattle.std.specs.Prelude.{◌≡◌, ◌⊎◌, ◌≤◌, ℕ, List, [], ◌∷◌, ◌++◌, Contains}
-use Rattle.std.proofs.Common.{refl, sym, ap, subst, ◌∙◌, inl, inr, arith}
+use Rattle.std.specs.Prelude.{◌≡◌, ◌⊎◌, ℕ, List, [], ◌∷◌}
+use Rattle.std.proofs.Common.{refl, subst, inl, inr, arith}
 use Rattle.std.proofs.lemmas.Bool.{cases_lt}
 use Rattle.ae_base.specs.declared.outcome.Outcome.{Outcome}
 use Rattle.ae_base.specs.declared.outcome.Outcome.TheVariants.{Done, RunFailed, Refused, BadWords, BadScript, DiskFault, SiteFault, SinkFault, SourceFault, Damaged, Memory}
 use Rattle.ae_outside.specs.Image.{Image}
-use Rattle.ae_outside.specs.State.{DiskState, Continues}
-use Rattle.ae_types.proofs.Members.{In, in-either}
+use Rattle.ae_outside.specs.State.{DiskState}
+use Rattle.ae_types.proofs.Members.{In}
 use Rattle.ae_vault.specs.Kept.{Kept, StandsForOne}
 use Rattle.ae_log.specs.Log.{Log}
-use Rattle.ae_machine.specs.Called.{Called}
-use Rattle.ae_exec.specs.Holding.{HoldsLegal, IsCarriedTo, MayGive}
-use Rattle.ae_exec.specs.Joining.{LeaveThree, TwoCommands}
-use Rattle.ae_exec.specs.Performs.{Performs}
+use Rattle.ae_exec.specs.Holding.{IsCarriedTo}
+use Rattle.ae_exec.specs.Joining.{TwoCommands}
 use Rattle.ae_exec.specs.Refined.{KeptBy, MayBeUnsynced, Refined, held_by, synced, unsynced}
 use Rattle.ae_exec.specs.Stands.{StandsForLog}
 use Rattle.ae_exec.specs.Step.{step}
@@ -98,7 +96,7 @@ carried-in disk log next outcome c l h = go c.are
 -- ---- two
 
 pub two-commands : (base mid disk : DiskState) → TwoCommands base mid disk
-two-commands base mid disk log first second one two was may performs time later then = record {
+two-commands base mid disk log first second one two was may typed performs time later then = record {
   read = c.read;
   among = list-in (log ∷ next ∷ []) c.read (carried-in mid log next one c c.read (in-list c.logs c.read c.among));
   stops = stops;
@@ -108,7 +106,7 @@ two-commands base mid disk log first second one two was may performs time later 
     next = step log first
 
     c : IsCarriedTo mid (log ∷ []) log (step log first) one
-    c = performs.carried may (log ∷ []) log was
+    c = performs.carried may (log ∷ []) log typed was
 
     last : Log
     last = step c.read second

@@ -7,7 +7,7 @@ use Rattle.std.proofs.lemmas.List.Folds.{concat-append}
 use mathlib.Core.List.{append_assoc}
 use Rattle.ae_machine.specs.Replies.{quoted}
 
--- the parts of a line, put behind what stands
+-- the parts of a line, put after what stands
 pub line_is : (text name change said a b c d e f : List ℕ) → a ≡ text ++ codes "aegis: project \"" → b ≡ a ++ name → c ≡ b ++ codes "\": " → d ≡ c ++ change → e ≡ d ++ said → f ≡ e ++ 10 ∷ []
     → f ≡ text ++ (codes "aegis: project " ++ quoted name ++ codes ": " ++ change ++ said ++ 10 ∷ [])
 line_is text name change said a b c d e f is_a is_b is_c is_d is_e is_f = rw (is_f, is_e, is_d, is_c, is_b, is_a) (simp append_assoc refl)

@@ -1,8 +1,8 @@
 -- Versions that are read one after another.
-use Rattle.std.specs.Prelude.{◌≡◌, ℕ, ◌+◌, ◌<◌, List, [], ◌∷◌, ◌++◌, map, Option, Some, None, drop, length}
-use Rattle.std.specs.List.{filter_map, cons_option}
+use Rattle.std.specs.Prelude.{◌≡◌, ℕ, ◌+◌, ◌<◌, List, [], ◌∷◌, ◌++◌, Option, Some, None, drop, length}
+use Rattle.std.specs.List.{cons_option}
 use Rattle.std.specs.Option.{option_map}
-use Rattle.std.proofs.Common.{refl, sym, ◌∙◌, ap, subst, arith}
+use Rattle.std.proofs.Common.{refl, sym, ◌∙◌, ap, subst}
 use Rattle.std.proofs.Math.ListN.{get_or}
 use Rattle.std.proofs.lemmas.List.{drop_more}
 use Rattle.ae_outside.specs.Image.{Image}
@@ -11,7 +11,7 @@ use Rattle.ae_types.specs.declared.version.VersionRef.{VersionRef}
 use Rattle.ae_types.specs.Trees.{TreeRow, tree_at, tree_row}
 use Rattle.ae_machine.specs.Sight.{row_at}
 use Rattle.ae_exec.specs.Bytes.{row_version}
-use Rattle.ae_exec.specs.Reading.{AreKept, FirstIsLost, IsKept, here, later, versions_at, versions_of}
+use Rattle.ae_exec.specs.Reading.{AreKept, FirstIsLost, here, later, versions_at, versions_of}
 
 module _ (x : Option Image) where
   pub kept-append : (a b : List VersionRef) → AreKept x a → AreKept x b → AreKept x (a ++ b)

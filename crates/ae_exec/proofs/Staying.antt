@@ -1,13 +1,13 @@
 -- Versions stay where they are while a command is performed.
-use Rattle.std.proofs.Common.{◌≡◌, ◌⊎◌, inl, inr, ℕ, ◌≤◌, ◌<◌, List, [], ◌∷◌, Option, Some, None, refl, sym, ◌∙◌, ap, subst, arith}
-use Rattle.std.specs.Prelude.{IsSomeAnd, length}
+use Rattle.std.proofs.Common.{◌≡◌, inl, inr, ℕ, ◌≤◌, List, Option, Some, None, refl, sym, subst, arith}
+use Rattle.std.specs.Prelude.{IsSomeAnd}
 use Rattle.std.proofs.lemmas.Bool.{cases_lt}
-use Rattle.ae_outside.specs.Image.{Image, IsSame}
-use Rattle.ae_outside.specs.State.{DiskState, reads, MayLeave, Continues, GoesOn}
+use Rattle.ae_outside.specs.Image.{Image}
+use Rattle.ae_outside.specs.State.{DiskState, Continues}
 use Rattle.ae_vault.specs.Batch.{BatchRecord}
 use Rattle.ae_vault.specs.Commit.{OpenAt, Throughout, with_entries}
 use Rattle.ae_vault.specs.Kept.{Holds}
-use Rattle.ae_vault.specs.Pieces.{pack, PackedOver, FilesOver, FilesHave, KeepsOutside, IsBeforeBatch, IsAfterBatch, BatchAt}
+use Rattle.ae_vault.specs.Pieces.{pack, FilesOver, KeepsOutside, BatchAt}
 use Rattle.ae_vault.specs.Vault.{effective, put}
 use Rattle.ae_log.specs.Log.{Log}
 use Rattle.ae_exec.specs.Carried.{BatchTakes, KeepsVersions, FilesKeepVersions, VersionsStay}

@@ -3,15 +3,14 @@ use Rattle.std.specs.Prelude.{◌≡◌, ℕ, Bool, true, false, nat_le, if◌th
 use Rattle.std.proofs.Common.{sym, subst}
 use Rattle.std.proofs.lemmas.List.Elements.{All-nil}
 use Rattle.ae_base.specs.Bytes.{AreBytes}
-use Rattle.ae_outside.specs.declared.dir.Content.{Content}
 use Rattle.ae_outside.specs.declared.dir.Content.TheVariants.{Bytes, TooLong}
 use Rattle.ae_outside.specs.declared.dir.Dir.TheVariants.{Here}
-use Rattle.ae_outside.specs.Site.{SiteState, content_within}
+use Rattle.ae_outside.specs.Site.{SiteState, content_within, HoldsBytes}
 use Rattle.ae_types.specs.Observation.{Observation}
-use Rattle.ae_machine.specs.declared.view.View.{View}
 use Rattle.ae_machine.specs.Called.{Called, attributes_seen, view}
+use Rattle.ae_machine.specs.Fits.{makes_runs}
 use Rattle.ae_machine.specs.There.{is_there_yet}
-use Rattle.ae_machine.specs.Typed.{HoldsBytes, IsContent, IsReadFile, IsRun, IsView}
+use Rattle.ae_machine.specs.Typed.{IsContent, IsReadFile, IsRun, IsView}
 use Rattle.ae_exec.proofs.Quiet.{quiet-view}
 
 content-typed : (file : Option (List ℕ)) → IfSome file AreBytes → IsContent (content_within 65536 file)
@@ -26,6 +25,6 @@ attributes-typed : (state : SiteState) (path : Option (List ℕ)) → HoldsBytes
 attributes-typed state None bytes = tt
 attributes-typed state (Some path) bytes = content-typed (state.trees Here path) (bytes Here path)
 
-pub quiet-typed : (o : Option Observation) (bytes : ℕ → List ℕ) (called : Called) → is_there_yet called.command.function ≡ true → HoldsBytes called.before → IsView (view o bytes called)
-quiet-typed o bytes called there holds =
-    subst IsView (sym (quiet-view o bytes called there)) (record { attributes = attributes-typed called.before called.command.attributes holds; develop = All-nil IsReadFile; runs = All-nil IsRun })
+pub quiet-typed : (o : Option Observation) (bytes : ℕ → List ℕ) (called : Called) → is_there_yet called.command.function ≡ true → makes_runs called.command.function ≡ false → HoldsBytes called.before → IsView (view o bytes called)
+quiet-typed o bytes called there none holds =
+    subst IsView (sym (quiet-view o bytes called there none)) (record { attributes = attributes-typed called.before called.command.attributes holds; develop = All-nil IsReadFile; runs = All-nil IsRun })

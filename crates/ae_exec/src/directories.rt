@@ -1,16 +1,18 @@
 // The directories are changed as a command asks, before anything is put on the disk.
-ghost use Rattle.std.specs.Prelude.{◌≡◌, ◌≤◌, ◌++◌, ◌∷◌, [], ℕ, List, Option, Some, map, true, IfOk, IfErr, OnOk, option_copied};
+ghost use Rattle.std.specs.Prelude.{◌≡◌, ◌≤◌, ◌++◌, ◌∷◌, [], ℕ, List, Option, Some, map, true, false, IfOk, IfErr, OnOk, option_copied};
 ghost use Rattle.std.specs.List.{cons_option};
 ghost use Rattle.ae_outside.specs.Causes.{HasRisen};
 ghost use Rattle.std.specs.Option.{option_map};
 ghost use Rattle.ae_outside.specs.Image.{Image, IsSame};
 ghost use Rattle.ae_outside.specs.State.{reads, GoesOn};
 ghost use Rattle.ae_types.specs.Ordered.{Ascends, itself, put_by};
-ghost use Rattle.ae_types.specs.Trees.{TreeRow, baseline_of, text_cmp, tree_of, tree_row};
+ghost use Rattle.ae_types.specs.Trees.{TreeRow, baseline_of, tree_of, tree_row};
+ghost use Rattle.ae_base.specs.Rows.{text_cmp};
 ghost use Rattle.ae_vault.specs.Commit.{IsClean};
 ghost use Rattle.ae_vault.specs.Vault.{effective};
 ghost use Rattle.ae_machine.specs.Called.{called};
 ghost use Rattle.ae_machine.specs.Directories.{in_order, removed};
+ghost use Rattle.ae_machine.specs.Fits.{makes_runs};
 ghost use Rattle.ae_machine.specs.Real.{IsLeft};
 ghost use Rattle.ae_machine.specs.Sight.{row_at};
 ghost use Rattle.ae_machine.specs.There.{is_there_yet};
@@ -30,7 +32,7 @@ use ae_types::{FileRow, FileVersion, State, VersionRef};
 use ae_words::{Command, Function};
 use std::alloc::{AllocError, Global};
 
-// Puts the file of a row at a delta behind the others, with its bytes, where it is there.
+// Puts the file of a row at a delta after the others, with its bytes, where it is there.
 fn push_file<D: Disk>(
     alloc: Global,
     disk: &mut D,
@@ -195,13 +197,13 @@ fn remove_changes(
 fn version_at<'a>(state: &'a State, delta: usize, path: &Path) -> Option<&'a VersionRef>
     ensures { option_copied result ≡ option_map row_version (row_at (tree_of state.now delta) path.now) }
 {
-    let _project = state.project();
+    state.note_sound();
     let row = state.row(path)?;
     let entry = entry_at(row.past.as_slice(), delta)?;
     entry.version.as_ref()
 }
 
-// Puts the path's file at a delta behind the others, with its bytes, or no file where it isn't there.
+// Puts the path's file at a delta after the others, with its bytes, or no file where it isn't there.
 fn push_file_at<D: Disk>(
     alloc: Global,
     disk: &mut D,
@@ -217,7 +219,7 @@ fn push_file_at<D: Disk>(
     ensures stopped { IfErr result (λ stop. StopsReading D.tells (reads (D.state disk.old)) (versions_at (tree_of state.now delta) (path.now ∷ [])) (HasRisen (D.faults disk.old) (D.faults disk.new)) stop) }
     ensures later { D.faults disk.old ≤ D.faults disk.new }
 {
-    let _project = state.project();
+    state.note_sound();
     match version_at(state, delta, path) {
         Some(version) => {
             let bytes = read_version(alloc, disk, version)?;
@@ -300,6 +302,7 @@ fn dir_changes<D: Disk>(
 ) -> Result<DirChangeList, Stop>
     requires clean { D.tells → IsClean (D.state disk.old) }
     requires there { is_there_yet command.now.function ≡ true }
+    requires quiet { makes_runs command.now.function ≡ false }
     ensures changes { IfOk result (λ changes. D.tells → AreChanges (effective (reads (D.state disk.old))) state.now command.now changes) }
     ensures own { IfOk result (λ changes. AreOwn command.now changes) }
     ensures kept { OnOk result (D.tells → AreKept (effective (reads (D.state disk.old))) (versions_read command.now state.now)) }
@@ -330,11 +333,12 @@ pub(crate) fn change_directories<D: Disk, S: Site>(
 ) -> Result<(), Stop>
     requires clean { D.tells → IsClean (D.state disk.old) }
     requires there { is_there_yet command.now.function ≡ true }
+    requires quiet { makes_runs command.now.function ≡ false }
     ensures left { OnOk result (D.tells → S.tells → (bytes : ℕ → List ℕ) (who : List ℕ) (when : ℕ) → HaveBytes (effective (reads (D.state disk.old))) (option_copied old.entry) bytes → IsLeft (option_copied old.entry) bytes (called command.now who when (S.state site.old) (S.state site.new))) }
     ensures directories { S.tells → LeavesDirs command.now (S.state site.old) (S.state site.new) (outcome_of result) }
     ensures kept { OnOk result (D.tells → AreKept (effective (reads (D.state disk.old))) (reads_of command.now (option_copied old.entry))) }
     ensures same { D.tells → GoesOn IsSame (D.state disk.old) (D.state disk.new) }
-    ensures stopped { IfErr result (λ stop. EndsAs ⊥ (λ refusal. ⊥) (λ name. D.tells → IsLostAmong (reads (D.state disk.old)) (reads_of command.now (option_copied old.entry)) name) (HasRisen (D.faults disk.old) (D.faults disk.new)) (HasRisen (S.faults site.old) (S.faults site.new) × (D.tells → AreKept (effective (reads (D.state disk.old))) (reads_of command.now (option_copied old.entry)))) (outcome_of_stop stop)) }
+    ensures stopped { IfErr result (λ stop. EndsAs ⊥ ⊥ (λ refusal. ⊥) (λ name. D.tells → IsLostAmong (reads (D.state disk.old)) (reads_of command.now (option_copied old.entry)) name) (HasRisen (D.faults disk.old) (D.faults disk.new)) (HasRisen (S.faults site.old) (S.faults site.new) × (D.tells → AreKept (effective (reads (D.state disk.old))) (reads_of command.now (option_copied old.entry)))) (outcome_of_stop stop)) }
     ensures disk_later { D.faults disk.old ≤ D.faults disk.new }
     ensures site_later { S.faults site.old ≤ S.faults site.new }
 {

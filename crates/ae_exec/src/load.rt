@@ -18,7 +18,7 @@ pub(crate) fn load_state<D: Disk>(alloc: Global, disk: &mut D) -> Result<Option<
     requires clean { D.tells → IsClean (D.state disk.old) }
     ensures found { IfOk result (λ o. D.tells → Stands (reads (D.state disk.old)) o) }
     ensures same { D.tells → GoesOn IsSame (D.state disk.old) (D.state disk.new) }
-    ensures stopped { IfErr result (λ stop. EndsAs ⊥ (λ refusal. ⊥) (λ name. D.tells → IsDamagedAt (reads (D.state disk.old)) name) (HasRisen (D.faults disk.old) (D.faults disk.new)) ⊥ (outcome_of_stop stop)) }
+    ensures stopped { IfErr result (λ stop. EndsAs ⊥ ⊥ (λ refusal. ⊥) (λ name. D.tells → IsDamagedAt (reads (D.state disk.old)) name) (HasRisen (D.faults disk.old) (D.faults disk.new)) ⊥ (outcome_of_stop stop)) }
     ensures later { D.faults disk.old ≤ D.faults disk.new }
 {
     match load(alloc, disk) {

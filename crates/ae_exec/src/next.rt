@@ -25,7 +25,7 @@ fn applied(alloc: Global, state: State, events: EventList) -> Result<State, Allo
     requires made { AreMade events }
     ensures { IfOk result (λ next. next ≡ after_all state events) }
 {
-    let _project = state.project();
+    state.note_sound();
     let mut state = state;
     for event in events.into_vec() {
         state = apply(alloc, state, event)?;

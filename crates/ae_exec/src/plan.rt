@@ -1,5 +1,6 @@
 // What is put and what is said of a command, made ready before anything is changed.
-ghost use Rattle.std.specs.Prelude.{◌≡◌, ◌≤◌, true, Option, Some, None, IfOk, IfErr, option_copied};
+ghost use Rattle.std.specs.Prelude.{◌≡◌, ◌≤◌, ℕ, List, true, false, Option, Some, None, IfOk, IfErr, option_copied};
+ghost use Rattle.ae_base.specs.Limits.{last_moment};
 ghost use Rattle.ae_outside.specs.Causes.{HasRisen};
 ghost use Rattle.ae_outside.specs.Image.{IsSame};
 ghost use Rattle.ae_outside.specs.State.{reads, GoesOn};
@@ -8,24 +9,27 @@ ghost use Rattle.ae_types.specs.Observation.{Observation};
 ghost use Rattle.ae_vault.specs.Commit.{IsClean};
 ghost use Rattle.ae_vault.specs.Vault.{effective};
 ghost use Rattle.ae_words.specs.Formed.{IsFormed};
-ghost use Rattle.ae_machine.specs.declared.verdict.Verdict.TheVariants.{Refuse};
+ghost use Rattle.ae_base.specs.declared.outcome.Outcome.{Outcome};
 ghost use Rattle.ae_machine.specs.Called.{called};
+ghost use Rattle.ae_machine.specs.Fits.{makes_runs};
 ghost use Rattle.ae_machine.specs.There.{is_there_yet};
+ghost use Rattle.ae_machine.specs.Versions.{ShowsVersions};
 ghost use Rattle.ae_machine.specs.Verdict.{refused_before};
 ghost use Rattle.ae_exec.specs.Carried.{pieces_of};
 ghost use Rattle.ae_exec.specs.Directories.{LeavesDirs};
 ghost use Rattle.ae_exec.specs.Endings.{EndsAs, IsDamagedFor, outcome_of, outcome_of_stop};
 ghost use Rattle.ae_exec.specs.Next.{MayFollow, AreMade, IfAccepted, next_of};
 ghost use Rattle.ae_exec.specs.Plan.{IsStep, IsMade, IsPlanned};
-ghost use Rattle.ae_exec.specs.Seen.{CallsSite, CallsSiteOn, IsAnswer, IsAnsweredAt, IsDecidedSo, LosesVersion};
+ghost use Rattle.ae_exec.specs.Seen.{CallsSite, CallsSiteOn, IsDecidedSo, IsRefused, IsRefusedOn, LosesVersion};
 
 use crate::directories::change_directories;
 use crate::load::load_state;
 use crate::next::next_state;
-use crate::reply::reply;
+use crate::reply::{Finished, finish};
+use crate::runs_plan::{makes_runs, plan_runs};
 use crate::sight::look;
 use crate::stop::Stop;
-use ae_base::{Text, User};
+use ae_base::User;
 use ae_log::EventList;
 use ae_machine::{Verdict, View, before, decide_rest};
 use ae_outside::{Disk, Site};
@@ -35,11 +39,11 @@ use ae_vault::{Batch, PieceList};
 use ae_words::Command;
 use std::alloc::{AllocError, Global};
 
-/// The files that are put, and the reply.
+/// The files that are put, and what the command comes to.
 #[derive(Drop)]
-pub struct Plan {
+pub(crate) struct Plan {
     pub batch: Batch,
-    pub reply: Text,
+    pub finished: Finished,
 }
 
 // The batch that takes the files to what stands after the events.
@@ -53,8 +57,8 @@ fn next_batch(alloc: Global, old: Option<&State>, events: EventList) -> Result<B
     batch(alloc, old, &new, PieceList::new(alloc))
 }
 
-// The batch and the reply of events.
-fn prepare(
+/// The batch of events, and what the command comes to.
+pub(crate) fn prepare(
     alloc: Global,
     old: Option<&State>,
     events: EventList,
@@ -62,15 +66,15 @@ fn prepare(
 ) -> Result<Plan, AllocError>
     requires follow { MayFollow (option_copied old) events }
     requires made { AreMade events }
-    ensures { IfOk result (λ plan. IsMade (option_copied old.entry) status_line events plan.batch plan.reply) }
+    ensures { IfOk result (λ plan. IsMade (option_copied old.entry) status_line events plan.batch plan.finished) }
 {
-    let reply = reply(alloc, old, &events, status_line)?;
+    let finished = finish(alloc, old, &events, status_line)?;
     let batch = next_batch(alloc, old, events)?;
-    Ok(Plan { batch, reply })
+    Ok(Plan { batch, finished })
 }
 
-// The answer to the command with this view, where a project stands.
-fn answer_on(
+/// The answer to the command with this view, where a project stands.
+pub(crate) fn answer_on(
     alloc: Global,
     state: &State,
     command: &Command,
@@ -80,13 +84,13 @@ fn answer_on(
 ) -> Result<Verdict, AllocError>
     requires formed { IsFormed command.now }
     requires there { is_there_yet command.now.function ≡ true }
-    requires moment { now ≤ 4102444799 }
+    requires moment { now ≤ last_moment }
     requires passed { refused_before (Some state.now) command.now who.now ≡ None }
     ensures is { IfOk result (λ answer. IsDecidedSo (Some state.now) command.now who.now now view.now answer) }
-    ensures follow { IfOk result (λ answer. IfAccepted answer (MayFollow (Some state.now))) }
-    ensures made { IfOk result (λ answer. IfAccepted answer AreMade) }
+    ensures follow { (bytes : ℕ → List ℕ) → ShowsVersions (Some state.now) bytes command.now who.now view.now → IfOk result (λ answer. IfAccepted answer (MayFollow (Some state.now))) }
+    ensures made { (bytes : ℕ → List ℕ) → ShowsVersions (Some state.now) bytes command.now who.now view.now → IfOk result (λ answer. IfAccepted answer AreMade) }
 {
-    let _project = state.project();
+    state.note_sound();
     decide_rest(alloc, Some(state), command, who, now, view)
 }
 
@@ -100,7 +104,7 @@ fn first_answer(
 ) -> Result<Verdict, AllocError>
     requires formed { IsFormed command.now }
     requires there { is_there_yet command.now.function ≡ true }
-    requires moment { now ≤ 4102444799 }
+    requires moment { now ≤ last_moment }
     requires passed { refused_before None command.now who.now ≡ None }
     ensures is { IfOk result (λ answer. IsDecidedSo None command.now who.now now view.now answer) }
     ensures follow { IfOk result (λ answer. IfAccepted answer (MayFollow None)) }
@@ -109,7 +113,7 @@ fn first_answer(
     decide_rest(alloc, None, command, who, now, view)
 }
 
-// The answer to the command with this view.
+// The answer with this view to a command that makes no runs.
 fn answer(
     alloc: Global,
     old: Option<&State>,
@@ -120,7 +124,8 @@ fn answer(
 ) -> Result<Verdict, AllocError>
     requires formed { IsFormed command.now }
     requires there { is_there_yet command.now.function ≡ true }
-    requires moment { now ≤ 4102444799 }
+    requires moment { now ≤ last_moment }
+    requires quiet { makes_runs command.now.function ≡ false }
     requires passed { refused_before (option_copied old) command.now who.now ≡ None }
     ensures is { IfOk result (λ answer. IsDecidedSo (option_copied old.entry) command.now who.now now view.now answer) }
     ensures follow { IfOk result (λ answer. IfAccepted answer (MayFollow (option_copied old.entry))) }
@@ -132,7 +137,41 @@ fn answer(
     }
 }
 
-// What is put and said of the command, where this stands. The directories are changed as it asks.
+// The same of a command that makes no runs, and that nothing refuses which asks nothing of the directories.
+fn plan_quiet<D: Disk, S: Site>(
+    alloc: Global,
+    old: Option<&State>,
+    disk: &mut D,
+    site: &mut S,
+    command: &Command,
+    who: &User,
+    now: u64,
+    status_line: bool,
+) -> Result<Plan, Stop>
+    requires clean { D.tells → IsClean (D.state disk.old) }
+    requires formed { IsFormed command.now }
+    requires there { is_there_yet command.now.function ≡ true }
+    requires moment { now ≤ last_moment }
+    requires quiet { makes_runs command.now.function ≡ false }
+    requires passed { refused_before (option_copied old) command.now who.now ≡ None }
+    ensures planned { IfOk result (λ plan. IsPlanned (D.tells × S.tells) (effective (reads (D.state disk.old))) (option_copied old.entry) (called command.now who.now now (S.state site.old) (S.state site.new)) status_line plan.batch plan.finished) }
+    ensures stopped { IfErr result (λ stop. EndsAs ⊥ ⊥ (λ refusal. D.tells → S.tells → IsRefusedOn (effective (reads (D.state disk.old))) (option_copied old.entry) (called command.now who.now now (S.state site.old) (S.state site.new)) refusal) (λ name. D.tells → S.tells → LosesVersion (reads (D.state disk.old)) (option_copied old.entry) (called command.now who.now now (S.state site.old) (S.state site.new)) name) (HasRisen (D.faults disk.old) (D.faults disk.new)) (HasRisen (S.faults site.old) (S.faults site.new) × (D.tells → S.tells → CallsSiteOn (effective (reads (D.state disk.old))) (option_copied old.entry) (called command.now who.now now (S.state site.old) (S.state site.new)))) (outcome_of_stop stop)) }
+    ensures directories { S.tells → LeavesDirs command.now (S.state site.old) (S.state site.new) (outcome_of result) }
+    ensures same { D.tells → GoesOn IsSame (D.state disk.old) (D.state disk.new) }
+    ensures disk_later { D.faults disk.old ≤ D.faults disk.new }
+    ensures site_later { S.faults site.old ≤ S.faults site.new }
+{
+    let view = look(alloc, site, command.attributes.as_ref())?;
+    match answer(alloc, old, command, who, now, &view)? {
+        Verdict::Accept(events) => {
+            change_directories(alloc, old, disk, site, command)?;
+            Ok(prepare(alloc, old, events, status_line)?)
+        }
+        Verdict::Refuse(refusal) => Err(Stop::Refused(refusal)),
+    }
+}
+
+// What is put and said of the command, where this stands. The directories are changed as it asks, and its runs made.
 fn plan_on<D: Disk, S: Site>(
     alloc: Global,
     old: Option<&State>,
@@ -146,10 +185,11 @@ fn plan_on<D: Disk, S: Site>(
     requires clean { D.tells → IsClean (D.state disk.old) }
     requires formed { IsFormed command.now }
     requires there { is_there_yet command.now.function ≡ true }
-    requires moment { now ≤ 4102444799 }
-    ensures planned { IfOk result (λ plan. IsPlanned (D.tells × S.tells) (effective (reads (D.state disk.old))) (option_copied old.entry) (called command.now who.now now (S.state site.old) (S.state site.new)) status_line plan.batch plan.reply) }
-    ensures stopped { IfErr result (λ stop. EndsAs ⊥ (λ refusal. S.tells → IsAnswer (effective (reads (D.state disk.old))) (option_copied old.entry) (called command.now who.now now (S.state site.old) (S.state site.new)) (Refuse refusal)) (λ name. D.tells → S.tells → LosesVersion (reads (D.state disk.old)) (option_copied old.entry) (called command.now who.now now (S.state site.old) (S.state site.new)) name) (HasRisen (D.faults disk.old) (D.faults disk.new)) (HasRisen (S.faults site.old) (S.faults site.new) × (D.tells → S.tells → CallsSiteOn (effective (reads (D.state disk.old))) (option_copied old.entry) (called command.now who.now now (S.state site.old) (S.state site.new)))) (outcome_of_stop stop)) }
+    requires moment { now ≤ last_moment }
+    ensures planned { IfOk result (λ plan. IsPlanned (D.tells × S.tells) (effective (reads (D.state disk.old))) (option_copied old.entry) (called command.now who.now now (S.state site.old) (S.state site.new)) status_line plan.batch plan.finished) }
+    ensures stopped { IfErr result (λ stop. EndsAs ⊥ ⊥ (λ refusal. D.tells → S.tells → IsRefusedOn (effective (reads (D.state disk.old))) (option_copied old.entry) (called command.now who.now now (S.state site.old) (S.state site.new)) refusal) (λ name. D.tells → S.tells → LosesVersion (reads (D.state disk.old)) (option_copied old.entry) (called command.now who.now now (S.state site.old) (S.state site.new)) name) (HasRisen (D.faults disk.old) (D.faults disk.new)) (HasRisen (S.faults site.old) (S.faults site.new) × (D.tells → S.tells → CallsSiteOn (effective (reads (D.state disk.old))) (option_copied old.entry) (called command.now who.now now (S.state site.old) (S.state site.new)))) (outcome_of_stop stop)) }
     ensures directories { S.tells → LeavesDirs command.now (S.state site.old) (S.state site.new) (outcome_of result) }
+    ensures early { S.tells → makes_runs command.now.function ≡ true → IfErr result (λ stop. outcome_of_stop stop ≡ Outcome.DiskFault → S.state site.new ≡ S.state site.old) }
     ensures same { D.tells → GoesOn IsSame (D.state disk.old) (D.state disk.new) }
     ensures disk_later { D.faults disk.old ≤ D.faults disk.new }
     ensures site_later { S.faults site.old ≤ S.faults site.new }
@@ -157,13 +197,10 @@ fn plan_on<D: Disk, S: Site>(
     if let Some(refusal) = before(alloc, old, command, who, now)? {
         return Err(Stop::Refused(refusal));
     }
-    let view = look(alloc, site, command.attributes.as_ref())?;
-    match answer(alloc, old, command, who, now, &view)? {
-        Verdict::Accept(events) => {
-            change_directories(alloc, old, disk, site, command)?;
-            Ok(prepare(alloc, old, events, status_line)?)
-        }
-        Verdict::Refuse(refusal) => Err(Stop::Refused(refusal)),
+    if makes_runs(command.function) {
+        plan_runs(alloc, old, disk, site, command, who, now, status_line)
+    } else {
+        plan_quiet(alloc, old, disk, site, command, who, now, status_line)
     }
 }
 
@@ -180,10 +217,11 @@ pub(crate) fn make_plan<D: Disk, S: Site>(
     requires clean { D.tells → IsClean (D.state disk.old) }
     requires formed { IsFormed command.now }
     requires there { is_there_yet command.now.function ≡ true }
-    requires moment { now ≤ 4102444799 }
-    ensures planned { IfOk result (λ plan. (o : Option Observation) × (D.tells → Stands (reads (D.state disk.old)) o) × IsPlanned (D.tells × S.tells) (effective (reads (D.state disk.old))) o (called command.now who.now now (S.state site.old) (S.state site.new)) status_line plan.batch plan.reply) }
-    ensures stopped { IfErr result (λ stop. EndsAs ⊥ (λ refusal. D.tells → S.tells → IsAnsweredAt (reads (D.state disk.old)) (called command.now who.now now (S.state site.old) (S.state site.new)) (Refuse refusal)) (λ name. D.tells → S.tells → IsDamagedFor (reads (D.state disk.old)) (called command.now who.now now (S.state site.old) (S.state site.new)) name) (HasRisen (D.faults disk.old) (D.faults disk.new)) (HasRisen (S.faults site.old) (S.faults site.new) × (D.tells → S.tells → CallsSite (reads (D.state disk.old)) (called command.now who.now now (S.state site.old) (S.state site.new)))) (outcome_of_stop stop)) }
+    requires moment { now ≤ last_moment }
+    ensures planned { IfOk result (λ plan. (o : Option Observation) × (D.tells → Stands (reads (D.state disk.old)) o) × IsPlanned (D.tells × S.tells) (effective (reads (D.state disk.old))) o (called command.now who.now now (S.state site.old) (S.state site.new)) status_line plan.batch plan.finished) }
+    ensures stopped { IfErr result (λ stop. EndsAs ⊥ ⊥ (λ refusal. D.tells → S.tells → IsRefused (reads (D.state disk.old)) (called command.now who.now now (S.state site.old) (S.state site.new)) refusal) (λ name. D.tells → S.tells → IsDamagedFor (reads (D.state disk.old)) (called command.now who.now now (S.state site.old) (S.state site.new)) name) (HasRisen (D.faults disk.old) (D.faults disk.new)) (HasRisen (S.faults site.old) (S.faults site.new) × (D.tells → S.tells → CallsSite (reads (D.state disk.old)) (called command.now who.now now (S.state site.old) (S.state site.new)))) (outcome_of_stop stop)) }
     ensures directories { S.tells → LeavesDirs command.now (S.state site.old) (S.state site.new) (outcome_of result) }
+    ensures early { S.tells → makes_runs command.now.function ≡ true → IfErr result (λ stop. outcome_of_stop stop ≡ Outcome.DiskFault → S.state site.new ≡ S.state site.old) }
     ensures same { D.tells → GoesOn IsSame (D.state disk.old) (D.state disk.new) }
     ensures disk_later { D.faults disk.old ≤ D.faults disk.new }
     ensures site_later { S.faults site.old ≤ S.faults site.new }

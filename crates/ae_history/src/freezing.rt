@@ -1,6 +1,7 @@
 // The files of a tree get their places.
 ghost use Rattle.std.specs.Prelude.{◌≡◌, ◌≤◌, ◌++◌, ℕ, List, [], Option, Some, None, length, All, IfOk, IfSome, OnOk, IsErrOf};
 ghost use Rattle.std.specs.Option.{option_to_list};
+ghost use Rattle.ae_base.specs.Limits.{most_file_bytes, most_units};
 ghost use Rattle.ae_base.specs.Rows.{Row};
 ghost use Rattle.ae_log.specs.Files.{present, first_place, other_places};
 ghost use Rattle.ae_space.specs.declared.extent.Extent.{Extent};
@@ -17,7 +18,7 @@ use std::alloc::{AllocError, Global};
 fn take_place(space: &mut Space, bytes: &Option<Text>) -> Result<Option<u64>, SpaceError>
     requires { IsShort bytes.now }
     ensures taken { IfOk result (λ place. WhateverLeft space.old (λ taken. TakesPlaces taken (option_to_list bytes.now) space.new (option_to_list place))) }
-    ensures inside { IfOk result (λ place. IfSome place (λ at. at ≤ 16777216)) }
+    ensures inside { IfOk result (λ place. IfSome place (λ at. at ≤ most_units)) }
     ensures full { IsErrOf result SpaceError.Full → WhateverLeft space.old (λ taken. HaveNoPlaces taken (option_to_list bytes.now)) }
 {
     match bytes {
@@ -46,7 +47,7 @@ pub fn take_places(
 ) -> Result<Vec<u64>, SpaceError>
     requires short { All (λ (row : Row). IsShort row.1) tree.now }
     ensures places { IfOk result (λ places. WhateverLeft space.old (λ taken. places_of taken (present tree.now) ≡ Some places.items)) }
-    ensures inside { IfOk result (λ places. All (λ at. at ≤ 16777216) places.items) }
+    ensures inside { IfOk result (λ places. All (λ at. at ≤ most_units) places.items) }
     // It is full exactly where one of them has no place.
     ensures full { IsErrOf result SpaceError.Full → WhateverLeft space.old (λ taken. places_of taken (present tree.now) ≡ None) }
 {
@@ -78,8 +79,8 @@ fn other_places(places: &[u64]) -> &[u64]
 
 // Adds the piece of bytes at this place, where there are any.
 fn add_piece(alloc: Global, pieces: &mut PieceList, at: u64, bytes: &[u8]) -> Result<(), AllocError>
-    requires at { at ≤ 16777216 }
-    requires short { length bytes.now ≤ 4194304 }
+    requires at { at ≤ most_units }
+    requires short { length bytes.now ≤ most_file_bytes }
     ensures { OnOk result (pieces.new ≡ pieces.old ++ option_to_list (piece_at at bytes.now)) }
 {
     let text = padded(alloc, bytes)?;
@@ -96,10 +97,10 @@ fn add_file<'a>(
     places: &'a [u64],
     bytes: &Option<Text>,
 ) -> Result<&'a [u64], AllocError>
-    requires inside { All (λ at. at ≤ 16777216) places.now }
+    requires inside { All (λ at. at ≤ most_units) places.now }
     requires short { IsShort bytes.now }
     ensures pieces { IfOk result (λ others. (more : List (List ℕ)) → pieces.new ++ pieces_at others.now more ≡ pieces.old ++ pieces_at places.entry.now (option_to_list bytes.now ++ more)) }
-    ensures inside { IfOk result (λ others. All (λ at. at ≤ 16777216) others.now) }
+    ensures inside { IfOk result (λ others. All (λ at. at ≤ most_units) others.now) }
 {
     match bytes {
         Some(text) => {
@@ -117,7 +118,7 @@ pub fn pieces_for(
     places: &[u64],
 ) -> Result<PieceList, AllocError>
     requires short { All (λ (row : Row). IsShort row.1) tree.now }
-    requires inside { All (λ at. at ≤ 16777216) places.now }
+    requires inside { All (λ at. at ≤ most_units) places.now }
     ensures { IfOk result (λ pieces. pieces ≡ pieces_at places.now (present tree.now)) }
 {
     let mut pieces = PieceList::new(alloc);

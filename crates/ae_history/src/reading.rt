@@ -1,5 +1,6 @@
 // The bytes of a version are read.
 ghost use Rattle.std.specs.Prelude.{◌≡◌, ◌≤◌, ◌*◌, ◌↔◌, ℕ, List, true, Err, length, take, drop, IfOk, IsTrue, IsSomeAnd, IsErrOf};
+ghost use Rattle.ae_base.specs.Limits.{most_units};
 ghost use Rattle.sha2.specs.Sha256.{sha256};
 ghost use Rattle.ae_outside.specs.Causes.{Counted};
 ghost use Rattle.ae_outside.specs.Image.{IsSame};
@@ -21,7 +22,7 @@ const PACK: &str = "pack";
 
 // Where the version's bytes begin; 0 where it has none.
 fn byte_place(version: &VersionRef) -> u64
-    requires { has_units version.now ≡ true → end_of version.now ≤ 16777216 }
+    requires { has_units version.now ≡ true → end_of version.now ≤ most_units }
     ensures { (packed : List ℕ) → take version.now.length (drop result packed) ≡ bytes_at packed version.now }
 {
     if version.length == 0 {
@@ -44,7 +45,7 @@ pub fn get_version<D: Disk>(
     version: &VersionRef,
 ) -> Result<Vec<u8>, HistoryError>
     requires clean { D.tells → IsClean (D.state disk.old) }
-    requires place { has_units version.now ≡ true → end_of version.now ≤ 16777216 }
+    requires place { has_units version.now ≡ true → end_of version.now ≤ most_units }
     // What lies at its place, and what was kept of it says so.
     ensures bytes { IfOk result (λ bytes. D.tells → IsSomeAnd (effective (reads (D.state disk.old))) (λ files. bytes.items ≡ bytes_at (files pack) version.now)) }
     ensures kept { IfOk result (λ bytes. AreOf version.now bytes.items) }

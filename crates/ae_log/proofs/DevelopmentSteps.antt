@@ -12,7 +12,7 @@ use Rattle.ae_types.specs.Observation.{Observation}
 use Rattle.ae_types.specs.Ordered.{put_by, itself}
 use Rattle.ae_types.specs.Found.{row_path, lock_path}
 use Rattle.ae_types.specs.Phases.{holds_locks}
-use Rattle.ae_types.specs.Trees.{text_cmp}
+use Rattle.ae_base.specs.Rows.{text_cmp}
 use Rattle.ae_types.proofs.Keys.{by_text}
 use Rattle.ae_types.proofs.Ordered.{listed-more}
 use Rattle.ae_log.specs.declared.event.EventKind.{EventKind}

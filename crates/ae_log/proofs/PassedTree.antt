@@ -11,7 +11,8 @@ use Rattle.ae_types.specs.declared.file_table.FileVersion.{FileVersion}
 use Rattle.ae_types.specs.declared.version.VersionRef.{VersionRef}
 use Rattle.ae_types.specs.Found.{file_path, row_path, entry_delta, file_in, row_in, entry_in, has_file}
 use Rattle.ae_types.specs.Ordered.{put_by}
-use Rattle.ae_types.specs.Trees.{TreeRow, tree_path, text_cmp, frozen_row, tree_row, entry_row, past_in, last_up_to, unless_later, put_rows, overlaid}
+use Rattle.ae_types.specs.Trees.{TreeRow, tree_path, frozen_row, tree_row, entry_row, past_in, last_up_to, unless_later, put_rows, overlaid}
+use Rattle.ae_base.specs.Rows.{text_cmp}
 use Rattle.ae_types.specs.Sound.{IsGoodRow}
 use Rattle.ae_types.proofs.Keys.{by_text, by_number}
 use Rattle.ae_types.proofs.Ordered.{Above, Ascends, at, at-put, put-ascends, at-rows, rows-ascend, at-filter, filter-ascends, if_so, ascending-is, at-above, at-first, above-at, apart, less-other, found-key, some-is, none-some}

@@ -9,7 +9,7 @@ use Rattle.ae_types.specs.Observation.{Observation}
 use Rattle.ae_types.specs.Trees.{tree_of, tree_row, entry_row, unless_later, last_up_to}
 use Rattle.ae_log.specs.Log.{Log}
 use Rattle.ae_log.specs.Files.{Version, paths, ref_of}
-use Rattle.ae_log.specs.Baseline.{Entry, past, tree, tree_file, tree_file_of, entry_file, unless_later as unless_after, last_up_to as last_entry}
+use Rattle.ae_log.specs.Baseline.{Entry, past, tree, tree_file, tree_file_of, entry_file, last_up_to as last_entry}
 use Rattle.ae_log.specs.Observed.{observation_with, file_row, file_version, tree_row_of}
 use Rattle.ae_log.specs.Laws.{TreesStand}
 use Rattle.ae_log.proofs.Lists.{filter_map-step}
@@ -27,12 +27,12 @@ last-versions : (n : ℕ) (xs : List Entry) → last_up_to n (map file_version x
 last-versions n [] = refl
 last-versions n (x ∷ xs) = go (nat_le x.delta n) (last-versions n xs)
   where
-    put : (v : Option Entry) → unless_later (file_version x) (option_map file_version v) ≡ option_map file_version (unless_after x v)
+    put : (v : Option Entry) → unless_later (file_version x) (option_map file_version v) ≡ option_map file_version (unless_later x v)
     put (Some y) = refl
     put None = refl
 
     go : (b : Bool) → last_up_to n (map file_version xs) ≡ option_map file_version (last_entry n xs)
-        → cond b (unless_later (file_version x) (last_up_to n (map file_version xs))) (last_up_to n (map file_version xs)) ≡ option_map file_version (cond b (unless_after x (last_entry n xs)) (last_entry n xs))
+        → cond b (unless_later (file_version x) (last_up_to n (map file_version xs))) (last_up_to n (map file_version xs)) ≡ option_map file_version (cond b (unless_later x (last_entry n xs)) (last_entry n xs))
     go true r = ap (unless_later (file_version x)) r ∙ put (last_entry n xs)
     go false r = r
 

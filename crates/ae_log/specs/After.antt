@@ -3,7 +3,7 @@ use Rattle.std.specs.Prelude.{ℕ, ◌+◌, not, List, [], ◌∷◌, ◌++◌, 
 use Rattle.std.specs.Option.{option_map}
 use Rattle.std.specs.Ordering.{nat_cmp}
 use Rattle.std.specs.Str.{bytes_eq}
-use Rattle.ae_base.specs.Rows.{Rows}
+use Rattle.ae_base.specs.Rows.{Rows, text_cmp}
 use Rattle.ae_base.specs.Users.{without}
 use Rattle.ae_base.specs.declared.words.Action.{Action}
 use Rattle.ae_base.specs.declared.words.Usage.{Usage}
@@ -25,7 +25,7 @@ use Rattle.ae_types.specs.Ordered.{put_by, itself}
 use Rattle.ae_types.specs.Found.{number_of_change, file_path, row_path, lock_path, row_in, change_at}
 use Rattle.ae_types.specs.Roles.{users_of, with_users}
 use Rattle.ae_types.specs.Runs.{same_during, run_cmp, run_of}
-use Rattle.ae_types.specs.Trees.{text_cmp, past_in}
+use Rattle.ae_types.specs.Trees.{past_in}
 use Rattle.ae_log.specs.declared.event.Event.{Event}
 use Rattle.ae_log.specs.declared.event.EventKind.{EventKind}
 use Rattle.ae_log.specs.declared.event.EventKind.TheVariants as on

@@ -1,6 +1,7 @@
 -- What an event asks of what stands before it.
 use Rattle.std.specs.Prelude.{◌≡◌, ℕ, ◌<◌, ◌≤◌, Bool, true, false, ◌||◌, not, List, map, Option, Some, None, is_none, length, IsSomeAnd}
 use Rattle.std.specs.Option.{option_map}
+use Rattle.ae_base.specs.Limits.{most_change_files, most_deltas, most_file_bytes, most_units, most_versions}
 use Rattle.ae_base.specs.Rows.{Rows}
 use Rattle.ae_base.specs.declared.words.Phase.{Phase}
 use Rattle.ae_base.specs.declared.words.Phase.TheVariants as phase
@@ -82,8 +83,8 @@ made_version next tree places path = option_map ref_of (version_of (frozen_file 
 -- no version that is made is longer than 4 MiB; they end in the packed region, and share no unit with those that stand, nor
 -- with one another
 pub record AreInSpace (o : Observation) (tree : Rows) (places : List ℕ) : Type 0 where
-  pub short : (path : List ℕ) (version : VersionRef) → made_version o.project.next_version tree places path ≡ Some version → version.length ≤ 4194304
-  pub inside : (path : List ℕ) (version : VersionRef) → made_version o.project.next_version tree places path ≡ Some version → has_units version ≡ true → end_of version ≤ 16777216
+  pub short : (path : List ℕ) (version : VersionRef) → made_version o.project.next_version tree places path ≡ Some version → version.length ≤ most_file_bytes
+  pub inside : (path : List ℕ) (version : VersionRef) → made_version o.project.next_version tree places path ≡ Some version → has_units version ≡ true → end_of version ≤ most_units
   pub apart : (path other : List ℕ) (one two : VersionRef) → made_version o.project.next_version tree places path ≡ Some one → made_version o.project.next_version tree places other ≡ Some two → meet one two ≡ true → path ≡ other
   pub free : (path : List ℕ) (place : Place) (one two : VersionRef) → made_version o.project.next_version tree places path ≡ Some one → version_at o.files o.changes place ≡ Some two → meet one two ≡ true → ⊥
 
@@ -98,7 +99,7 @@ pub record EndFits (change : Change) (tree : Rows) (to : Phase) (places : List �
 pub record MayEnd (o : Observation) (change : Change) (tree : Rows) (to : Phase) (places : List ℕ) : Type 0 where
   pub fits : EndFits change tree to places
   pub free : (path : List ℕ) (file : ChangeFile) → file_in change.files path ≡ Some file → lock_in o.locks path ≡ None
-  pub numbers : o.project.next_version < 4611686018427387904
+  pub numbers : o.project.next_version < most_versions
   pub space : AreInSpace o tree places
 
 -- ---- the begin of an integration
@@ -106,7 +107,7 @@ pub record MayEnd (o : Observation) (change : Change) (tree : Rows) (to : Phase)
 -- no other change is being integrated, there is room for its delta, and no two paths of its candidate clash
 pub record MayIntegrate (o : Observation) (change : Change) : Type 0 where
   pub alone : EachChange o.changes (λ number other. is_integrating other.phase ≡ false)
-  pub room : last_delta o < 1990
+  pub room : last_delta o < most_deltas
   pub clear : NoneClash (paths_of (candidate_of o change))
 
 -- ---- all events
@@ -117,7 +118,7 @@ IsChangeNumber number = (10 ≤ number) × (number ≤ 1999)
 
 -- what an event asks of its change, but for the phase
 abbrev pub Suits : Observation → Change → EventKind → Type 0
-Suits o change (on.File path action usage origin) = length (with_file (new_file path action usage origin) change.files) ≤ 1000
+Suits o change (on.File path action usage origin) = length (with_file (new_file path action usage origin) change.files) ≤ most_change_files
 Suits o change (on.End tree to places) = MayEnd o change tree to places
 Suits o change on.IBegin = MayIntegrate o change
 Suits o change _ = Unit {0}

@@ -1,11 +1,12 @@
 -- Deltas, what each made of a path, the files at a delta, the locks, and the candidate of a change.
-use Rattle.std.specs.Prelude.{ℕ, ◌+◌, Bool, ◌&&◌, List, [], ◌∷◌, ◌++◌, Option, Some, None, if◌then◌else◌, is_some, length, nat_le}
+use Rattle.std.specs.Prelude.{ℕ, ◌+◌, Bool, ◌&&◌, List, [], ◌∷◌, ◌++◌, Option, Some, None, is_some, length}
 use Rattle.std.specs.List.{filter_map, find}
 use Rattle.std.specs.Option.{option_map, option_and_then}
 use Rattle.std.specs.Str.{bytes_eq}
 use Rattle.ae_base.specs.declared.words.Usage.{Usage}
 use Rattle.ae_types.specs.declared.project.DeltaRow.{DeltaRow}
 use Rattle.ae_types.specs.Phases.{holds_locks}
+use Rattle.ae_types.specs.Trees.{last_by}
 use Rattle.ae_log.specs.declared.event.Event.{Event}
 use Rattle.ae_log.specs.declared.event.EventKind.{EventKind}
 use Rattle.ae_log.specs.declared.event.EventKind.TheVariants as on
@@ -51,15 +52,9 @@ edit log path = length (past log path)
 
 -- ---- the files at a delta
 
--- the entry, where there is none behind it
-abbrev pub unless_later : Entry → Option Entry → Option Entry
-unless_later entry (Some later) = Some later
-unless_later entry None = Some entry
-
 -- the last entry up to a delta
 abbrev pub last_up_to : ℕ → List Entry → Option Entry
-last_up_to delta [] = None
-last_up_to delta (entry ∷ entries) = if nat_le entry.delta delta then unless_later entry (last_up_to delta entries) else last_up_to delta entries
+last_up_to = last_by (λ (entry : Entry). entry.delta)
 
 -- a file at a delta
 pub record TreeFile : Type 0 where

@@ -4,12 +4,11 @@ use Rattle.std.specs.List.{filter_map, find}
 use Rattle.std.specs.Option.{option_and_then}
 use Rattle.std.specs.Str.{bytes_eq}
 use Rattle.sha2.specs.Sha256.{sha256}
-use Rattle.ae_base.specs.Rows.{Rows}
+use Rattle.ae_base.specs.Rows.{Rows, text_cmp}
 use Rattle.ae_base.specs.declared.words.Action.{Action}
 use Rattle.ae_base.specs.declared.words.Usage.{Usage}
 use Rattle.ae_types.specs.declared.version.VersionRef.{VersionRef}
 use Rattle.ae_types.specs.Ordered.{put_by, itself}
-use Rattle.ae_types.specs.Trees.{text_cmp}
 use Rattle.ae_log.specs.declared.event.EventKind.{EventKind}
 use Rattle.ae_log.specs.declared.event.EventKind.TheVariants as on
 use Rattle.ae_log.specs.Log.{Log, Happened, Course, Mark, makes, ends, leaves, standing}

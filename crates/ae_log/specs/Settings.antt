@@ -1,6 +1,7 @@
 -- The settings of a project and of a change, the users of the roles, and which changes are there.
 use Rattle.std.specs.Prelude.{ℕ, zero, suc, ◌+◌, Bool, true, false, List, [], ◌∷◌, ◌++◌, Option, Some, None, if◌then◌else◌, is_some, unwrap_or, filter}
 use Rattle.std.specs.Option.{option_or, option_and_then}
+use Rattle.ae_base.specs.Limits.{most_changes}
 use Rattle.ae_base.specs.Users.{without}
 use Rattle.ae_base.specs.declared.words.Role.{Role}
 use Rattle.ae_base.specs.declared.words.Role.TheVariants.{Administrator, Developer, Reviewer, Integrator}
@@ -79,7 +80,7 @@ upward n (suc count) = n ∷ upward (n + 1) count
 
 -- the numbers that a change may have, 10 to 1999
 unfoldable pub change_numbers : List ℕ
-change_numbers = upward 10 1990
+change_numbers = upward 10 most_changes
 
 -- the numbers of the changes that are there, ascending
 abbrev pub numbers : Log → List ℕ

@@ -11,7 +11,7 @@ use ae_types::{
 };
 use std::alloc::{AllocError, Global};
 
-// the set of this user alone
+// The set of this user alone.
 fn only_user(alloc: Global, user: &User) -> Result<UserSet, AllocError>
     ensures { IfOk result (λ set. set ≡ user.now ∷ []) }
 {
@@ -20,7 +20,7 @@ fn only_user(alloc: Global, user: &User) -> Result<UserSet, AllocError>
     Ok(set)
 }
 
-// a project with one administrator and no deltas
+// A project with one administrator and no deltas.
 fn made_project(
     alloc: Global,
     who: &User,

@@ -7,7 +7,7 @@ use Rattle.std.specs.FinMap.Entries.{by_order}
 use Rattle.std.specs.declared.cmp.Ordering.{Ordering}
 use Rattle.std.specs.declared.cmp.Ordering.TheVariants.{Less, Equal, Greater}
 use Rattle.std.proofs.Common.{refl, sym, ap, subst, ◌∙◌, cond}
-use Rattle.ae_base.specs.Rows.{Row, Rows, put_row}
+use Rattle.ae_base.specs.Rows.{Row, Rows, put_row, text_cmp}
 use Rattle.ae_types.specs.declared.change.Change.{Change}
 use Rattle.ae_types.specs.declared.change.ChangeFile.{ChangeFile}
 use Rattle.ae_types.specs.Clashes.{has_path}
@@ -15,7 +15,7 @@ use Rattle.ae_types.specs.Found.{file_path, row_path, file_in, has_file}
 use Rattle.ae_types.specs.Ordered.{put_by, itself}
 use Rattle.ae_types.specs.Phases.{is_remove, is_integrating}
 use Rattle.ae_types.specs.Runs.{tests_of}
-use Rattle.ae_types.specs.Trees.{TreeRow, tree_path, text_cmp, frozen_row, baseline_of, candidate_of, paths_of}
+use Rattle.ae_types.specs.Trees.{TreeRow, tree_path, frozen_row, baseline_of, candidate_of, paths_of}
 use Rattle.ae_types.proofs.Keys.{by_text}
 use Rattle.ae_types.proofs.Ordered.{Above, Ascends, at, at-above, at-filter, at-put, at-rows, filter-ascends, found-key, if_so, put-ascends, rows-ascend}
 use Rattle.ae_types.proofs.TreePaths.{has-at}

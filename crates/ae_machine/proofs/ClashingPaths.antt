@@ -17,7 +17,8 @@ use Rattle.ae_types.specs.Observation.{Observation}
 use Rattle.ae_types.specs.Ordered.{itself}
 use Rattle.ae_types.specs.Phases.{is_remove}
 use Rattle.ae_types.specs.Sound.{Sound}
-use Rattle.ae_types.specs.Trees.{last_delta, text_cmp, tree_row}
+use Rattle.ae_types.specs.Trees.{last_delta, tree_row}
+use Rattle.ae_base.specs.Rows.{text_cmp}
 use Rattle.ae_types.proofs.Clashing.{has-in, in-has}
 use Rattle.ae_types.proofs.Keys.{by_text}
 use Rattle.ae_types.proofs.Members.{In}

@@ -1,5 +1,5 @@
 -- The entries of a file's past, and its row at a delta.
-use Rattle.std.specs.Prelude.{◌≡◌, ℕ, ◌+◌, ◌<◌, ◌≤◌, Bool, true, false, if◌then◌else◌, List, [], ◌∷◌, ◌++◌, take, filter, length, Option, Some, None, is_some, nat_le}
+use Rattle.std.specs.Prelude.{◌≡◌, ℕ, ◌+◌, ◌<◌, Bool, true, false, if◌then◌else◌, List, [], ◌∷◌, ◌++◌, take, filter, length, Option, Some, None, is_some, nat_le}
 use Rattle.std.specs.Option.{option_map, option_and_then}
 use Rattle.std.proofs.Common.{refl, sym, ap, ◌∙◌, cond, arith}
 use Rattle.std.proofs.Math.ListN.{get_or}
@@ -12,7 +12,8 @@ use Rattle.ae_types.specs.Found.{row_path, row_in}
 use Rattle.ae_types.specs.Observation.{Observation}
 use Rattle.ae_types.specs.Ordered.{Ascends}
 use Rattle.ae_types.specs.Sound.{Sound}
-use Rattle.ae_types.specs.Trees.{text_cmp, TreeRow, tree_path, entry_row, last_up_to, tree_at, tree_of, tree_row, unless_later}
+use Rattle.ae_types.specs.Trees.{TreeRow, tree_path, entry_row, last_up_to, tree_at, tree_of, tree_row}
+use Rattle.ae_base.specs.Rows.{text_cmp}
 use Rattle.ae_types.proofs.Keys.{by_text}
 use Rattle.ae_types.proofs.Ordered.{at-rows}
 use Rattle.ae_machine.specs.Filing.{usage_of_row}

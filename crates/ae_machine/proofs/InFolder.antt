@@ -9,7 +9,7 @@ use Rattle.std.specs.Cmp.{nat_cmp_is}
 use Rattle.std.specs.declared.cmp.Ordering.{Ordering}
 use Rattle.std.specs.declared.cmp.Ordering.TheVariants.{Less, Equal, Greater}
 use Rattle.ae_base.specs.Names.{IsFolderOf}
-use Rattle.ae_types.specs.Trees.{text_cmp}
+use Rattle.ae_base.specs.Rows.{text_cmp}
 use Rattle.ae_types.proofs.Keys.{by_number, by_text}
 use Rattle.ae_types.proofs.Ordered.{Above, Ascends}
 use Rattle.ae_machine.specs.PathClash.{any_in_folder, from_folder, place_to}
@@ -83,7 +83,7 @@ less-before (a ∷ folder) (b ∷ x) (c ∷ y) l p = go (nat_cmp b c) refl l (na
     go r is l Greater e p rest = cc
     go Greater is l q e p rest = cc
 
--- one above a path behind the folder's stands behind them too
+-- one above a path after the folder's stands after them too
 pub less-behind : (folder x y : List ℕ) → text_cmp x y ≡ Less → place_to folder x ≡ Greater → place_to folder y ≡ Greater
 less-behind [] [] y l p = cc
 less-behind [] (b ∷ x) [] l p = cc
@@ -133,7 +133,7 @@ module _ {A : Type 0} (key : A → List ℕ) (folder : List ℕ) where
   partitioned (row ∷ rows) a (suc i) zero d low high e = absurd (omega (arith, low))
   partitioned (row ∷ rows) a (suc i) (suc j) d low high e = partitioned rows a.1 i j d (omega (arith, low)) (omega (arith, high)) e
 
-  -- the rows behind the place that divides them
+  -- the rows after the place that divides them
   pub parted-from : (rows : List A) (at : ℕ) → at ≤ length rows → IsPartitionPoint (λ row. before row ≡ true) (λ row. before row ≡ false) rows at → drop at rows ≡ from_folder key folder rows
   parted-from [] zero h p = refl
   parted-from [] (suc at) h p = absurd (omega (arith, h))
@@ -146,7 +146,7 @@ module _ {A : Type 0} (key : A → List ℕ) (test : A → Bool) (folder : List 
   abbrev pub inside : A → Bool
   inside row = is_eq (place_to folder (key row)) && test row
 
-  -- above a path behind the folder's none lies in it
+  -- above a path after the folder's none lies in it
   none-behind : (k : List ℕ) (rows : List A) → place_to folder k ≡ Greater → Above by_text key k rows → list_any inside rows ≡ false
   none-behind k [] g a = refl
   none-behind k (row ∷ rows) g a = ap (λ r. (is_eq r && test row) || list_any inside rows) (less-behind folder k (key row) a.0 g) ∙ none-behind k rows g a.1

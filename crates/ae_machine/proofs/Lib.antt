@@ -1,5 +1,5 @@
 mod Asked
-mod Behind
+pub mod Behind
 mod Named
 mod Upward
 pub mod AcceptedNumbers
@@ -11,6 +11,7 @@ pub mod StoredVersions
 pub mod CandidateStands
 pub mod PassedBaseline
 pub mod RightRuns
+pub mod RunStatuses
 pub mod EndPlaces
 pub mod AcceptedEnd
 pub mod Accepted
@@ -40,3 +41,12 @@ mod InFolder
 mod PathClash
 mod ClashingPaths
 mod ByRule
+pub mod CommandBytes
+pub mod CommandsRead
+mod WhoWorks
+mod SnapshotRows
+mod Picked
+pub mod ShownVersions
+pub mod RunsMade
+pub mod AskedFor
+pub mod SightShows

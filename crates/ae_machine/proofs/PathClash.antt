@@ -1,4 +1,4 @@
--- Where the files were clear before one path was put or taken, what clashes behind it involves the path, and the test of the
+-- Where the files were clear before one path was put or taken, what clashes after it involves the path, and the test of the
 -- path alone finds the least path that clashes.
 use Rattle.std.specs.Prelude.{◌≡◌, ℕ, Bool, true, false, ◌&&◌, ◌||◌, not, List, Option, Some, None}
 use Rattle.std.specs.List.{list_any}
@@ -16,7 +16,8 @@ use Rattle.ae_types.specs.Found.{file_in, file_path, row_path}
 use Rattle.ae_types.specs.Observation.{Observation}
 use Rattle.ae_types.specs.Phases.{is_remove}
 use Rattle.ae_types.specs.Sound.{Sound}
-use Rattle.ae_types.specs.Trees.{last_delta, text_cmp}
+use Rattle.ae_types.specs.Trees.{last_delta}
+use Rattle.ae_base.specs.Rows.{text_cmp}
 use Rattle.ae_types.proofs.Clashing.{folders-in, has-in, in-folders, in-has}
 use Rattle.ae_types.proofs.Keys.{by_text}
 use Rattle.ae_types.proofs.Members.{In, any-in, in-any}
@@ -186,7 +187,7 @@ made-own function.NewTest call path = refl
 made-own function.RemoveFile call path = refl
 made-own _ call path = tt
 
--- where the files were clear, a clash behind the path has the path in it
+-- where the files were clear, a clash after the path has the path in it
 pub clear-with : (o : Observation) (path : List ℕ) (made : Option ChangeFile) (files : List ChangeFile) → Sound o → Ascends by_text file_path files → IsOwn path made → are_clear o files ≡ None → IsClearBut path o (files_with path made files)
 clear-with o path made files s up own clear f q m n on = go (bytes_eq f path) refl (bytes_eq q path) refl
   where

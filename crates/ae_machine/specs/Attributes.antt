@@ -1,5 +1,6 @@
 -- What a file of attributes that a command names gives.
 use Rattle.std.specs.Prelude.{ℕ, false, List, [], Option, Some, None, Result, Ok, Err}
+use Rattle.ae_base.specs.Limits.{most_attribute_bytes}
 use Rattle.ae_base.specs.declared.refusal.Refusal.{Refusal}
 use Rattle.ae_base.specs.declared.refusal.Refusal.TheVariants.{NoAttributes, BadAttributes, Limit}
 use Rattle.ae_base.specs.declared.words.Cause.TheVariants.{InternalEnhancement}
@@ -49,7 +50,7 @@ or_bad_line (Err line) = Err (BadAttributes line)
 -- bytes, or a line is bad
 abbrev pub content_gives : {A : Type 0} → Reading A → A → List ℕ → Content → Result A Refusal
 content_gives reading old path Absent = Err (NoAttributes path)
-content_gives reading old path TooLong = Err (Limit AttributeBytes 65536)
+content_gives reading old path TooLong = Err (Limit AttributeBytes most_attribute_bytes)
 content_gives reading old path (Bytes bytes) = or_bad_line (reading bytes old)
 
 -- the attributes after the file that a command names, and the old ones where it names none

@@ -1,6 +1,7 @@
 -- Which views a command may have.
 use Rattle.std.specs.Prelude.{◌≡◌, ◌≢◌, ℕ, ◌≤◌, Bool, true, false, ◌&&◌, List, [], ◌∷◌, ◌++◌, map, Option, Some, None, if◌then◌else◌, length, take, All, IsTrue}
 use Rattle.std.specs.List.{list_all}
+use Rattle.ae_base.specs.Limits.{most_attribute_bytes, most_file_bytes}
 use Rattle.ae_base.specs.Rows.{Rows}
 use Rattle.ae_outside.specs.declared.dir.Content.{Content}
 use Rattle.ae_outside.specs.declared.dir.Content.TheVariants.{Bytes}
@@ -72,15 +73,15 @@ clean_but_last (run ∷ next ∷ runs) = is_clean run && clean_but_last (next �
 abbrev pub path_of_row : List ℕ × Content → List ℕ
 path_of_row row = row.0
 
--- The rows that were read are those of the paths that are asked for, behind which the baseline's aegis.conf stands where the
+-- The rows that were read are those of the paths that are asked for, after which the baseline's aegis.conf stands where the
 -- command is taken from it; no file is longer than its limit; the runs are the first of those that are asked for, each on the
 -- tracked files, and only the last may have changed them.
 pub record Fits (given : Given) : Type 0 where
   pub rows : List (List ℕ × Content)
   pub read : given.view.develop ≡ rows ++ config_asked given (change_of given.call)
   pub paths : map path_of_row rows ≡ paths_asked given.call (change_of given.call)
-  pub attributes : IsAtMost 65536 given.view.attributes
-  pub lengths : All (λ (row : List ℕ × Content). IsAtMost 4194304 row.1) given.view.develop
+  pub attributes : IsAtMost most_attribute_bytes given.view.attributes
+  pub lengths : All (λ (row : List ℕ × Content). IsAtMost most_file_bytes row.1) given.view.develop
   pub runs : map needed_of given.view.runs ≡ take (length given.view.runs) (runs_asked given.call (change_of given.call))
   pub before : All (λ (run : RunRow). run.before ≡ tracked_in given (change_of given.call)) given.view.runs
   pub clean : IsTrue (clean_but_last given.view.runs)
@@ -93,6 +94,6 @@ pub record IsWhole (given : Given) : Type 0 where
 
 -- where there is no project only a file of attributes is read
 pub record FitsNothing (view : View) : Type 0 where
-  pub attributes : IsAtMost 65536 view.attributes
+  pub attributes : IsAtMost most_attribute_bytes view.attributes
   pub no_rows : view.develop ≡ []
   pub no_runs : view.runs ≡ []

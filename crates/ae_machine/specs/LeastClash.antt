@@ -9,7 +9,8 @@ use Rattle.ae_types.specs.Clashes.{folders_of, has_path}
 use Rattle.ae_types.specs.Found.{file_in, row_in}
 use Rattle.ae_types.specs.Observation.{Observation}
 use Rattle.ae_types.specs.Phases.{is_remove}
-use Rattle.ae_types.specs.Trees.{last_delta, text_cmp, tree_row}
+use Rattle.ae_types.specs.Trees.{last_delta, tree_row}
+use Rattle.ae_base.specs.Rows.{text_cmp}
 use Rattle.ae_machine.specs.Paths.{paths_with}
 
 -- the path, where it is among these

@@ -1,5 +1,6 @@
 -- The logs that commands make.
 use Rattle.std.specs.Prelude.{◌≡◌, ℕ, ◌≤◌, Bool, true, false, List, [], Option, Some, None}
+use Rattle.ae_base.specs.Limits.{last_moment}
 use Rattle.ae_base.specs.Names.{IsUser}
 use Rattle.ae_types.specs.Observation.{Observation}
 use Rattle.ae_log.specs.declared.event.Event.{Event}
@@ -45,7 +46,7 @@ pub record MayCome (log : Log) (occasion : Occasion) : Type 0 where
   pub formed : IsFormed occasion.command
   pub one : is_one_command occasion.command.function ≡ true
   pub user : IsUser occasion.who
-  pub moment : occasion.when ≤ 4102444799
+  pub moment : occasion.when ≤ last_moment
   pub seen : IsView occasion.view
   pub view : ViewFits (observation log) (version_bytes log) occasion
 

@@ -7,6 +7,7 @@ pub mod Space
 pub mod Permission
 pub mod Paths
 pub mod Freezing
+pub mod Statuses
 pub mod Verdict
 pub mod Legal
 pub mod Provenance
@@ -19,6 +20,9 @@ pub mod Facts
 pub mod Directories
 pub mod Called
 pub mod Real
+pub mod Jobs
+pub mod Versions
+pub mod Commands
 pub mod Filing
 pub mod LeastClash
 pub mod Typed

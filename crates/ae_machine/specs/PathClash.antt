@@ -4,6 +4,7 @@ use Rattle.std.specs.Option.{option_and_then, option_or}
 use Rattle.std.specs.Ordering.{is_eq, is_lt, nat_cmp, ordering_then}
 use Rattle.std.specs.declared.cmp.Ordering.{Ordering}
 use Rattle.std.specs.declared.cmp.Ordering.TheVariants.{Less}
+use Rattle.ae_base.specs.Bytes.{slash}
 use Rattle.ae_base.specs.Names.{IsFolderOf}
 use Rattle.ae_types.specs.declared.change.ChangeFile.{ChangeFile}
 use Rattle.ae_types.specs.Clashes.{has_path}
@@ -20,7 +21,7 @@ abbrev pub IsClearBut : List ℕ → Observation → List ChangeFile → Type 0
 IsClearBut path o files =
     (folder other : List ℕ) → has_path (paths_with o files) folder ≡ true → has_path (paths_with o files) other ≡ true → IsFolderOf folder other → (folder ≡ path) ⊎ (other ≡ path)
 
--- the functions that ask for clashes behind each path
+-- the functions that ask for clashes after each path
 abbrev pub asks_for_clashes : Function → Bool
 asks_for_clashes function.CopyFile = true
 asks_for_clashes function.NewFile = true
@@ -30,10 +31,10 @@ asks_for_clashes _ = false
 
 -- ---- the paths that lie in a folder stand together
 
--- where the path stands to those that lie in the folder: before them, among them or behind them
+-- where the path stands to those that lie in the folder: before them, among them or after them
 abbrev pub place_to : List ℕ → List ℕ → Ordering
 place_to [] [] = Less
-place_to [] (b ∷ bs) = nat_cmp b 47
+place_to [] (b ∷ bs) = nat_cmp b slash
 place_to (a ∷ folder) [] = Less
 place_to (a ∷ folder) (b ∷ path) = ordering_then (nat_cmp b a) (place_to folder path)
 

@@ -28,7 +28,7 @@ quoted name = codes "\"" ++ name ++ codes "\""
 
 -- ---- files
 
--- what is done to a file, behind its name
+-- what is done to a file, after its name
 abbrev pub action_text : Action → List ℕ
 action_text action.Create = codes " added"
 action_text action.Modify = codes " copied"

@@ -4,7 +4,7 @@ use Rattle.std.specs.Prelude.{◌≡◌, ℕ, Bool, ◌&&◌, ◌||◌, not, Lis
 use Rattle.std.specs.List.{list_any, find}
 use Rattle.std.specs.Option.{option_map}
 use Rattle.std.specs.Str.{bytes_eq}
-use Rattle.ae_base.specs.Rows.{Row, Rows}
+use Rattle.ae_base.specs.Rows.{Row, Rows, text_cmp}
 use Rattle.ae_types.specs.declared.change.Change.{Change}
 use Rattle.ae_types.specs.declared.change.ChangeFile.{ChangeFile}
 use Rattle.ae_types.specs.Clashes.{has_path}
@@ -13,7 +13,7 @@ use Rattle.ae_types.specs.Observation.{Observation}
 use Rattle.ae_types.specs.Ordered.{Ascends, itself}
 use Rattle.ae_types.specs.Phases.{is_remove}
 use Rattle.ae_types.specs.Runs.{tests_of}
-use Rattle.ae_types.specs.Trees.{TreeRow, tree_path, text_cmp, frozen_row, baseline_of, candidate_of}
+use Rattle.ae_types.specs.Trees.{TreeRow, tree_path, frozen_row, baseline_of, candidate_of}
 use Rattle.ae_machine.specs.Call.{Call, Given}
 use Rattle.ae_machine.specs.Freezing.{paths_ever}
 use Rattle.ae_machine.specs.Paths.{is_in, paths_with}

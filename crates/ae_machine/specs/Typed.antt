@@ -1,5 +1,5 @@
 -- The values of a view are of their types: a byte is a number below 256, a path is one, and the rows of a snapshot ascend.
-use Rattle.std.specs.Prelude.{ℕ, ◌<◌, List, Option, IfSome, All}
+use Rattle.std.specs.Prelude.{ℕ, ◌<◌, List, IfSome, All}
 use Rattle.ae_base.specs.Bytes.{AreBytes}
 use Rattle.ae_base.specs.Names.{IsPath}
 use Rattle.ae_base.specs.Rows.{Ascends, Row, Rows}
@@ -8,7 +8,6 @@ use Rattle.ae_outside.specs.declared.dir.Content.TheVariants.{Bytes}
 use Rattle.ae_outside.specs.declared.dir.Dir.{Dir}
 use Rattle.ae_outside.specs.declared.dir.Exit.{Exit}
 use Rattle.ae_outside.specs.declared.dir.Exit.TheVariants.{Code, Signal}
-use Rattle.ae_outside.specs.Site.{SiteState}
 use Rattle.ae_machine.specs.declared.view.RunRow.{RunRow}
 use Rattle.ae_machine.specs.declared.view.View.{View}
 
@@ -43,7 +42,3 @@ pub record IsView (view : View) : Type 0 where
   pub attributes : IsContent view.attributes
   pub develop : All IsReadFile view.develop
   pub runs : All IsRun view.runs
-
--- what the files of the directories hold are bytes
-abbrev pub HoldsBytes : SiteState → Type 0
-HoldsBytes state = (dir : Dir) (path : List ℕ) → IfSome (state.trees dir path) AreBytes

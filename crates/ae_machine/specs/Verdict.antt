@@ -95,7 +95,7 @@ asked function.IntegrateFail = right_phase ∷ caller_integrates ∷ []
 asked function.List = []
 asked _ = []
 
--- those behind them that ask what the command sees
+-- those after them that ask what the command sees
 abbrev pub asked_of_sight : Function → List SightCondition
 asked_of_sight function.ProjectAttributes = project_file_is_good ∷ []
 asked_of_sight function.NewChange = change_file_is_good ∷ []

@@ -4,6 +4,7 @@ ghost use Rattle.ae_conf.specs.Change.{change_attributes};
 ghost use Rattle.ae_conf.specs.Project.{project_attributes};
 ghost use Rattle.ae_machine.specs.Attributes.{first_attributes, first_change_attributes, or_bad_line, file_gives};
 
+use ae_base::limits::MOST_ATTRIBUTE_BYTES;
 use ae_base::{Cause, Path, Refusal, Text, Which};
 use ae_conf::{ConfError, read_change_attributes, read_project_attributes};
 use ae_outside::Content;
@@ -83,7 +84,10 @@ pub(crate) fn project_file(
     };
     match content {
         Content::Absent => Ok(Err(Refusal::NoAttributes(path.copy(alloc)?))),
-        Content::TooLong => Ok(Err(Refusal::Limit(Which::AttributeBytes, 65536))),
+        Content::TooLong => Ok(Err(Refusal::Limit(
+            Which::AttributeBytes,
+            MOST_ATTRIBUTE_BYTES as u64,
+        ))),
         Content::Bytes(bytes) => project_bytes(alloc, old, bytes),
     }
 }
@@ -102,7 +106,10 @@ pub(crate) fn change_file(
     };
     match content {
         Content::Absent => Ok(Err(Refusal::NoAttributes(path.copy(alloc)?))),
-        Content::TooLong => Ok(Err(Refusal::Limit(Which::AttributeBytes, 65536))),
+        Content::TooLong => Ok(Err(Refusal::Limit(
+            Which::AttributeBytes,
+            MOST_ATTRIBUTE_BYTES as u64,
+        ))),
         Content::Bytes(bytes) => change_bytes(alloc, old, bytes),
     }
 }

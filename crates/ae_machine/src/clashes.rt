@@ -5,7 +5,8 @@ ghost use Rattle.std.specs.Ordering.{is_lt};
 ghost use Rattle.ae_types.specs.Found.{file_path};
 ghost use Rattle.ae_types.specs.Ordered.{Ascends};
 ghost use Rattle.ae_types.specs.Phases.{is_remove};
-ghost use Rattle.ae_types.specs.Trees.{last_delta, text_cmp, tree_row};
+ghost use Rattle.ae_types.specs.Trees.{last_delta, tree_row};
+ghost use Rattle.ae_base.specs.Rows.{text_cmp};
 ghost use Rattle.ae_machine.specs.Filing.{are_clear};
 ghost use Rattle.ae_machine.specs.LeastClash.{file_folder, folder_in, least_folder, lesser, path_in, row_folder, row_stays, rows_folder, standing_path};
 ghost use Rattle.ae_machine.specs.Paths.{paths_with};
@@ -35,7 +36,7 @@ pub(crate) fn is_removed(file: &ChangeFile) -> bool
 fn standing_path<'a>(state: &'a State, path: &[u8]) -> Option<&'a Path>
     ensures { option_copied result ≡ standing_path state.now path.now }
 {
-    let _project = state.project();
+    state.note_sound();
     let row = row_in(state.files(), path)?;
     if is_in_baseline(state, row) {
         Some(&row.path)
@@ -53,7 +54,7 @@ pub(crate) fn path_there<'a>(
     requires { Ascends text_cmp file_path files.now }
     ensures { option_copied result ≡ path_in (paths_with state.now files.now) path.now }
 {
-    let _project = state.project();
+    state.note_sound();
     match file_in(files, path) {
         Some(file) => {
             if is_removed(file) {
@@ -162,7 +163,7 @@ pub(crate) fn clash_refused(
     requires { Ascends text_cmp file_path files.now }
     ensures { IfOk result (λ refusal. refusal ≡ are_clear state.now files.now) }
 {
-    let _project = state.project();
+    state.note_sound();
     match least_folder(state, files) {
         Some(path) => Ok(Some(Refusal::PathClash(path.copy(alloc)?))),
         None => Ok(None),

@@ -1,27 +1,43 @@
 //! What a command does to a project: its verdict.
 #![tactic(auto)]
 
+mod asking;
 mod attributes;
 mod clashes;
+mod commands;
+mod comparing;
 mod deciding;
 mod directories;
 mod events;
+mod jobs;
 mod laws;
 mod numbers;
 mod path_clash;
 mod paths;
 mod permission;
+mod preparing;
+mod reading;
 mod refusing;
+mod running;
+mod runs;
 mod there;
 mod verdict;
 mod view;
+mod working;
 
+pub use asking::{
+    config_version, files_dir, files_refused, paths_asked, rows_based, rows_refreshed, runs_dir,
+};
+pub use comparing::{files_differ, rows_compared};
 pub use deciding::{decide, decide_rest};
 pub use directories::{DirChange, DirChangeList, FileList};
+pub use jobs::{Job, JobList, jobs_asked};
 pub use laws::{
     accepted_events_apply, accepted_events_follow, commands_are_reversed, legal_logs_are_provided,
-    legal_logs_are_sound, legal_logs_have_facts, note_refused_before, trees_are_by_rules,
+    legal_logs_are_sound, legal_logs_have_facts, legal_runs_have_statuses, note_refused_before,
+    trees_are_by_rules,
 };
+pub use preparing::{run_changes, tracked};
 pub use refusing::before;
 pub use there::is_there_yet;
 pub use verdict::Verdict;

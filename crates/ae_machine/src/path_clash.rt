@@ -6,7 +6,7 @@ ghost use Rattle.std.specs.Prelude.{◌≡◌, ◌≤◌, [], IfOk, drop, length
 ghost use Rattle.std.specs.Ordering.{is_eq, is_lt};
 ghost use Rattle.ae_types.specs.Found.{file_path, row_path};
 ghost use Rattle.ae_types.specs.Ordered.{Ascends};
-ghost use Rattle.ae_types.specs.Trees.{text_cmp};
+ghost use Rattle.ae_base.specs.Rows.{text_cmp};
 ghost use Rattle.ae_machine.specs.Filing.{are_clear};
 ghost use Rattle.ae_machine.specs.LeastClash.{row_stays};
 ghost use Rattle.ae_machine.specs.PathClash.{IsClearBut, any_in_folder, file_stays, from_folder, holds_paths, path_clash, place_to};
@@ -27,7 +27,7 @@ fn place_of_rest(rest: &[u8]) -> Ordering
     }
 }
 
-// Where the path stands to those that lie in the folder: before them, among them or behind them.
+// Where the path stands to those that lie in the folder: before them, among them or after them.
 fn place_to(path: &[u8], folder: &[u8]) -> Ordering
     ensures { result ≡ place_to folder.now path.now }
 {
@@ -103,7 +103,7 @@ fn holds_paths(state: &State, files: &[ChangeFile], folder: &[u8]) -> bool
     requires { Ascends text_cmp file_path files.now }
     ensures { result ≡ holds_paths state.now files.now folder.now }
 {
-    let _project = state.project();
+    state.note_sound();
     let rows = state.files();
     let row = first_row(rows, folder);
     let file = first_file(files, folder);
@@ -139,7 +139,7 @@ fn path_clash_refused(
     requires clear { IsClearBut path.now state.now files.now }
     ensures { IfOk result (λ refusal. refusal ≡ are_clear state.now files.now) }
 {
-    let _project = state.project();
+    state.note_sound();
     match path_clash(state, files, path.bytes()) {
         Some(least) => Ok(Some(Refusal::PathClash(least.copy(alloc)?))),
         None => Ok(None),

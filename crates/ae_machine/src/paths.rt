@@ -6,7 +6,8 @@ ghost use Rattle.ae_base.specs.declared.refusal.Refusal.TheVariants.{FileInChang
 ghost use Rattle.ae_types.specs.declared.file_table.FileVersion.{FileVersion};
 ghost use Rattle.ae_types.specs.Found.{file_path, file_in, there_and};
 ghost use Rattle.ae_types.specs.Ordered.{Ascends};
-ghost use Rattle.ae_types.specs.Trees.{text_cmp, baseline_of, last_up_to, tree_of};
+ghost use Rattle.ae_types.specs.Trees.{baseline_of, last_up_to, tree_of};
+ghost use Rattle.ae_base.specs.Rows.{text_cmp};
 ghost use Rattle.ae_log.specs.After.{new_file};
 ghost use Rattle.ae_words.specs.Meaning.{is_config};
 ghost use Rattle.ae_machine.specs.declared.verdict.Verdict.TheVariants.{Accept};
@@ -20,6 +21,7 @@ ghost use Rattle.ae_machine.specs.Verdict.{event_of};
 use crate::Verdict;
 use crate::events::event;
 use crate::path_clash::clash_refused_behind;
+use ae_base::limits::MOST_CHANGE_FILES;
 use ae_base::{Action, ChangeNo, Delta, Path, PathList, Refusal, Usage, User, Which};
 use ae_files::{edit, entry_at};
 use ae_log::{EventKind, EventList, put_file, take_file};
@@ -31,7 +33,7 @@ use std::alloc::{AllocError, Global};
 fn usage_at(state: &State, delta: usize, path: &Path) -> Option<Usage>
     ensures { result ≡ option_map usage_of_row (row_at (tree_of state.now delta) path.now) }
 {
-    let _project = state.project();
+    state.note_sound();
     let row = state.row(path)?;
     let entry = entry_at(row.past.as_slice(), delta)?;
     if entry.version.is_some() {
@@ -285,10 +287,10 @@ fn refused_before(
 fn room_refused(files: &[ChangeFile]) -> Option<Refusal>
     ensures { result ≡ are_few files.now }
 {
-    if files.len() <= 1000 {
+    if files.len() <= MOST_CHANGE_FILES {
         None
     } else {
-        Some(Refusal::Limit(Which::ChangeFiles, 1000))
+        Some(Refusal::Limit(Which::ChangeFiles, MOST_CHANGE_FILES as u64))
     }
 }
 
@@ -319,7 +321,7 @@ fn refused_behind(
     }
 }
 
-// Whether the function asks for clashes behind each path.
+// Whether the function asks for clashes after each path.
 fn asks_for_clashes(function: Function) -> bool
     ensures { result ≡ asks_for_clashes function }
 {
@@ -348,7 +350,7 @@ fn step(
     ensures ascend { IfOk result (λ refusal. Ascends text_cmp file_path files.new.items) }
     ensures clear { IfOk result (λ refusal. refusal ≡ None → asks_for_clashes command.now.function ≡ true → are_clear state.now files.new.items ≡ None) }
 {
-    let _project = state.project();
+    state.note_sound();
     if let Some(refusal) = refused_before(alloc, state, command, files.as_slice(), path)? {
         return Ok(Some(refusal));
     }

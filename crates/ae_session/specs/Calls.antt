@@ -79,7 +79,7 @@ pub record Answers (asked : Asked) (disk : DiskUse) (site : SiteUse) (sink : Sin
   pub directories : site.told → (command : Command) → Asks asked command → LeavesDirs command site.before site.after meant
   pub performs : disk.told → site.told → (command : Command) → Asks asked command → Performs disk.before disk.after (called_by asked site command) meant
 
--- where no count rises, the command that it asks for ends as the verdict on it says, but for want of memory
+-- where no count rises, the command that it asks for ends as the verdict on it says, unless memory runs out
 abbrev pub EndsWhole : Asked → DiskUse → SiteUse → SinkUse → Outcome → Type 0
 EndsWhole asked disk site sink result =
     disk.told → site.told → (disk.rose → ⊥) → (site.rose → ⊥) → (sink.rose → ⊥) → (command : Command) → Asks asked command → Completes disk.before (called_by asked site command) result

@@ -4,7 +4,7 @@ use Rattle.ae_base.specs.declared.outcome.Outcome.{Outcome}
 use Rattle.ae_base.specs.declared.outcome.Outcome.TheVariants.{Done, RunFailed, Refused, BadWords, BadScript, DiskFault, SiteFault, SinkFault, SourceFault, Damaged, Memory}
 use Rattle.ae_session.specs.Answers.{disk_fault_text, site_fault_text, memory_text}
 
--- a fixed one for a fault and for want of memory, and else the text that was made
+-- a fixed one for a fault and out of memory, and else the text that was made
 abbrev pub message_text : Outcome → List ℕ → List ℕ
 message_text Done text = text
 message_text RunFailed text = text

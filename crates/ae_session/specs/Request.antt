@@ -1,14 +1,11 @@
 -- What the words of a call ask for.
 use Rattle.std.specs.Prelude.{ℕ, ◌≡◌, List, Bool, true, false, ◌&&◌, nat_le}
+use Rattle.ae_base.specs.Limits.{last_moment}
 use Rattle.ae_base.specs.Names.{is_user}
 use Rattle.ae_words.specs.Answer.{told}
 use Rattle.ae_words.specs.Grammar.{IsCommand, IsFirstBad}
 use Rattle.ae_words.specs.declared.command.Command.{Command}
 use Rattle.ae_machine.specs.There.{is_there_yet}
-
--- the last second of the year 2099
-abbrev pub last_moment : ℕ
-last_moment = 4102444799
 
 -- whether the user is one, and the moment no later than that
 abbrev pub may_ask : List ℕ → ℕ → Bool

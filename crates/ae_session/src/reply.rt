@@ -74,7 +74,7 @@ impl Reply {
         }
     }
 
-    /// Writes the message. Where that fails, a fault or want of memory stays the outcome.
+    /// Writes the message. Where that fails, a fault or running out of memory stays the outcome.
     pub fn tell<E: Sink>(self, err: &mut E) -> Outcome
         ensures outcome { (result ≡ self.outcome) ⊎ (result ≡ unless_told self.outcome) × HasRisen (E.faults err.old) (E.faults err.new) }
         ensures said { E.tells → IsSaid (message_text self.outcome self.text) result (E.taken err.old) (E.taken err.new) (HasRisen (E.faults err.old) (E.faults err.new)) }

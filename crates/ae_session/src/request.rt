@@ -1,18 +1,18 @@
 // What the words of a call ask for.
 ghost use Rattle.std.specs.Prelude.{◌≡◌, ◌≤◌, ℕ, true, map, IfOk, IsErrOf, string_bytes};
+ghost use Rattle.ae_base.specs.Limits.{last_moment};
 ghost use Rattle.ae_words.specs.Formed.{IsFormed};
 ghost use Rattle.ae_machine.specs.There.{is_there_yet};
 ghost use Rattle.ae_session.specs.Request.{AsksFor, BadAt, NeverBoth};
 ghost use Rattle.ae_session.specs.declared.request.RequestError.TheVariants.{Memory};
 
 use ae_base::User;
+use ae_base::limits::LAST_MOMENT;
 use ae_machine::is_there_yet;
 use ae_words::{Command, WordsError, read_words};
 use std::alloc::{AllocError, Global};
 
 /// The last second of the year 2099.
-const LAST_MOMENT: u64 = 4_102_444_799;
-
 /// A command, given by this user.
 #[derive(Drop)]
 pub struct Request {
@@ -20,7 +20,7 @@ pub struct Request {
     pub who: User,
 }
 
-/// Why words ask for nothing: the one at this place is bad, or memory is wanting.
+/// Why words ask for nothing: the one at this place is bad, or memory runs out.
 #[derive(Clone, Copy, Debug, PartialEq, Eq)]
 pub enum RequestError {
     Bad(u32),
@@ -45,7 +45,7 @@ pub fn read_request(
     ensures asks { IfOk result (λ request. AsksFor (map string_bytes words.now) who.now now request.command) }
     ensures formed { IfOk result (λ request. IsFormed request.command) }
     ensures there { IfOk result (λ request. is_there_yet request.command.function ≡ true) }
-    ensures moment { IfOk result (λ request. now ≤ 4102444799) }
+    ensures moment { IfOk result (λ request. now ≤ last_moment) }
     ensures who { IfOk result (λ request. request.who ≡ who.now) }
     ensures bad { (place : ℕ) → IsErrOf result (RequestError.Bad place) → BadAt (map string_bytes words.now) who.now now place }
 {

@@ -1,7 +1,7 @@
 use Rattle.std.proofs.Common.{◌∙◌, ◌+◌, ap, drop, subst, sym, List, ℕ}
 use Rattle.std.proofs.lemmas.List.{drop_more}
 use Rattle.ae_types.specs.Ordered.{Ascends, itself, put_by}
-use Rattle.ae_types.specs.Trees.{text_cmp}
+use Rattle.ae_base.specs.Rows.{text_cmp}
 use Rattle.ae_types.proofs.Keys.{by_text}
 use Rattle.ae_machine.specs.Directories.{put_paths}
 use Rattle.ae_types.proofs.Ordered.{put-ascends}

@@ -1,6 +1,6 @@
 use Rattle.std.proofs.Common.{◌≡◌, drop}
 use Rattle.ae_types.specs.Ordered.{Ascends, itself}
-use Rattle.ae_types.specs.Trees.{text_cmp}
+use Rattle.ae_base.specs.Rows.{text_cmp}
 use Rattle.ae_machine.specs.Directories.{in_order, put_paths}
 use Rattle.ae_exec.proofs.directories.paths_in_order.Given as goal
 

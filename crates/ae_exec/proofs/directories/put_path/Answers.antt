@@ -1,7 +1,7 @@
 use Rattle.std.proofs.Common.{rules, ℕ, List}
 use Rattle.std.proofs.lemmas.Fn.{always_returns_same}
 use Rattle.ae_types.specs.Ordered.{itself}
-use Rattle.ae_types.specs.Trees.{text_cmp}
+use Rattle.ae_base.specs.Rows.{text_cmp}
 use Rattle.ae_types.proofs.Keys.{by_text}
 use Rattle.ae_log.proofs.Placing.{set-put, insert-put, searchable}
 use Rattle.ae_exec.proofs.directories.put_path.Goals as goal

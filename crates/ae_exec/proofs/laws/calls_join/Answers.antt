@@ -1,7 +1,5 @@
 use Rattle.ae_vault.specs.Kept.{kept_joins}
 use Rattle.ae_exec.specs.Stands.{StandsForLog}
-use Rattle.std.proofs.Common.{refl}
-use Rattle.ae_base.specs.declared.outcome.Outcome.TheVariants.{Done}
 use Rattle.ae_exec.proofs.Joining.{two-commands}
 use Rattle.ae_exec.proofs.Refining.{refined_made}
 use Rattle.ae_exec.proofs.Standing.{by_files, alike}
@@ -12,8 +10,8 @@ returns-clause-runs g c = λ tells t log logs more time first second.
     kept_joins StandsForLog (g.D.Disk.state c.args._base.now) (g.D.Disk.state c.args._disk.now) t log logs more time first second
 
 pub returns-clause-done : goal.returns-clause-done
-returns-clause-done g c = λ tells held log next refined.
-    refined_made StandsForLog by_files alike (g.D.Disk.state c.args._base.now) (g.D.Disk.state c.args._disk.now) held log next Done refl refined
+returns-clause-done g c = λ tells failed held log next refined.
+    refined_made StandsForLog by_files alike (g.D.Disk.state c.args._base.now) (g.D.Disk.state c.args._disk.now) failed held log next refined
 
 pub returns-clause-two : goal.returns-clause-two
 returns-clause-two g c = λ tells. two-commands (g.D.Disk.state c.args._base.now) (g.D.Disk.state c.args._mid.now) (g.D.Disk.state c.args._disk.now)

@@ -1,4 +1,4 @@
-use Rattle.std.proofs.Common.{ap, sym, ◌∙◌, List, ℕ, Option, Some, rules}
+use Rattle.std.proofs.Common.{ap, sym, ◌∙◌, List, ℕ, Some, rules}
 use Rattle.std.specs.Option.{option_map}
 use Rattle.ae_base.specs.declared.refusal.Refusal.TheVariants.{PathClash}
 use Rattle.ae_types.specs.Sound.{Sound}

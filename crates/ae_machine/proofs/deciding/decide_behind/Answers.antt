@@ -9,10 +9,10 @@ alone None = refl
 alone (Some refusal) = refl
 
 pub returns-in-ProjectAttributes : goal.returns-in-ProjectAttributes
-returns-in-ProjectAttributes c = λ places bytes. rw (c.in-ProjectAttributes.is, alone) c.set_project_attributes.ensures
+returns-in-ProjectAttributes c = λ places bytes shown. rw (c.in-ProjectAttributes.is, alone) c.set_project_attributes.ensures
 
 pub returns-in-NewChange : goal.returns-in-NewChange
-returns-in-NewChange c = λ places bytes. rw (c.in-NewChange.is, alone) c.make_change.ensures
+returns-in-NewChange c = λ places bytes shown. rw (c.in-NewChange.is, alone) c.make_change.ensures
 
 pub returns-in-ChangeAttributes : goal.returns-in-ChangeAttributes
-returns-in-ChangeAttributes c = λ places bytes. rw (c.in-ChangeAttributes.is, alone) c.set_change_attributes.ensures
+returns-in-ChangeAttributes c = λ places bytes shown. rw (c.in-ChangeAttributes.is, alone) c.set_change_attributes.ensures

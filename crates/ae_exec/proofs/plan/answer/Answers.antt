@@ -1,0 +1,16 @@
+use Rattle.std.proofs.Common.{rules, ◌≡◌, sym, subst, Option, Some, IfOk}
+use Rattle.std.specs.Prelude.{option_copied}
+use Rattle.ae_types.specs.Observation.{Observation}
+use Rattle.ae_exec.specs.Next.{IfAccepted, MayFollow}
+use Rattle.ae_exec.specs.Seen.{no_bytes}
+use Rattle.ae_exec.proofs.Following.{quiet-shows}
+use Rattle.ae_exec.proofs.plan.answer.Goals as goal
+
+pub returns-in-Some-clause-follow : goal.returns-in-Some-clause-follow
+returns-in-Some-clause-follow c =
+    let there : option_copied c.args.old ≡ Some c.in-Some.state.now = search rules in
+    subst (λ (o : Option Observation). IfOk c.answer_on.result (λ answer. IfAccepted answer (MayFollow o))) (sym there)
+    (c.answer_on.ensures.follow no_bytes (quiet-shows (Some c.in-Some.state.now) no_bytes c.args.command.now c.args.who.now c.args.view.now c.requires.quiet))
+
+pub returns-in-Some-clause-made : goal.returns-in-Some-clause-made
+returns-in-Some-clause-made c = c.answer_on.ensures.made no_bytes (quiet-shows (Some c.in-Some.state.now) no_bytes c.args.command.now c.args.who.now c.args.view.now c.requires.quiet)

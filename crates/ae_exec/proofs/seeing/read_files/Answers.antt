@@ -1,0 +1,11 @@
+use Rattle.std.proofs.Common.{◌∙◌, sym, []}
+use Rattle.ae_outside.specs.Site.{contents}
+use Rattle.ae_machine.specs.Call.{call_of, change_named}
+use Rattle.ae_exec.proofs.FirstSeen.{seen-there}
+use Rattle.ae_exec.proofs.Stores.{if_ok}
+use Rattle.ae_exec.proofs.seeing.read_files.Goals as goal
+
+pub returns-clause-rows : goal.returns-clause-rows
+returns-clause-rows g c = if_ok _ _ c.scan.result c.scan.ensures.rows (λ rows is tells.
+    is tells ∙ (λ i. contents 4194304 ((g.S.Site.state c.args.site.now).trees (c.files_dir-dir.ensures [] i)) (c.in_ok-paths.ensures [] i))
+    ∙ sym (seen-there (call_of c.args.state.now c.args.command.now []) (change_named c.args.state.now c.args.command.now.change) (g.S.Site.state c.args.site.now)))

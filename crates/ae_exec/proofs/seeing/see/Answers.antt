@@ -1,0 +1,73 @@
+use Rattle.std.proofs.Common.{rules, ◌≡◌, ◌∙◌, ap, sym, subst, ℕ, List, [], ◌++◌, Err}
+use Rattle.std.specs.List.{cons_option}
+use Rattle.ae_outside.specs.declared.dir.Content.{Content}
+use Rattle.ae_outside.specs.State.{reads}
+use Rattle.ae_types.specs.declared.version.VersionRef.{VersionRef}
+use Rattle.ae_vault.specs.Vault.{effective}
+use Rattle.ae_machine.specs.declared.view.View.{View}
+use Rattle.ae_machine.specs.Call.{change_named, given_of}
+use Rattle.ae_machine.specs.Called.{Called, called, given_before, nothing_seen}
+use Rattle.ae_machine.specs.Space.{placing}
+use Rattle.ae_machine.specs.Versions.{files_refused}
+use Rattle.ae_exec.specs.declared.stop.Stop.TheVariants as stop
+use Rattle.ae_exec.specs.Endings.{memory, refused}
+use Rattle.ae_exec.specs.Reading.{AreKept, IsLostAmong}
+use Rattle.ae_exec.specs.Seen.{files_alone, no_bytes}
+use Rattle.ae_exec.proofs.Endings.{ends_for}
+use Rattle.ae_exec.proofs.FirstSeen.{asked-row, rows-show}
+use Rattle.ae_exec.proofs.RunVersions.{answer-config}
+use Rattle.ae_exec.proofs.seeing.see.Goals as goal
+
+pub returns-in_err-view-clause-stopped : goal.returns-in_err-view-clause-stopped
+returns-in_err-view-clause-stopped g c = λ who when.
+    let is : c.from_residual.result ≡ Err c.in_err-view.field-0.0 = search rules in
+    rw is (ends_for _ c.in_err-view.ensures.stopped (λ none. none) (λ refusal none. absurd none) (λ name none. absurd none) (λ none. absurd none) (λ rose. rose))
+
+pub returns-in_err-refusal-clause-stopped : goal.returns-in_err-refusal-clause-stopped
+returns-in_err-refusal-clause-stopped g c = λ who when. let is : c.from_residual-in_err-refusal.result ≡ Err stop.Memory = search rules in rw is memory
+
+pub returns-in-Some-clause-stopped : goal.returns-in-Some-clause-stopped
+returns-in-Some-clause-stopped g c = λ who when. refused c.in-Some.refusal (λ seen.
+    ap (λ (v : View). files_refused (given_of placing c.args.state.now no_bytes c.args.command.now who when v)) (sym (c.in_ok-view.ensures.alone seen who when))
+    ∙ sym (c.in_ok-refusal.ensures placing no_bytes who when) ∙ c.in-Some.is)
+
+pub returns-in_err-row-clause-stopped : goal.returns-in_err-row-clause-stopped
+returns-in_err-row-clause-stopped g c = λ who when.
+    let is : c.from_residual-in_err-row.result ≡ Err c.in_err-row.field-0.0 = search rules in
+    rw is (ends_for _ c.in_err-row.ensures.stopped (λ none. none) (λ refusal none. absurd none)
+    (λ name lost tells seen. (
+      ap (λ (v : View). files_refused (given_of placing c.args.state.now no_bytes c.args.command.now who when v)) (sym (c.in_ok-view.ensures.alone seen who when)) ∙ sym (c.in_ok-refusal.ensures placing no_bytes who when) ∙ c.in_default.is,
+      subst (λ (versions : List VersionRef). IsLostAmong (reads (g.D.Disk.state c.args.disk.now)) versions name) (answer-config c.args.state.now c.args.command.now c.requires.runs c.requires.developed) (lost tells),
+    )) (λ rose. rose) (λ none. absurd none))
+
+pub returns-in_err-seen-clause-stopped : goal.returns-in_err-seen-clause-stopped
+returns-in_err-seen-clause-stopped g c = λ who when. let is : c.from_residual-in_err-seen.result ≡ Err stop.Memory = search rules in rw is memory
+
+pub returns-clause-kept : goal.returns-clause-kept
+returns-clause-kept g c = λ tells. subst (AreKept (effective (reads (g.D.Disk.state c.args.disk.now)))) (answer-config c.args.state.now c.args.command.now c.requires.runs c.requires.developed) (c.in_ok-row.ensures.kept tells)
+
+pub returns-clause-seen : goal.returns-clause-seen
+returns-clause-seen g c = λ tells seen bytes who when have.
+    let call : Called = called c.args.command.now who when (g.S.Site.state c.args.site.now) (g.S.Site.state c.args.site.now) in
+    let alone : c.in_ok-view.view ≡ files_alone c.args.state.now call = c.in_ok-view.ensures.alone seen who when in
+    let row = c.in_ok-row.ensures.told tells bytes have ∙ sym (asked-row (given_before c.args.state.now bytes call nothing_seen) (change_named c.args.state.now c.args.command.now.change)) in
+    c.in_ok-seen.ensures ∙ (λ i. record (alone i) { develop = (alone i).develop ++ row i })
+
+pub returns-clause-shown : goal.returns-clause-shown
+returns-clause-shown g c =
+    let row = c.in_ok-row.ensures.row in (
+      (λ number. row.0),
+      λ who. rows-show c.args.state.now (λ number. row.0) c.args.command.now who c.in_ok-seen.seen c.in_ok-view.view.develop c.requires.runs c.requires.developed
+          (ap (λ (v : View). v.develop) c.in_ok-seen.ensures ∙ ap (λ (more : List (List ℕ × Content)). c.in_ok-view.view.develop ++ more) row.1) c.in_ok-view.ensures.paths,
+    )
+
+pub returns-clause-shows : goal.returns-clause-shows
+returns-clause-shows g c = λ tells bytes who have.
+    rows-show c.args.state.now bytes c.args.command.now who c.in_ok-seen.seen c.in_ok-view.view.develop c.requires.runs c.requires.developed
+    (ap (λ (v : View). v.develop) c.in_ok-seen.ensures ∙ ap (λ (more : List (List ℕ × Content)). c.in_ok-view.view.develop ++ more) (c.in_ok-row.ensures.told tells bytes have)) c.in_ok-view.ensures.paths
+
+pub returns-clause-files : goal.returns-clause-files
+returns-clause-files g c = λ seen. (
+  cons_option c.in_ok-row.row [],
+  ap (λ (v : View). v.develop) c.in_ok-seen.ensures ∙ ap (λ (v : View). v.develop ++ cons_option c.in_ok-row.row []) (c.in_ok-view.ensures.alone seen [] 0),
+)

@@ -1,0 +1,36 @@
+-- A command with runs, and what it makes of the directories.
+use Rattle.std.specs.Prelude.{◌≡◌, ℕ, false, List, Some}
+use Rattle.ae_base.specs.Rows.{Rows}
+use Rattle.ae_outside.specs.declared.dir.Dir.{Dir}
+use Rattle.ae_outside.specs.Site.{SiteState}
+use Rattle.ae_types.specs.declared.change.Change.{Change}
+use Rattle.ae_types.specs.Observation.{Observation}
+use Rattle.ae_types.specs.Phases.{is_integrating}
+use Rattle.ae_words.specs.declared.command.Command.{Command}
+use Rattle.ae_machine.specs.declared.directories.DirChange.{DirChange}
+use Rattle.ae_machine.specs.declared.jobs.Job.{Job}
+use Rattle.ae_machine.specs.declared.view.RunRow.{RunRow}
+use Rattle.ae_machine.specs.Call.{Given, change_named, change_of}
+use Rattle.ae_machine.specs.Directories.{dir_changes, dirs_after}
+use Rattle.ae_machine.specs.Fits.{runs_asked, tracked_in}
+use Rattle.ae_machine.specs.Jobs.{AreJobs}
+use Rattle.ae_machine.specs.Real.{command_for}
+use Rattle.ae_dirs.specs.Runs.{RunsAre}
+
+-- the change that the command names, if any, isn't being integrated
+abbrev pub IsDeveloped : Observation → Command → Type 0
+IsDeveloped o command = (change : Change) → change_named o command.change ≡ Some change → is_integrating change.phase ≡ false
+
+-- What the runs of a command are made of: the changes of directories before them, the files that they are to leave as they are,
+-- and the jobs.
+pub record AreForRuns (given : Given) (changes : List DirChange) (tracked : Rows) (jobs : List Job) : Type 0 where
+  pub changes_are : changes ≡ dir_changes given
+  pub tracked_are : tracked ≡ tracked_in given (change_of given.call)
+  pub jobs_are : AreJobs (command_for given (change_of given.call)) (runs_asked given.call (change_of given.call)) jobs
+
+-- From the old directories these changes were made, and then these rows of runs.
+pub record HaveRun (dir : Dir) (changes : List DirChange) (paths : List (List ℕ)) (jobs : List Job) (rows : List RunRow) (old new : SiteState) : Type 0 where
+  pub changed : SiteState
+  pub none_before : changed.runs ≡ old.runs
+  pub trees : changed.trees ≡ dirs_after changes old.trees
+  pub runs : RunsAre dir paths jobs rows changed new

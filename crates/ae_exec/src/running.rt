@@ -1,0 +1,161 @@
+// The runs of a build or a test: the directories are made ready for them, and they are made.
+ghost use Rattle.std.specs.Prelude.{◌≡◌, ◌≤◌, ◌++◌, ◌∷◌, [], ℕ, List, Some, None, All, map, true, IfOk, IfErr, IsErrOf, OnOk};
+ghost use Rattle.ae_base.specs.Rows.{paths_of};
+ghost use Rattle.ae_outside.specs.Causes.{Counted, HasRisen};
+ghost use Rattle.ae_outside.specs.Image.{IsSame};
+ghost use Rattle.ae_outside.specs.State.{reads, GoesOn};
+ghost use Rattle.ae_types.specs.Trees.{TreeRow, tree_path};
+ghost use Rattle.ae_vault.specs.Commit.{IsClean};
+ghost use Rattle.ae_vault.specs.Vault.{effective};
+ghost use Rattle.ae_dirs.specs.declared.error.DirsError.{DirsError};
+ghost use Rattle.ae_dirs.specs.Jobs.{IsGroup};
+ghost use Rattle.ae_dirs.specs.Reads.{tracked_in};
+ghost use Rattle.ae_machine.specs.declared.jobs.Job.{Job};
+ghost use Rattle.ae_machine.specs.Directories.{dirs_after};
+ghost use Rattle.ae_base.specs.Rows.{Ascends};
+ghost use Rattle.ae_machine.specs.Call.{call_of, change_named, given_of};
+ghost use Rattle.ae_machine.specs.Fits.{makes_runs};
+ghost use Rattle.ae_machine.specs.Freezing.{configured};
+ghost use Rattle.ae_machine.specs.Jobs.{IsCommand};
+ghost use Rattle.ae_machine.specs.Sight.{with_bytes};
+ghost use Rattle.ae_machine.specs.Space.{placing};
+ghost use Rattle.ae_machine.specs.Versions.{ShowsVersions, rows_based, rows_refreshed};
+ghost use Rattle.ae_exec.specs.Bytes.{HaveBytes, rows_at};
+ghost use Rattle.ae_exec.specs.Endings.{StopsReading};
+ghost use Rattle.ae_exec.specs.Reading.{AreKept, IsInside, versions_for_runs, versions_of};
+ghost use Rattle.ae_exec.specs.Runs.{AreForRuns, HaveRun};
+
+use crate::stop::Stop;
+use crate::version::read_version;
+use ae_base::{Snapshot, Text};
+use ae_dirs::{DirsError, change_dirs, run_group};
+use ae_files::TreeRow;
+use ae_machine::{
+    DirChangeList, FileList, JobList, RunRowList, View, jobs_asked, rows_based, rows_refreshed,
+    run_changes, tracked,
+};
+use ae_outside::{Dir, Disk, Site};
+use ae_types::State;
+use ae_words::Command;
+use std::alloc::Global;
+
+/// What the runs of a command are made of: the changes of directories before them, the files that they are to leave as they are,
+/// and the runs.
+#[derive(Drop)]
+pub(crate) struct RunPlan {
+    pub changes: DirChangeList,
+    pub tracked: Snapshot,
+    pub jobs: JobList,
+}
+
+// Puts the file of a row after the others, with its bytes.
+fn push_row<D: Disk>(
+    alloc: Global,
+    disk: &mut D,
+    files: &mut FileList,
+    row: &TreeRow,
+) -> Result<(), Stop>
+    requires clean { D.tells → IsClean (D.state disk.old) }
+    requires inside { IsInside row.now.version }
+    ensures pushed { OnOk result (D.tells → files.new ≡ files.old ++ rows_at (effective (reads (D.state disk.old))) (row.now ∷ [])) }
+    ensures path { OnOk result (paths_of files.new ≡ paths_of files.old ++ row.now.path ∷ []) }
+    ensures kept { OnOk result (D.tells → AreKept (effective (reads (D.state disk.old))) (versions_of (row.now ∷ []))) }
+    ensures same { D.tells → GoesOn IsSame (D.state disk.old) (D.state disk.new) }
+    ensures stopped { IfErr result (λ stop. StopsReading D.tells (reads (D.state disk.old)) (versions_of (row.now ∷ [])) (HasRisen (D.faults disk.old) (D.faults disk.new)) stop) }
+    ensures later { D.faults disk.old ≤ D.faults disk.new }
+{
+    let bytes = read_version(alloc, disk, &row.version)?;
+    files.push((row.path.copy(alloc)?, Some(Text::of(bytes))))?;
+    Ok(())
+}
+
+// The files of rows, with their bytes.
+fn files_of_rows<D: Disk>(alloc: Global, disk: &mut D, rows: &[TreeRow]) -> Result<FileList, Stop>
+    requires clean { D.tells → IsClean (D.state disk.old) }
+    requires inside { All (λ (row : TreeRow). IsInside row.version) rows.now }
+    ensures rows { IfOk result (λ files. D.tells → files ≡ rows_at (effective (reads (D.state disk.old))) rows.now) }
+    ensures paths { IfOk result (λ files. paths_of files ≡ map tree_path rows.now) }
+    ensures kept { OnOk result (D.tells → AreKept (effective (reads (D.state disk.old))) (versions_of rows.now)) }
+    ensures same { D.tells → GoesOn IsSame (D.state disk.old) (D.state disk.new) }
+    ensures stopped { IfErr result (λ stop. StopsReading D.tells (reads (D.state disk.old)) (versions_of rows.now) (HasRisen (D.faults disk.old) (D.faults disk.new)) stop) }
+    ensures later { D.faults disk.old ≤ D.faults disk.new }
+{
+    let mut files = FileList::new(alloc);
+    for row in rows {
+        push_row(alloc, disk, &mut files, row)?;
+    }
+    Ok(files)
+}
+
+/// Changes the directories, and then makes the runs, one after another, up to the first that changes tracked files.
+pub(crate) fn make_runs<S: Site>(
+    alloc: Global,
+    site: &mut S,
+    dir: Dir,
+    plan: &RunPlan,
+) -> Result<RunRowList, DirsError>
+    requires commands { All (λ (job : Job). IsCommand job.command) plan.now.jobs }
+    ensures ran { IfOk result (λ rows. S.tells → plan.now.tracked ≡ tracked_in (dirs_after plan.now.changes (S.state site.old).trees dir) plan.now.tracked → HaveRun dir plan.now.changes (paths_of plan.now.tracked) plan.now.jobs rows (S.state site.old) (S.state site.new)) }
+    ensures whole { IfOk result (λ rows. IsGroup plan.now.tracked plan.now.jobs rows) }
+    ensures cause { Counted (S.faults site.old) (S.faults site.new) (IsErrOf result DirsError.SiteFault) }
+{
+    change_dirs(alloc, site, plan.changes.as_slice())?;
+    run_group(alloc, site, dir, plan.jobs.as_slice(), &plan.tracked)
+}
+
+/// The runs of a command that is accepted, made ready: the versions that are put into the directories are read, and each run gets
+/// its command.
+pub(crate) fn ready<D: Disk>(
+    alloc: Global,
+    state: &State,
+    disk: &mut D,
+    command: &Command,
+    view: &View,
+) -> Result<RunPlan, Stop>
+    requires clean { D.tells → IsClean (D.state disk.old) }
+    requires runs { makes_runs command.now.function ≡ true }
+    requires accepted { (bytes : ℕ → List ℕ) × (who : List ℕ) × (when : ℕ) × ShowsVersions (Some state.now) bytes command.now who view.now × (configured (given_of placing state.now bytes command.now who when view.now) ≡ None) }
+    ensures are { IfOk result (λ plan. D.tells → (bytes : ℕ → List ℕ) (who : List ℕ) (when : ℕ) → HaveBytes (effective (reads (D.state disk.old))) (Some state.now) bytes → ShowsVersions (Some state.now) bytes command.now who view.now → AreForRuns (given_of placing state.now bytes command.now who when view.now) plan.changes plan.tracked plan.jobs) }
+    ensures commands { IfOk result (λ plan. All (λ (job : Job). IsCommand job.command) plan.jobs) }
+    ensures ascends { IfOk result (λ plan. Ascends plan.tracked) }
+    ensures kept { OnOk result (D.tells → AreKept (effective (reads (D.state disk.old))) (versions_for_runs command.now state.now)) }
+    ensures same { D.tells → GoesOn IsSame (D.state disk.old) (D.state disk.new) }
+    ensures stopped { IfErr result (λ stop. StopsReading D.tells (reads (D.state disk.old)) (versions_for_runs command.now state.now) (HasRisen (D.faults disk.old) (D.faults disk.new)) stop) }
+    ensures later { D.faults disk.old ≤ D.faults disk.new }
+{
+    let (refreshed, based) = read_rows(alloc, state, disk, command)?;
+    let tracked = tracked(alloc, state, command, view, based)?;
+    let changes = run_changes(alloc, state, command, refreshed, &tracked)?;
+    let Ok(jobs) = jobs_asked(alloc, state, command, view)? else {
+        unreachable!()
+    };
+    Ok(RunPlan {
+        changes,
+        tracked,
+        jobs,
+    })
+}
+
+// The files that are put into the develop directory and into the base directory before the runs, with their bytes.
+fn read_rows<D: Disk>(
+    alloc: Global,
+    state: &State,
+    disk: &mut D,
+    command: &Command,
+) -> Result<(FileList, FileList), Stop>
+    requires clean { D.tells → IsClean (D.state disk.old) }
+    ensures refreshed { IfOk result (λ files. D.tells → (bytes : ℕ → List ℕ) → HaveBytes (effective (reads (D.state disk.old))) (Some state.now) bytes → files.0 ≡ with_bytes bytes (rows_refreshed (call_of state.now command.now []) (change_named state.now command.now.change))) }
+    ensures based { IfOk result (λ files. D.tells → (bytes : ℕ → List ℕ) → HaveBytes (effective (reads (D.state disk.old))) (Some state.now) bytes → files.1 ≡ with_bytes bytes (rows_based (call_of state.now command.now []) (change_named state.now command.now.change))) }
+    ensures paths { IfOk result (λ files. paths_of files.1 ≡ map tree_path (rows_based (call_of state.now command.now []) (change_named state.now command.now.change))) }
+    ensures kept { OnOk result (D.tells → AreKept (effective (reads (D.state disk.old))) (versions_for_runs command.now state.now)) }
+    ensures same { D.tells → GoesOn IsSame (D.state disk.old) (D.state disk.new) }
+    ensures stopped { IfErr result (λ stop. StopsReading D.tells (reads (D.state disk.old)) (versions_for_runs command.now state.now) (HasRisen (D.faults disk.old) (D.faults disk.new)) stop) }
+    ensures later { D.faults disk.old ≤ D.faults disk.new }
+{
+    state.note_sound();
+    let rows = rows_refreshed(alloc, state, command)?;
+    let refreshed = files_of_rows(alloc, disk, rows.as_slice())?;
+    let rows = rows_based(alloc, state, command)?;
+    let based = files_of_rows(alloc, disk, rows.as_slice())?;
+    Ok((refreshed, based))
+}

@@ -1,0 +1,118 @@
+// A build or a test is planned.
+ghost use Rattle.std.specs.Prelude.{◌≡◌, ◌≤◌, true, Some, None, Option, IfOk, IfErr, option_copied};
+ghost use Rattle.ae_base.specs.Limits.{last_moment};
+ghost use Rattle.ae_base.specs.declared.outcome.Outcome.{Outcome};
+ghost use Rattle.ae_outside.specs.Causes.{HasRisen};
+ghost use Rattle.ae_outside.specs.Image.{IsSame};
+ghost use Rattle.ae_outside.specs.State.{reads, GoesOn};
+ghost use Rattle.ae_vault.specs.Commit.{IsClean};
+ghost use Rattle.ae_vault.specs.Vault.{effective};
+ghost use Rattle.ae_words.specs.Formed.{IsFormed};
+ghost use Rattle.ae_machine.specs.Called.{called};
+ghost use Rattle.ae_machine.specs.Fits.{makes_runs};
+ghost use Rattle.ae_machine.specs.There.{is_there_yet};
+ghost use Rattle.ae_machine.specs.Verdict.{refused_before};
+ghost use Rattle.ae_exec.specs.Directories.{LeavesDirs};
+ghost use Rattle.ae_exec.specs.Endings.{EndsAs, outcome_of, outcome_of_stop};
+ghost use Rattle.ae_exec.specs.Plan.{IsPlanned};
+ghost use Rattle.ae_exec.specs.Seen.{CallsSiteOn, IsRefusedOn, LosesVersion};
+
+use crate::plan::{Plan, answer_on, prepare};
+use crate::running::{make_runs, ready};
+use crate::seeing::{is_integrated, see};
+use crate::stop::Stop;
+use ae_base::User;
+use ae_machine::{RunRowList, Verdict, View, runs_dir};
+use ae_outside::{Disk, Site};
+use ae_types::State;
+use ae_words::{Command, Function};
+use std::alloc::Global;
+
+/// Whether a function makes runs.
+pub(crate) fn makes_runs(function: Function) -> bool
+    ensures { result ≡ makes_runs function }
+{
+    matches!(function, Function::Build | Function::Test)
+}
+
+/// What is put and said of a command that makes runs, and that nothing refuses which asks nothing of the directories.
+pub(crate) fn plan_runs<D: Disk, S: Site>(
+    alloc: Global,
+    old: Option<&State>,
+    disk: &mut D,
+    site: &mut S,
+    command: &Command,
+    who: &User,
+    now: u64,
+    status_line: bool,
+) -> Result<Plan, Stop>
+    requires clean { D.tells → IsClean (D.state disk.old) }
+    requires formed { IsFormed command.now }
+    requires there { is_there_yet command.now.function ≡ true }
+    requires moment { now ≤ last_moment }
+    requires runs { makes_runs command.now.function ≡ true }
+    requires passed { refused_before (option_copied old) command.now who.now ≡ None }
+    ensures planned { IfOk result (λ plan. IsPlanned (D.tells × S.tells) (effective (reads (D.state disk.old))) (option_copied old.entry) (called command.now who.now now (S.state site.old) (S.state site.new)) status_line plan.batch plan.finished) }
+    ensures stopped { IfErr result (λ stop. EndsAs ⊥ ⊥ (λ refusal. D.tells → S.tells → IsRefusedOn (effective (reads (D.state disk.old))) (option_copied old.entry) (called command.now who.now now (S.state site.old) (S.state site.new)) refusal) (λ name. D.tells → S.tells → LosesVersion (reads (D.state disk.old)) (option_copied old.entry) (called command.now who.now now (S.state site.old) (S.state site.new)) name) (HasRisen (D.faults disk.old) (D.faults disk.new)) (HasRisen (S.faults site.old) (S.faults site.new) × (D.tells → S.tells → CallsSiteOn (effective (reads (D.state disk.old))) (option_copied old.entry) (called command.now who.now now (S.state site.old) (S.state site.new)))) (outcome_of_stop stop)) }
+    ensures directories { S.tells → LeavesDirs command.now (S.state site.old) (S.state site.new) (outcome_of result) }
+    ensures early { S.tells → IfErr result (λ stop. outcome_of_stop stop ≡ Outcome.DiskFault → S.state site.new ≡ S.state site.old) }
+    ensures same { D.tells → GoesOn IsSame (D.state disk.old) (D.state disk.new) }
+    ensures disk_later { D.faults disk.old ≤ D.faults disk.new }
+    ensures site_later { S.faults site.old ≤ S.faults site.new }
+{
+    let Some(state) = old else { unreachable!() };
+    plan_runs_on(alloc, state, disk, site, command, who, now, status_line)
+}
+
+// The view with these runs.
+fn with_runs(view: View, runs: RunRowList) -> View
+    ensures { result ≡ record view { runs = runs } }
+{
+    View {
+        attributes: view.attributes,
+        develop: view.develop,
+        runs,
+    }
+}
+
+// The same where a project stands.
+fn plan_runs_on<D: Disk, S: Site>(
+    alloc: Global,
+    state: &State,
+    disk: &mut D,
+    site: &mut S,
+    command: &Command,
+    who: &User,
+    now: u64,
+    status_line: bool,
+) -> Result<Plan, Stop>
+    requires clean { D.tells → IsClean (D.state disk.old) }
+    requires formed { IsFormed command.now }
+    requires there { is_there_yet command.now.function ≡ true }
+    requires moment { now ≤ last_moment }
+    requires runs { makes_runs command.now.function ≡ true }
+    requires passed { refused_before (Some state.now) command.now who.now ≡ None }
+    ensures planned { IfOk result (λ plan. IsPlanned (D.tells × S.tells) (effective (reads (D.state disk.old))) (Some state.now) (called command.now who.now now (S.state site.old) (S.state site.new)) status_line plan.batch plan.finished) }
+    ensures stopped { IfErr result (λ stop. EndsAs ⊥ ⊥ (λ refusal. D.tells → S.tells → IsRefusedOn (effective (reads (D.state disk.old))) (Some state.now) (called command.now who.now now (S.state site.old) (S.state site.new)) refusal) (λ name. D.tells → S.tells → LosesVersion (reads (D.state disk.old)) (Some state.now) (called command.now who.now now (S.state site.old) (S.state site.new)) name) (HasRisen (D.faults disk.old) (D.faults disk.new)) (HasRisen (S.faults site.old) (S.faults site.new) × (D.tells → S.tells → CallsSiteOn (effective (reads (D.state disk.old))) (Some state.now) (called command.now who.now now (S.state site.old) (S.state site.new)))) (outcome_of_stop stop)) }
+    ensures directories { S.tells → LeavesDirs command.now (S.state site.old) (S.state site.new) (outcome_of result) }
+    ensures early { S.tells → IfErr result (λ stop. outcome_of_stop stop ≡ Outcome.DiskFault → S.state site.new ≡ S.state site.old) }
+    ensures same { D.tells → GoesOn IsSame (D.state disk.old) (D.state disk.new) }
+    ensures disk_later { D.faults disk.old ≤ D.faults disk.new }
+    ensures site_later { S.faults site.old ≤ S.faults site.new }
+{
+    state.note_sound();
+    if is_integrated(state, command) {
+        return Err(Stop::Memory);
+    }
+    let view = see(alloc, state, disk, site, command)?;
+    if let Verdict::Refuse(refusal) = answer_on(alloc, state, command, who, now, &view)? {
+        return Err(Stop::Refused(refusal));
+    }
+    let plan = ready(alloc, state, disk, command, &view)?;
+    let runs = make_runs(alloc, site, runs_dir(state, command), &plan)?;
+    let view = with_runs(view, runs);
+    match answer_on(alloc, state, command, who, now, &view)? {
+        Verdict::Accept(events) => Ok(prepare(alloc, Some(state), events, status_line)?),
+        Verdict::Refuse(_) => unreachable!(),
+    }
+}

@@ -1,0 +1,255 @@
+// The runs that a build or a test is to make, each with its command, and those that were made, as events.
+ghost use Rattle.std.specs.Prelude.{◌≡◌, ◌∷◌, [], ℕ, List, Some, All, map, true, IfOk, option_copied};
+ghost use Rattle.std.specs.Option.{option_and_then};
+ghost use Rattle.ae_log.specs.declared.event.EventKind.TheVariants as on;
+ghost use Rattle.ae_types.specs.Found.{change_at};
+ghost use Rattle.ae_types.specs.Runs.{Needed};
+ghost use Rattle.ae_machine.specs.declared.jobs.Job.{Job};
+ghost use Rattle.ae_machine.specs.declared.verdict.Verdict.TheVariants.{Accept};
+ghost use Rattle.ae_machine.specs.Call.{Placing, given_of};
+ghost use Rattle.ae_machine.specs.Commands.{AnswersRun, AnswersRuns, GivesCommands, command_told, run_told};
+ghost use Rattle.ae_machine.specs.Jobs.{AnswersJobs, IsCommand};
+ghost use Rattle.ae_machine.specs.Fits.{makes_runs};
+ghost use Rattle.ae_machine.specs.Verdict.{event_of, events_of};
+ghost use Rattle.ae_machine.specs.Versions.{ShowsVersions};
+
+use crate::commands::{ConfigRead, command_from, config_read};
+use crate::events::event;
+use crate::reading::{config_seen, subject};
+use crate::runs::{delta_of_run, group, part_of, values_of};
+use crate::{RunRow, Verdict, View};
+use ae_base::{ChangeNo, Delta, Kind, Path, ProjectName, Refusal, Text, User};
+use ae_evidence::RunKey;
+use ae_log::{EventKind, EventList, RunEvent};
+use ae_types::{Change, Rows, State};
+use ae_words::Command;
+use std::alloc::{AllocError, Global};
+
+/// A run that is to be made: of which kind, of which test if it is of one, and its command.
+#[derive(Drop)]
+pub struct Job {
+    pub kind: Kind,
+    pub path: Option<Path>,
+    pub command: Text,
+}
+
+/// Runs that are to be made, one after another.
+pub type JobList = Rows<Job>;
+
+type RunEventList = Rows<RunEvent>;
+
+fn path_copy(alloc: Global, path: Option<&Path>) -> Result<Option<Path>, AllocError>
+    ensures { IfOk result (λ copy. copy ≡ option_copied path.entry) }
+{
+    match path {
+        Some(path) => Ok(Some(path.copy(alloc)?)),
+        None => Ok(None),
+    }
+}
+
+// The command of a run of this kind and path, or why there is none.
+fn command_told(
+    alloc: Global,
+    project: &ProjectName,
+    change: &Change,
+    delta: Delta,
+    read: &ConfigRead,
+    kind: Kind,
+    path: Option<&Path>,
+) -> Result<Result<Text, Refusal>, AllocError>
+    requires { GivesCommands read.now }
+    ensures command { IfOk result (λ command. command ≡ command_told project.now change.now delta read.now (record { kind = kind; path = option_copied path.entry })) }
+    ensures may_run { IfOk result (λ command. IfOk command IsCommand) }
+{
+    let values = values_of(alloc, project, change, delta, path)?;
+    command_from(alloc, read, kind, &values)
+}
+
+// The run with its command, or why it has none.
+fn make_job(
+    alloc: Global,
+    project: &ProjectName,
+    change: &Change,
+    delta: Delta,
+    read: &ConfigRead,
+    run: &RunKey,
+) -> Result<Result<Job, Refusal>, AllocError>
+    requires { GivesCommands read.now }
+    ensures job { IfOk result (AnswersRun (command_told project.now change.now delta read.now) run.now) }
+    ensures command { IfOk result (λ job. IfOk job (λ (job : Job). IsCommand job.command)) }
+{
+    let path = run.path.as_ref();
+    match command_told(alloc, project, change, delta, read, run.kind, path)? {
+        Ok(command) => Ok(Ok(Job {
+            kind: run.kind,
+            path: path_copy(alloc, path)?,
+            command,
+        })),
+        Err(refusal) => Ok(Err(refusal)),
+    }
+}
+
+// The runs, each with its command, or why the first that has none has none.
+fn make_jobs(
+    alloc: Global,
+    project: &ProjectName,
+    change: &Change,
+    delta: Delta,
+    read: &ConfigRead,
+    runs: &[RunKey],
+) -> Result<Result<JobList, Refusal>, AllocError>
+    requires { GivesCommands read.now }
+    ensures jobs { IfOk result (AnswersRuns (command_told project.now change.now delta read.now) runs.now) }
+    ensures commands { IfOk result (λ jobs. IfOk jobs (All (λ (job : Job). IsCommand job.command))) }
+{
+    let mut jobs = JobList::new(alloc);
+    for run in runs {
+        match make_job(alloc, project, change, delta, read, run)? {
+            Ok(job) => jobs.push(job)?,
+            Err(refusal) => return Ok(Err(refusal)),
+        }
+    }
+    Ok(Ok(jobs))
+}
+
+/// The runs that the command is to make for this change, each with its command, or why one has none.
+pub(crate) fn jobs_of(
+    alloc: Global,
+    state: &State,
+    command: &Command,
+    number: ChangeNo,
+    change: &Change,
+    view: &View,
+) -> Result<Result<JobList, Refusal>, AllocError>
+    requires runs { makes_runs command.now.function ≡ true }
+    requires names { command.now.change ≡ Some number }
+    requires named { change_at state.now number ≡ Some change.now }
+    ensures jobs { (places : Placing) (bytes : ℕ → List ℕ) (who : List ℕ) (when : ℕ) →
+        ShowsVersions (Some state.now) bytes command.now who view.now →
+        IfOk result (AnswersJobs (given_of places state.now bytes command.now who when view.now)) }
+    ensures commands { IfOk result (λ jobs. IfOk jobs (All (λ (job : Job). IsCommand job.command))) }
+{
+    let project = state.project();
+    let runs = group(alloc, state, command, change)?;
+    let bytes = config_seen(alloc, state, number, change, view)?;
+    let read = config_read(alloc, bytes)?;
+    let delta = delta_of_run(state, change);
+    make_jobs(alloc, &project.name, change, delta, &read, runs.as_slice())
+}
+
+/// The runs that the command is to make, each with the command that aegis.conf gives for it, or why one has none. That file's
+/// bytes are taken from what the command sees.
+pub fn jobs_asked(
+    alloc: Global,
+    state: &State,
+    command: &Command,
+    view: &View,
+) -> Result<Result<JobList, Refusal>, AllocError>
+    requires runs { makes_runs command.now.function ≡ true }
+    ensures jobs { (places : Placing) (bytes : ℕ → List ℕ) (who : List ℕ) (when : ℕ) →
+        ShowsVersions (Some state.now) bytes command.now who view.now →
+        IfOk result (AnswersJobs (given_of places state.now bytes command.now who when view.now)) }
+    ensures commands { IfOk result (λ jobs. IfOk jobs (All (λ (job : Job). IsCommand job.command))) }
+{
+    let Some(number) = command.change else {
+        return Ok(Ok(JobList::new(alloc)));
+    };
+    match state.change(number) {
+        Some(change) => jobs_of(alloc, state, command, number, change, view),
+        None => Ok(Ok(JobList::new(alloc))),
+    }
+}
+
+// The run as it is recorded.
+fn run_event(
+    alloc: Global,
+    project: &ProjectName,
+    change: &Change,
+    delta: Delta,
+    read: &ConfigRead,
+    subject: [u8; 32],
+    run: &RunRow,
+) -> Result<RunEvent, AllocError>
+    requires { GivesCommands read.now }
+    ensures { IfOk result (λ event. event ≡ run_told project.now change.now delta read.now subject run.now) }
+{
+    let path = run.path.as_ref();
+    let command = match command_told(alloc, project, change, delta, read, run.kind, path)? {
+        Ok(command) => command,
+        Err(_) => Text::of(Vec::new(alloc)),
+    };
+    Ok(RunEvent {
+        during: part_of(change.phase),
+        kind: run.kind,
+        path: path_copy(alloc, path)?,
+        command,
+        exit: run.exit,
+        before: run.before.copy(alloc)?,
+        after: run.after.copy(alloc)?,
+        subject,
+    })
+}
+
+// The runs as they are recorded.
+fn run_events(
+    alloc: Global,
+    project: &ProjectName,
+    change: &Change,
+    delta: Delta,
+    read: &ConfigRead,
+    subject: [u8; 32],
+    runs: &[RunRow],
+) -> Result<RunEventList, AllocError>
+    requires { GivesCommands read.now }
+    ensures { IfOk result (λ events. events ≡ map (run_told project.now change.now delta read.now subject) runs.now) }
+{
+    let mut events = RunEventList::new(alloc);
+    for run in runs {
+        events.push(run_event(alloc, project, change, delta, read, subject, run)?)?;
+    }
+    Ok(events)
+}
+
+// Accepted, with an event for each run.
+fn accept_runs(
+    alloc: Global,
+    who: &User,
+    when: u64,
+    change: Option<ChangeNo>,
+    runs: RunEventList,
+) -> Result<Verdict, AllocError>
+    ensures { IfOk result (λ verdict. verdict ≡ Accept (map (event_of who.now when change) (map on.Run runs))) }
+{
+    let mut events = EventList::new(alloc);
+    for run in runs.into_vec() {
+        events.push(event(alloc, who, when, change, EventKind::Run(run))?)?;
+    }
+    Ok(Verdict::Accept(events))
+}
+
+/// Accepted, with an event for each run of the change that the command saw.
+pub(crate) fn accept_seen(
+    alloc: Global,
+    state: &State,
+    command: &Command,
+    number: ChangeNo,
+    change: &Change,
+    who: &User,
+    when: u64,
+    view: &View,
+) -> Result<Verdict, AllocError>
+    requires runs { makes_runs command.now.function ≡ true }
+    requires names { command.now.change ≡ Some number }
+    requires named { change_at state.now number ≡ Some change.now }
+    ensures { (places : Placing) (bytes : ℕ → List ℕ) → ShowsVersions (Some state.now) bytes command.now who.now view.now →
+        IfOk result (λ verdict. verdict ≡ Accept (events_of (given_of places state.now bytes command.now who.now when view.now))) }
+{
+    let project = state.project();
+    let bytes = config_seen(alloc, state, number, change, view)?;
+    let read = config_read(alloc, bytes)?;
+    let subject = subject(alloc, state, number, change, view)?;
+    let delta = delta_of_run(state, change);
+    let runs = view.runs.as_slice();
+    let events = run_events(alloc, &project.name, change, delta, &read, subject, runs)?;
+    accept_runs(alloc, who, when, command.change, events)
+}

@@ -1,0 +1,207 @@
+// The files that the runs of a build or a test are to leave as they are, and what is made of the directories before them.
+ghost use Rattle.std.specs.Prelude.{◌≡◌, ◌++◌, ◌∷◌, [], ℕ, List, Some, map, filter, true, IfOk, OnOk};
+ghost use Rattle.std.specs.List.{list_any};
+ghost use Rattle.std.specs.Str.{bytes_eq};
+ghost use Rattle.ae_base.specs.Rows.{paths_of};
+ghost use Rattle.ae_types.specs.Runs.{tests_of};
+ghost use Rattle.ae_types.specs.Trees.{tree_path};
+ghost use Rattle.ae_outside.specs.declared.dir.Dir.TheVariants.{Develop};
+ghost use Rattle.ae_machine.specs.declared.directories.DirChange.TheVariants.{Put};
+ghost use Rattle.ae_machine.specs.declared.view.View.{View};
+ghost use Rattle.ae_machine.specs.Call.{Placing, call_of, change_of, given_of};
+ghost use Rattle.ae_machine.specs.Directories.{dir_changes};
+ghost use Rattle.ae_machine.specs.Fits.{makes_runs, tracked_in};
+ghost use Rattle.ae_machine.specs.Sight.{only_tests, overlaid, with_bytes};
+ghost use Rattle.ae_machine.specs.Versions.{is_test_at, removed_among, rows_based, rows_refreshed};
+
+use crate::reading::{paths_read, tree_read};
+use crate::refusing::change_of;
+use crate::runs::{is_integrating, kind_of};
+use crate::{DirChange, DirChangeList, FileList, View};
+use ae_base::{Action, Kind, Path, Snapshot, Text, Usage};
+use ae_outside::Dir;
+use ae_types::{Change, ChangeFile, State};
+use ae_words::Command;
+use std::alloc::{AllocError, Global};
+
+// Whether the file is a test of this path that the change doesn't remove.
+fn is_test_at(file: &ChangeFile, path: &Path) -> bool
+    ensures { result ≡ is_test_at path.now file.now }
+{
+    match (file.usage, file.action) {
+        (Usage::Test, Action::Create | Action::Modify) => path.bytes() == file.path.bytes(),
+        _ => false,
+    }
+}
+
+// Whether one of the files is a test of this path.
+fn has_test_at(files: &[ChangeFile], path: &Path) -> bool
+    ensures { result ≡ list_any (is_test_at path.now) files.now }
+{
+    files.iter().any(|file| is_test_at(file, path))
+}
+
+// Whether the path is one of a test of the change.
+fn is_own_test(change: &Change, path: &Path) -> bool
+    ensures { result ≡ list_any (bytes_eq path.now) (tests_of change.now) }
+{
+    has_test_at(change.files.as_slice(), path)
+}
+
+fn bytes_copy(alloc: Global, bytes: &Option<Text>) -> Result<Option<Text>, AllocError>
+    ensures { IfOk result (λ copy. copy ≡ bytes.now) }
+{
+    match bytes {
+        Some(bytes) => Ok(Some(bytes.copy(alloc)?)),
+        None => Ok(None),
+    }
+}
+
+// Puts a row over a tree, where it is of a test of the change.
+fn put_test(
+    alloc: Global,
+    tree: &mut Snapshot,
+    change: &Change,
+    row: &(Path, Option<Text>),
+) -> Result<(), AllocError>
+    ensures { OnOk result (tree.new ≡ overlaid tree.old (only_tests change.now (row.now ∷ []))) }
+{
+    if is_own_test(change, &row.0) {
+        tree.put(row.0.copy(alloc)?, bytes_copy(alloc, &row.1)?)
+    } else {
+        Ok(())
+    }
+}
+
+// Puts the rows of the change's tests over a tree.
+fn put_tests(
+    alloc: Global,
+    tree: &mut Snapshot,
+    change: &Change,
+    rows: &[(Path, Option<Text>)],
+) -> Result<(), AllocError>
+    ensures { OnOk result (tree.new ≡ overlaid tree.old (only_tests change.now rows.now)) }
+{
+    for row in rows {
+        put_test(alloc, tree, change, row)?;
+    }
+    Ok(())
+}
+
+/// The files that its runs are to leave as they are. `based` are the versions of `rows_based`, with their bytes.
+pub fn tracked(
+    alloc: Global,
+    state: &State,
+    command: &Command,
+    view: &View,
+    based: FileList,
+) -> Result<Snapshot, AllocError>
+    requires paths { (who : List ℕ) → let call = call_of state.now command.now who in
+        paths_of based ≡ map tree_path (rows_based call (change_of call)) }
+    ensures { (places : Placing) (bytes : ℕ → List ℕ) (who : List ℕ) (when : ℕ) →
+        let given = given_of places state.now bytes command.now who when view.now in
+        based ≡ with_bytes bytes (rows_based given.call (change_of given.call)) →
+        IfOk result (λ tree. tree ≡ tracked_in given (change_of given.call)) }
+{
+    state.note_sound();
+    let Some(number) = command.change else {
+        return Ok(Snapshot::new(alloc));
+    };
+    let Some(change) = state.change(number) else {
+        return Ok(Snapshot::new(alloc));
+    };
+    let paths = paths_read(alloc, state, number, change)?;
+    let read = tree_read(alloc, view, paths.as_slice())?;
+    match kind_of(command) {
+        Kind::BaselineTest => {
+            let mut tree = Snapshot::of(based.into_vec());
+            put_tests(alloc, &mut tree, change, read.as_slice())?;
+            Ok(tree)
+        }
+        Kind::Build => Ok(read),
+        Kind::Test => Ok(read),
+        Kind::RegressionTest => Ok(read),
+    }
+}
+
+// Adds no file at the path of a file that is removed.
+fn push_removed(
+    alloc: Global,
+    rows: &mut Vec<(Path, Option<Text>)>,
+    file: &ChangeFile,
+) -> Result<(), AllocError>
+    ensures { OnOk result (rows.new.items ≡ rows.old.items ++ removed_among (file.now ∷ [])) }
+{
+    match file.action {
+        Action::Remove => {
+            rows.push((file.path.copy(alloc)?, None))?;
+            Ok(())
+        }
+        _ => Ok(()),
+    }
+}
+
+// No file at each path that the change removes.
+fn removed_rows(
+    alloc: Global,
+    files: &[ChangeFile],
+) -> Result<Vec<(Path, Option<Text>)>, AllocError>
+    ensures { IfOk result (λ rows. rows.items ≡ removed_among files.now) }
+{
+    let mut rows = Vec::new(alloc);
+    for file in files {
+        push_removed(alloc, &mut rows, file)?;
+    }
+    Ok(rows)
+}
+
+// The develop directory is refreshed.
+fn refresh(alloc: Global, change: &Change, refreshed: FileList) -> Result<DirChange, AllocError>
+    ensures { IfOk result (λ made. made ≡ Put (Develop change.now.number) (removed_among change.now.files ++ refreshed)) }
+{
+    let mut rows = removed_rows(alloc, change.files.as_slice())?;
+    for row in refreshed.into_vec() {
+        rows.push(row)?;
+    }
+    Ok(DirChange::Put(Dir::Develop(change.number), FileList::of(rows)))
+}
+
+fn tree_copy(alloc: Global, tree: &Snapshot) -> Result<FileList, AllocError>
+    ensures { IfOk result (λ copy. copy ≡ tree.now) }
+{
+    let mut rows = Vec::new(alloc);
+    for row in tree.as_slice() {
+        rows.push((row.0.copy(alloc)?, bytes_copy(alloc, &row.1)?))?;
+    }
+    Ok(FileList::of(rows))
+}
+
+/// What it makes of the directories before its runs. `refreshed` are the versions of `rows_refreshed`, with their bytes;
+/// `tracked` are the files that its runs are to leave as they are.
+pub fn run_changes(
+    alloc: Global,
+    state: &State,
+    command: &Command,
+    refreshed: FileList,
+    tracked: &Snapshot,
+) -> Result<DirChangeList, AllocError>
+    requires runs { makes_runs command.now.function ≡ true }
+    ensures { (places : Placing) (bytes : ℕ → List ℕ) (who : List ℕ) (when : ℕ) (view : View) →
+        let given = given_of places state.now bytes command.now who when view in
+        refreshed ≡ with_bytes bytes (rows_refreshed given.call (change_of given.call)) →
+        tracked.now ≡ tracked_in given (change_of given.call) →
+        IfOk result (λ changes. changes ≡ dir_changes given) }
+{
+    let mut changes = DirChangeList::new(alloc);
+    let Some(change) = change_of(state, command) else {
+        return Ok(changes);
+    };
+    if !is_integrating(change.phase) {
+        changes.push(refresh(alloc, change, refreshed)?)?;
+    }
+    if kind_of(command) == Kind::BaselineTest {
+        let files = tree_copy(alloc, tracked)?;
+        changes.push(DirChange::Fill(Dir::Base(change.number), files))?;
+    }
+    Ok(changes)
+}
