@@ -21,6 +21,8 @@ WRITE, PREAD, PWRITE, FLOCK, FSYNC, FDATASYNC, FTRUNCATE = 1, 17, 18, 73, 74, 75
 MKDIR, GETDENTS, OPENAT, STATX = 83, 217, 257, 332
 # What a write to standard error counts as, which is that of the reply; no system call has this number.
 REPLY = 10000
+# What a stop at a call has besides the signal.
+AT_A_CALL = 0x80
 WATCHED = {WRITE, PREAD, PWRITE, FLOCK, FSYNC, FDATASYNC, FTRUNCATE, MKDIR, GETDENTS, OPENAT, STATX, REPLY}
 
 TRACEME, PEEKUSER, POKEUSER, SYSCALL, SETOPTIONS = 0, 3, 6, 24, 0x4200
@@ -82,9 +84,14 @@ def start_traced(program, top, who, words, err):
 
 
 def one_call(child):
-    """Lets the child go on to its next stop, and answers the status that waitpid gives."""
-    ptrace(SYSCALL, child, None, None)
-    return os.waitpid(child, 0)[1]
+    """Lets the child go on to its next stop at a call, and answers the status that waitpid gives. A signal is handed on."""
+    handed_on = 0
+    while True:
+        ptrace(SYSCALL, child, None, ctypes.c_void_p(handed_on))
+        status = os.waitpid(child, 0)[1]
+        if not os.WIFSTOPPED(status) or os.WSTOPSIG(status) & AT_A_CALL:
+            return status
+        handed_on = os.WSTOPSIG(status) if os.WSTOPSIG(status) != signal.SIGTRAP else 0
 
 
 def finish_call(child, failure):

@@ -59,6 +59,21 @@ def place_of(directory, path):
     return path if directory == "here" else f"aegis.d/{directory}/{path}"
 
 
+def listed_evidence(listing):
+    """The rows that a listing of evidence shows."""
+    return [tuple(line.split(" ")) for line in listing.splitlines()]
+
+
+def kept_evidence(change):
+    """The rows of evidence that the state file of a change has, as a listing shows them."""
+    row = r'ground = (\w+); kind = (\w+); path = "([^"]*)"; status = (\d+); clean = (\w+); subject = "(\w+)";'
+    found = re.findall(row, change.split("\nevidence = ")[1].split("\nhistory = ")[0])
+    return [
+        (ground, kind, status, "clean" if clean == "true" else "changed", subject, path or "-")
+        for ground, kind, path, status, clean, subject in found
+    ]
+
+
 def answers(transcript):
     """What each command is to say, and its status."""
     said = []
@@ -76,7 +91,7 @@ class Session:
     def __init__(self, program, top, to_come):
         self.program, self.top, self.to_come = program, top, to_come
         self.who, self.began = "nobody", int(time.time())
-        self.done, self.wrong, self.left_out = 0, 0, {}
+        self.done, self.wrong, self.left_out, self.evidence = 0, 0, {}, 0
 
     def complain(self, text):
         self.wrong += 1
@@ -88,11 +103,21 @@ class Session:
         kind = self.to_come.get(words[0])
         if kind is not None:
             self.left_out[kind] = self.left_out.get(kind, 0) + 1
+            if words[:2] == ["-l", "ce"]:
+                self.compare_evidence(words[-1], said)
             said, status = NOT_THERE, 2
         else:
             self.done += 1
         if told != (status, "", said):
             self.complain(f"{self.who}: {' '.join(words)}: {told}, and not {(status, '', said)}")
+
+    def compare_evidence(self, change, listing):
+        """The state file of the change has the evidence that its listing is to show."""
+        with open(os.path.join(self.top, "aegis.d", "store", f"change.{change}"), encoding="latin-1") as file:
+            found = kept_evidence(file.read())
+        self.evidence += len(found)
+        if found != listed_evidence(listing):
+            self.complain(f"change {change} has the evidence {found}, and not {listed_evidence(listing)}")
 
     def follow(self, script, transcript):
         """Does each line of the script, and compares what each command says with the transcript."""
@@ -146,5 +171,6 @@ def main(name, to_come):
         session.compare_directories(stored["folders"].decode("latin-1"))
     for kind, count in session.left_out.items():
         print(f"{count} lines left out: {kind}")
-    print(f"{session.done} commands, {len(store)} files of the store, {session.wrong} wrong")
+    evidence = f", {session.evidence} rows of evidence" if session.evidence else ""
+    print(f"{session.done} commands, {len(store)} files of the store{evidence}, {session.wrong} wrong")
     sys.exit(1 if session.wrong or not session.done else 0)

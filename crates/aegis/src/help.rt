@@ -29,7 +29,7 @@ The functions; one with a * at its end isn't there yet, and is answered as a wor
   -New_Change_Undo -Change N
   -Develop_Begin -Change N
   -Develop_Begin_Undo -Change N
-  -Build -Change N *
+  -Build -Change N
   -Develop_End -Change N *
   -Develop_End_Undo -Change N *
   -Review_Begin -Change N *
@@ -49,7 +49,7 @@ The functions; one with a * at its end isn't there yet, and is answered as a wor
   -New_Test_Undo -Change N PATH..
   -ReMove_file -Change N PATH..
   -ReMove_file_Undo -Change N PATH..
-  -Test -Change N [-BaseLine | -REGression] *
+  -Test -Change N [-BaseLine | -REGression]
   -List LISTING [-Change N] *
   -SCRipt *
   -GENerate START CHANGES FILES *
@@ -82,8 +82,9 @@ An option's value is the next word, or stands after `=` in the same word. The op
 
 `-Help` and `-Version`, each alone, print this text and the version.
 
-The project is the one in the current folder, in `aegis.d`. The user is the variable AEGIS_USER, else LOGNAME, else nobody.
-What is said goes to standard error. The exit status:
+The project is the one in the current folder, in `aegis.d`. The files of change 10 are in `aegis.d/develop.10` while it is
+developed, and `aegis.log` there has what its builds and tests write: `tail -f aegis.d/develop.10/aegis.log` follows it.
+The user is the variable AEGIS_USER, else LOGNAME, else nobody. What is said goes to standard error. The exit status:
 
     0   it is done
     1   it is refused, or a run failed
@@ -143,6 +144,7 @@ impl Question {
         None
     }
 
+    /// What it prints.
     pub fn answer(self) -> &'static str {
         match self {
             Question::Help => HELP,

@@ -1,7 +1,8 @@
 // The real directories, and commands run by `sh`.
-ghost use Rattle.std.specs.Prelude.{⊤};
+ghost use Rattle.std.specs.Prelude.{⊤, IfOk, OnErr};
 ghost use Rattle.ae_outside.specs.Causes.{Counted, HasCause};
 ghost use Rattle.ae_outside.specs.Untold.{untold_site};
+ghost use Rattle.aegis.specs.Runs.{HasNoEnd, IsExitOf, IsShell};
 
 use crate::places::{
     Found, look, make_folders, make_folders_to, refused, remove_empty_folders, size_in_folder,
@@ -54,7 +55,10 @@ fn place_in(alloc: Global, folder: &str, path: &Path) -> Result<String, AllocErr
 }
 
 // By its code, or by a signal.
-fn exit_of(status: ExitStatus) -> io::Result<Exit> {
+fn exit_of(status: ExitStatus) -> io::Result<Exit>
+    ensures is { IfOk result (IsExitOf status) }
+    ensures none { OnErr result (HasNoEnd status) }
+{
     if let Some(code) = status.code() {
         if let Ok(code) = u8::try_from(code) {
             return Ok(Exit::Code(code));
@@ -68,7 +72,20 @@ fn exit_of(status: ExitStatus) -> io::Result<Exit> {
     Err(io::Error::from(ErrorKind::InvalidData))
 }
 
+// The shell that runs a command in a folder, with this program's environment.
+fn shell_for(alloc: Global, folder: &str, command: &str) -> Result<Command, AllocError>
+    ensures { IfOk result (IsShell folder.now command.now) }
+{
+    let mut shell = Command::new(alloc, "sh")?;
+    shell.arg("-c")?;
+    shell.arg("--")?;
+    shell.arg(command)?;
+    shell.current_dir(folder)?;
+    Ok(shell)
+}
+
 impl<'a, R: Files<File = File> + Alloc + Processes> RealSite<'a, R> {
+    /// The directories of the project in the current folder.
     pub fn new(rt: &'a R, alloc: Global) -> RealSite<'a, R> {
         RealSite {
             rt,
@@ -93,17 +110,17 @@ impl<'a, R: Files<File = File> + Alloc + Processes> RealSite<'a, R> {
         }
     }
 
-    // One byte more than the limit shows that there is more.
+    // One byte more than the limit shows that there is more, and room for one more than there is shows the end of the file.
     fn try_read(&self, alloc: Global, dir: Dir, path: &Path, limit: usize) -> io::Result<Content> {
         let folder = folder_of(alloc, dir)?;
         let place = place_in(alloc, folder.as_str(), path)?;
-        match look(self.rt, place.as_str())? {
-            Found::File(_) => {}
-            _ => return Ok(Content::Absent),
-        }
+        let Found::File(size) = look(self.rt, place.as_str())? else {
+            return Ok(Content::Absent);
+        };
         let file = File::open(self.rt, place)?;
-        let mut bytes = Vec::new(alloc);
         let most = (limit as u64).saturating_add(1);
+        let mut bytes = Vec::new(alloc);
+        bytes.try_reserve_exact(size.saturating_add(1).min(most) as usize)?;
         file.take(most).read_to_end(&mut bytes)?;
         if bytes.len() > limit {
             return Ok(Content::TooLong);
@@ -135,6 +152,7 @@ impl<'a, R: Files<File = File> + Alloc + Processes> RealSite<'a, R> {
     fn holds(&self, place: &str, bytes: &[u8]) -> io::Result<bool> {
         let mut file = File::open(self.rt, place)?;
         let mut found = Vec::new(self.alloc);
+        found.try_reserve_exact(bytes.len().saturating_add(1))?;
         file.read_to_end(&mut found)?;
         Ok(found.as_slice() == bytes)
     }
@@ -170,22 +188,22 @@ impl<'a, R: Files<File = File> + Alloc + Processes> RealSite<'a, R> {
         make_folders(self.rt, folder.as_str())
     }
 
+    // The file to which a run's output and error are appended. Anything else in its place is an error.
+    fn open_log(&self, folder: &str) -> io::Result<File> {
+        let log = format!(in self.alloc; "{folder}/aegis.log")?;
+        size_of_file(self.rt, log.as_str())?;
+        OpenOptions::new()
+            .append(true)
+            .create(true)
+            .open(self.rt, log)
+    }
+
     fn try_run(&self, dir: Dir, command: &str) -> io::Result<Exit> {
         let folder = folder_of(self.alloc, dir)?;
         make_folders(self.rt, folder.as_str())?;
-        let log = format!(in self.alloc; "{folder}/aegis.log")?;
-        size_of_file(self.rt, log.as_str())?;
-        let out = OpenOptions::new()
-            .append(true)
-            .create(true)
-            .open(self.rt, log)?;
+        let out = self.open_log(folder.as_str())?;
         let err = out.try_clone()?;
-        let mut shell = Command::new(self.alloc, "sh")?;
-        shell
-            .arg("-c")?
-            .arg("--")?
-            .arg(command)?
-            .current_dir(folder)?;
+        let mut shell = shell_for(self.alloc, folder.as_str(), command)?;
         shell.stdin(Stdio::null()).stdout(out).stderr(err);
         exit_of(shell.status(self.rt)?)
     }
@@ -197,6 +215,8 @@ impl<'a, R: Files<File = File> + Alloc + Processes> Site for RealSite<'a, R> {
     ghost state = { λ _. untold_site };
 
     ghost faults = { λ site. site.faults };
+
+    fn note_bytes(&self) {}
 
     fn read(
         &mut self,

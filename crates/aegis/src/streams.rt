@@ -12,6 +12,7 @@ pub struct Reading<R> {
 }
 
 impl<R: Read> Reading<R> {
+    /// The stream over this one.
     pub fn new(inner: R) -> Reading<R> {
         Reading { inner, faults: 0 }
     }
@@ -44,6 +45,7 @@ pub struct Writing<W> {
 }
 
 impl<W: Write> Writing<W> {
+    /// The stream over this one.
     pub fn new(inner: W) -> Writing<W> {
         Writing { inner, faults: 0 }
     }

@@ -1,6 +1,8 @@
 // What is asked, who asks, and when.
 ghost use Rattle.std.specs.Prelude.{◌≤◌};
+ghost use Rattle.ae_base.specs.Limits.{last_moment};
 
+use ae_base::limits::LAST_MOMENT;
 use std::alloc::AllocError;
 use std::env::VarError;
 use std::rt::{Clock, Env};
@@ -8,8 +10,6 @@ use std::time::{SystemTime, UNIX_EPOCH};
 use std::{env, io};
 
 // The last second of the year 2099.
-const LAST_MOMENT: u64 = 4_102_444_799;
-
 /// The words after the program's name. It fails where one isn't UTF-8.
 pub fn words<R: Env + AllocGlobal>(rt: &R) -> io::Result<Vec<String>> {
     let words = env::args(rt)?.skip(1).collect(rt.alloc())?;
@@ -31,7 +31,7 @@ pub fn user<R: Env + AllocGlobal>(rt: &R) -> Result<String, AllocError> {
 
 /// The clock in whole seconds since the start of 1970, and 0 where it shows an earlier moment, or one after 2099.
 pub fn moment(rt: &impl Clock) -> u64
-    ensures { result ≤ 4_102_444_799 }
+    ensures { result ≤ last_moment }
 {
     let Ok(now) = SystemTime::now(rt) else {
         return 0;

@@ -1,0 +1,39 @@
+# Proves, builds, tests and installs aegis.
+#
+#   make                       proves and builds the program; the first time takes tens of minutes
+#   make test                  the test of everything
+#   make install               to PREFIX, which is /usr/local where nothing else is said; DESTDIR stands before it
+#   make uninstall             takes it away again
+
+PREFIX = /usr/local
+DESTDIR =
+INSTALL = install
+
+PROGRAM = crates/aegis/out/aegis
+
+bin = $(DESTDIR)$(PREFIX)/bin
+share = $(DESTDIR)$(PREFIX)/share
+
+all:
+	./aegis --version
+
+test:
+	.ci/run
+
+install: all install-built
+
+# installs what was built before
+install-built:
+	$(INSTALL) -d $(bin) $(share)/man/man1 $(share)/man/man5 $(share)/bash-completion/completions $(share)/aegis
+	$(INSTALL) -m 755 $(PROGRAM) $(bin)/aegis
+	$(INSTALL) -m 644 share/aegis.1 $(share)/man/man1/aegis.1
+	$(INSTALL) -m 644 share/aegis.5 $(share)/man/man5/aegis.5
+	$(INSTALL) -m 644 share/completion.bash $(share)/bash-completion/completions/aegis
+	$(INSTALL) -m 644 share/profile.sh $(share)/aegis/profile.sh
+
+uninstall:
+	rm -f $(bin)/aegis $(share)/man/man1/aegis.1 $(share)/man/man5/aegis.5
+	rm -f $(share)/bash-completion/completions/aegis $(share)/aegis/profile.sh
+	-rmdir $(share)/aegis
+
+.PHONY: all test install install-built uninstall
