@@ -22,7 +22,8 @@ use Rattle.ae_machine.specs.declared.view.RunRow.{RunRow}
 use Rattle.ae_machine.specs.declared.view.View.{View}
 use Rattle.ae_machine.specs.Call.{Call, Given, change_of}
 use Rattle.ae_machine.specs.Called.{attributes_seen, files_dir, files_seen, given_at, occasion_of}
-use Rattle.ae_machine.specs.Fits.{IsAtMost, clean_but_last, config_asked, is_clean, path_of_row, paths_asked, runs_asked, tracked_in}
+use Rattle.ae_outside.specs.Site.{IsAtMost}
+use Rattle.ae_machine.specs.Fits.{clean_but_last, config_asked, is_clean, path_of_row, paths_asked, runs_asked, tracked_in}
 use Rattle.ae_machine.specs.Legal.{ViewFits}
 use Rattle.ae_machine.specs.Real.{command_for, dir_of_runs}
 use Rattle.ae_machine.specs.Runs.{kind_of, needed_of, tracked_by}
@@ -43,11 +44,11 @@ content-fits : (limit : ℕ) (held : Option (List ℕ)) → IsAtMost limit (cont
 content-fits limit (Some bytes) = within limit (nat_le (length bytes) limit) bytes refl
 content-fits limit None = tt
 
-attributes-fit : (state : SiteState) (path : Option (List ℕ)) → IsAtMost 65536 (attributes_seen state path)
+pub attributes-fit : (state : SiteState) (path : Option (List ℕ)) → IsAtMost 65536 (attributes_seen state path)
 attributes-fit state (Some path) = content-fits 65536 (state.trees Here path)
 attributes-fit state None = tt
 
-abbrev IsShort : List ℕ × Content → Type 0
+abbrev pub IsShort : List ℕ × Content → Type 0
 IsShort row = IsAtMost 4194304 row.1
 
 contents-fit : (tree : Tree) (paths : List (List ℕ)) → All IsShort (contents 4194304 tree paths)
@@ -58,11 +59,11 @@ contents-paths : (tree : Tree) (paths : List (List ℕ)) → map path_of_row (co
 contents-paths tree [] = refl
 contents-paths tree (path ∷ paths) = ap (λ (l : List (List ℕ)). path ∷ l) (contents-paths tree paths)
 
-files-fit : (call : Call) (change : Option Change) (state : SiteState) → All IsShort (files_seen call change state)
+pub files-fit : (call : Call) (change : Option Change) (state : SiteState) → All IsShort (files_seen call change state)
 files-fit call (Some change) state = contents-fit (state.trees (files_dir call change)) (paths_asked call (Some change))
 files-fit call None state = All-nil IsShort
 
-files-paths : (call : Call) (change : Option Change) (state : SiteState) → map path_of_row (files_seen call change state) ≡ paths_asked call change
+pub files-paths : (call : Call) (change : Option Change) (state : SiteState) → map path_of_row (files_seen call change state) ≡ paths_asked call change
 files-paths call (Some change) state = contents-paths (state.trees (files_dir call change)) (paths_asked call (Some change))
 files-paths call None state = refl
 

@@ -16,7 +16,6 @@ use std::alloc::{AllocError, Global};
 
 // The place of the bytes of a file, where there are any.
 fn take_place(space: &mut Space, bytes: &Option<Text>) -> Result<Option<u64>, SpaceError>
-    requires { IsShort bytes.now }
     ensures taken { IfOk result (λ place. WhateverLeft space.old (λ taken. TakesPlaces taken (option_to_list bytes.now) space.new (option_to_list place))) }
     ensures inside { IfOk result (λ place. IfSome place (λ at. at ≤ most_units)) }
     ensures full { IsErrOf result SpaceError.Full → WhateverLeft space.old (λ taken. HaveNoPlaces taken (option_to_list bytes.now)) }
@@ -45,7 +44,6 @@ pub fn take_places(
     tree: &[(Path, Option<Text>)],
     space: &mut Space,
 ) -> Result<Vec<u64>, SpaceError>
-    requires short { All (λ (row : Row). IsShort row.1) tree.now }
     ensures places { IfOk result (λ places. WhateverLeft space.old (λ taken. places_of taken (present tree.now) ≡ Some places.items)) }
     ensures inside { IfOk result (λ places. All (λ at. at ≤ most_units) places.items) }
     // It is full exactly where one of them has no place.

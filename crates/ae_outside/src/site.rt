@@ -2,7 +2,7 @@
 ghost use Rattle.std.specs.Prelude.{◌≡◌, ℕ, ◌∷◌, ◌++◌, [], Some, None, IfOk, OnOk, OnErr, IsErrOf};
 ghost use Rattle.ae_outside.specs.Causes.{Counted, HasCause};
 ghost use Rattle.ae_outside.specs.Trees.{no_files, with_file};
-ghost use Rattle.ae_outside.specs.Site.{SiteState, ChangesOnly, content_within, run_made, HoldsBytes};
+ghost use Rattle.ae_outside.specs.Site.{SiteState, ChangesOnly, IsAtMost, content_within, run_made, HoldsBytes};
 
 use crate::{Content, Dir, Exit, Failed, SiteError};
 use ae_base::Path;
@@ -32,6 +32,7 @@ pub trait Site {
         limit: usize,
     ) -> Result<Content, SiteError>
         ensures content { IfOk result (λ content. tells → content ≡ content_within limit ((state self.old).trees dir path.now)) }
+        ensures limit { IfOk result (IsAtMost limit) }
         ensures same { tells → state self.new ≡ state self.old }
         ensures cause { Counted (faults self.old) (faults self.new) (IsErrOf result SiteError.Failed) };
 

@@ -1,6 +1,7 @@
 // The real directories, and commands run by `sh`.
 ghost use Rattle.std.specs.Prelude.{⊤, IfOk, OnErr};
 ghost use Rattle.ae_outside.specs.Causes.{Counted, HasCause};
+ghost use Rattle.ae_outside.specs.Site.{IsAtMost};
 ghost use Rattle.ae_outside.specs.Untold.{untold_site};
 ghost use Rattle.aegis.specs.Runs.{HasNoEnd, IsExitOf, IsShell};
 
@@ -111,7 +112,9 @@ impl<'a, R: Files<File = File> + Alloc + Processes> RealSite<'a, R> {
     }
 
     // One byte more than the limit shows that there is more, and room for one more than there is shows the end of the file.
-    fn try_read(&self, alloc: Global, dir: Dir, path: &Path, limit: usize) -> io::Result<Content> {
+    fn try_read(&self, alloc: Global, dir: Dir, path: &Path, limit: usize) -> io::Result<Content>
+        ensures limit { IfOk result (IsAtMost limit) }
+    {
         let folder = folder_of(alloc, dir)?;
         let place = place_in(alloc, folder.as_str(), path)?;
         let Found::File(size) = look(self.rt, place.as_str())? else {

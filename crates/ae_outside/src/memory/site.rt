@@ -3,7 +3,7 @@ ghost use Rattle.std.specs.Prelude.{◌≡◌, ◌∷◌, ◌++◌, [], Some, No
 ghost use Rattle.ae_outside.specs.Causes.{Counted, HasCause};
 ghost use Rattle.ae_outside.specs.Calls.{IsCall, IsFed};
 ghost use Rattle.ae_outside.specs.Trees.{no_files, with_file, within};
-ghost use Rattle.ae_outside.specs.Site.{ChangesOnly, HoldsBytes, content_within, run_made};
+ghost use Rattle.ae_outside.specs.Site.{IsAtMost, ChangesOnly, HoldsBytes, content_within, run_made};
 ghost use Rattle.ae_outside.specs.FileRows.{tree_of, ElsewhereSame};
 ghost use Rattle.ae_outside.specs.Scripts.{exit_of, after_of};
 
@@ -137,6 +137,7 @@ impl Site for MemSite {
         limit: usize,
     ) -> Result<Content, SiteError>
         ensures content { IfOk result (λ content. content ≡ content_within limit ((state_of self.old).trees dir path.now)) }
+        ensures limit { IfOk result (IsAtMost limit) }
         // Only bytes within the limit are copied.
         ensures memory { IsErrOf result SiteError.Memory → IsSome (within limit ((state_of self.old).trees dir path.now)) }
         ensures same { state_of self.new ≡ state_of self.old }
