@@ -1,26 +1,27 @@
 -- What an event asks of what stands before it.
 use Rattle.std.specs.Prelude.{◌≡◌, ℕ, ◌<◌, ◌≤◌, Bool, true, false, ◌||◌, not, List, map, Option, Some, None, is_none, length, IsSomeAnd}
 use Rattle.std.specs.Option.{option_map}
-use Rattle.ae_base.specs.Limits.{most_change_files, most_deltas, most_file_bytes, most_units, most_versions}
-use Rattle.ae_base.specs.Rows.{Rows}
+use Rattle.ae_base.specs.Limits.{most_change_files, most_deltas, most_file_bytes, most_next_version, most_units, most_versions}
+use Rattle.ae_base.specs.Rows.{Rows, text_cmp}
 use Rattle.ae_base.specs.declared.words.Phase.{Phase}
 use Rattle.ae_base.specs.declared.words.Phase.TheVariants as phase
 use Rattle.ae_types.specs.declared.change.Change.{Change}
 use Rattle.ae_types.specs.declared.change.ChangeFile.{ChangeFile}
 use Rattle.ae_types.specs.declared.version.VersionRef.{VersionRef}
 use Rattle.ae_types.specs.Observation.{Observation}
-use Rattle.ae_types.specs.Found.{change_at, file_in, lock_in, has_number}
+use Rattle.ae_types.specs.Found.{change_at, file_in, file_path, lock_in, has_number}
+use Rattle.ae_types.specs.Ordered.{Ascends}
 use Rattle.ae_types.specs.Phases.{is_awaiting_development, is_integrating, is_completed, is_remove}
 use Rattle.ae_types.specs.Roles.{users_of, refuses_adding, refuses_dropping}
 use Rattle.ae_types.specs.Clashes.{NoneClash}
-use Rattle.ae_types.specs.Sound.{Sound, IsMoment, EachChange}
+use Rattle.ae_types.specs.Sound.{Sound, IsMoment, EachChange, FitsLength, IsGoodChange}
 use Rattle.ae_types.specs.Trees.{last_delta, candidate_of, paths_of}
 use Rattle.ae_types.specs.Versions.{Place, version_at, has_units, end_of, meet}
 use Rattle.ae_log.specs.declared.event.Event.{Event}
 use Rattle.ae_log.specs.declared.event.EventKind.{EventKind}
 use Rattle.ae_log.specs.declared.event.EventKind.TheVariants as on
 use Rattle.ae_log.specs.Files.{numbered, frozen_file, version_of, ref_of, present}
-use Rattle.ae_log.specs.After.{new_file, with_file, after}
+use Rattle.ae_log.specs.After.{new_file, with_file, frozen_as, change_after, after}
 
 -- ---- phases
 
@@ -169,6 +170,23 @@ Names o None kind = NamesNone kind
 pub record MayApply (o : Observation) (event : Event) : Type 0 where
   pub names : Names o event.change event.what
   pub sound : Sound (after o event)
+
+-- the files can be frozen: the tree has just these, in their order, there is a place for each that it doesn't remove, and no
+-- version is too long
+pub record CanFreeze (next : ℕ) (tree : Rows) (places : List ℕ) (files : List ChangeFile) : Type 0 where
+  pub shape : tree_shape tree ≡ files_shape files
+  pub placed : length places ≡ length (present tree)
+  pub ascend : Ascends text_cmp file_path files
+  pub few : length files ≤ most_change_files
+  pub numbers : next ≤ most_next_version
+  pub lengths : (path : List ℕ) (file : ChangeFile) → file_in (map (frozen_as next tree places) files) path ≡ Some file → FitsLength file.frozen
+
+-- a good change that the event fits, and that is good after it
+pub record MayAlter (next : ℕ) (event : Event) (change : Change) : Type 0 where
+  pub numbers : next ≤ most_next_version
+  pub fits : Fits change event.what
+  pub good : IsGoodChange change
+  pub later : IsGoodChange (change_after next event change)
 
 -- ---- the first event
 

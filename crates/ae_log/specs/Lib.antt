@@ -9,4 +9,3 @@ pub mod Observed
 pub mod After
 pub mod Applies
 pub mod Laws
-pub mod Applied

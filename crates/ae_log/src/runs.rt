@@ -1,19 +1,13 @@
-// A run that was made is noted.
-ghost use Rattle.std.specs.Prelude.{◌≡◌, map, OnOk};
-ghost use Rattle.std.specs.Ordering.{nat_cmp};
-ghost use Rattle.ae_types.specs.declared.change.Evidence.{Evidence};
-ghost use Rattle.ae_types.specs.Found.{number_of_change};
-ghost use Rattle.ae_types.specs.Ordered.{Ascends};
-ghost use Rattle.ae_log.specs.After.{where_number};
-ghost use Rattle.ae_log.specs.Applied.{noted, row_of_run};
-ghost use Rattle.ae_log.specs.Runs.{run_status, same_rows};
+// The runs of a change: what is noted of one, and those that go.
+ghost use Rattle.std.specs.Prelude.{◌≡◌, option_copied, IfOk};
+ghost use Rattle.ae_types.specs.Runs.{same_during};
+ghost use Rattle.ae_log.specs.After.{without_runs};
+ghost use Rattle.ae_log.specs.Runs.{evidence_row, run_status, same_rows};
 
-use crate::RunEvent;
-use crate::changes::compare_number;
-use ae_base::{ChangeNo, Path, Text, User};
-use ae_evidence::note_run;
+use crate::{Event, RunEvent};
+use ae_base::{Ground, Path, Text};
 use ae_outside::Exit;
-use ae_types::{Change, Evidence};
+use ae_types::{Evidence, EvidenceList};
 use std::alloc::{AllocError, Global};
 
 // The status of a run: its code, or 256 and the number of the signal.
@@ -33,42 +27,52 @@ fn same_rows(one: &[(Path, Option<Text>)], other: &[(Path, Option<Text>)]) -> bo
     one == other
 }
 
-/// The row of a run, which this user made at this moment. It is clean where the files after it are those before it.
-pub(crate) fn row_of_run(who: User, when: u64, run: RunEvent) -> Evidence
-    ensures { result ≡ row_of_run who when run }
+// An equal path, or none.
+fn copy_path(alloc: Global, path: Option<&Path>) -> Result<Option<Path>, AllocError>
+    ensures { IfOk result (λ copy. copy ≡ option_copied path.entry) }
 {
-    let clean = same_rows(run.before.as_slice(), run.after.as_slice());
-    Evidence {
+    match path {
+        Some(path) => Ok(Some(path.copy(alloc)?)),
+        None => Ok(None),
+    }
+}
+
+/// The row of a run that the event has. It is clean where the files after it are those before it.
+pub(crate) fn row_of_run(
+    alloc: Global,
+    event: &Event,
+    run: &RunEvent,
+) -> Result<Evidence, AllocError>
+    ensures { IfOk result (λ row. row ≡ evidence_row event.now run.now) }
+{
+    Ok(Evidence {
         during: run.during,
         kind: run.kind,
-        path: run.path,
+        path: copy_path(alloc, run.path.as_ref())?,
         status: run_status(run.exit),
-        clean,
+        clean: same_rows(run.before.as_slice(), run.after.as_slice()),
         subject: run.subject,
-        when,
-        who,
+        when: event.when,
+        who: event.who.copy(alloc)?,
+    })
+}
+
+// Whether both are the same part of a change's life.
+fn same_during(one: Ground, other: Ground) -> bool
+    ensures { result ≡ same_during one other }
+{
+    match (one, other) {
+        (Ground::Develop, Ground::Develop) | (Ground::Integrate, Ground::Integrate) => true,
+        _ => false,
     }
 }
 
-// The run is noted at its change.
-fn note(alloc: Global, change: &mut Change, row: Evidence) -> Result<(), AllocError>
-    ensures { OnOk result (change.new ≡ noted row change.old) }
+/// Takes out the runs of that part of a change's life.
+pub(crate) fn drop_runs(alloc: Global, evidence: &mut EvidenceList, during: Ground)
+    ensures { evidence.new ≡ without_runs during evidence.old }
 {
-    note_run(alloc, change, row)
-}
-
-/// The run is noted at the change of this number, where it is there.
-pub(crate) fn note_change_run(
-    alloc: Global,
-    changes: &mut Vec<Change>,
-    number: ChangeNo,
-    row: Evidence,
-) -> Result<(), AllocError>
-    requires { Ascends nat_cmp number_of_change changes.old.items }
-    ensures { OnOk result (changes.new.items ≡ map (where_number number (noted row)) changes.old.items) }
-{
-    match changes.binary_search_by(|change| compare_number(change.number, number)) {
-        Ok(at) => note(alloc, &mut changes[at], row),
-        Err(_) => Ok(()),
-    }
+    let old = std::mem::replace(evidence, EvidenceList::new(alloc));
+    let mut rows = old.into_vec();
+    rows.retain(|row| !same_during(during, row.during));
+    *evidence = EvidenceList::of(rows);
 }

@@ -1,16 +1,21 @@
-use Rattle.std.proofs.Common.{rules, nat_lt}
-use Rattle.std.proofs.lemmas.List.Sorted.{IsPartitionPoint-from_clause, IsPartitionedBy-ltb}
+use Rattle.std.proofs.Common.{rules, ℕ}
+use Rattle.std.proofs.lemmas.Fn.{always_returns_same}
 use Rattle.ae_types.specs.Ordered.{itself}
-use Rattle.ae_log.proofs.AppliedSteps.{not-there}
-use Rattle.ae_log.proofs.InPlace.{non-decreasing, insert-put}
+use Rattle.std.specs.Ordering.{nat_cmp}
+use Rattle.ae_types.proofs.Keys.{by_number}
+use Rattle.ae_log.proofs.Placing.{set-put, insert-put, searchable}
 use Rattle.ae_log.proofs.changes.put_number.Goals as goal
 
-pub returns : goal.returns
-returns c =
-    let bound = rw (c.deref.ensures.value) at c.partition_point-at.ensures.bound in
-    let parted = rw (c.deref.ensures.value) at c.partition_point-at.ensures.partitioned in
-    rw (c.in_ok-insert.ensures.items) (insert-put itself c.args.number c.args.numbers.now.items c.partition_point-at.result c.requires.ascend bound
-    (IsPartitionPoint-from_clause (λ y. nat_lt (itself y) c.args.number) c.args.numbers.now.items c.partition_point-at.result parted
-    (IsPartitionedBy-ltb itself c.args.numbers.now.items c.args.number (non-decreasing itself c.args.numbers.now.items c.requires.ascend))
-    (λ a r f' called. search rules))
-    (not-there _ c.requires.fresh))
+pub returns-in-Ok : goal.returns-in-Ok
+returns-in-Ok c =
+    let bound = rw (c.deref.ensures.value) at c.in-Ok.ensures.bound in
+    let position = rw (c.deref.ensures.value) at c.in-Ok.ensures.position in
+    let equal = position (λ (y : ℕ). nat_cmp (itself y) c.args.number) (always_returns_same _ _ _ (λ a r f' called. search rules)) in
+    set-put by_number itself c.args.number c.args.numbers.now.items c.in-Ok.at c.args.number c.requires bound (equal c.args.number)
+
+pub returns-in_ok-insert-in-Err : goal.returns-in_ok-insert-in-Err
+returns-in_ok-insert-in-Err c =
+    let bound = rw (c.deref.ensures.value) at c.in-Err.ensures.bound in
+    let position = rw (c.deref.ensures.value) at c.in-Err.ensures.position in
+    let point = position (λ (y : ℕ). nat_cmp (itself y) c.args.number) (always_returns_same _ _ _ (λ a r f' called. search rules)) in
+    rw (c.in_ok-insert-in-Err.ensures.items) (insert-put by_number itself c.args.number c.args.numbers.now.items c.in-Err.at bound (point (searchable by_number itself c.args.number c.args.numbers.now.items c.requires)))

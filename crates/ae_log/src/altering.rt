@@ -1,0 +1,84 @@
+// What an event makes of its change.
+ghost use Rattle.std.specs.Prelude.{◌≡◌, OnOk};
+ghost use Rattle.ae_log.specs.After.{changed, change_after, moved};
+ghost use Rattle.ae_log.specs.Applies.{MayAlter};
+ghost use Rattle.ae_log.specs.Phases.{phase_after, with_row, word_of};
+
+use crate::development::set_developer;
+use crate::files::{add_file, drop_file};
+use crate::freezing::{end_development, send_back, thaw};
+use crate::integration::set_integrator;
+use crate::phases::{phase_after, word_of};
+use crate::runs::row_of_run;
+use crate::{Event, EventKind};
+use ae_evidence::note_run;
+use ae_types::{Change, HistoryRow, TryCopy};
+use std::alloc::{AllocError, Global};
+
+// What an event makes of its change, but for its phase and history.
+fn change_parts(
+    alloc: Global,
+    change: &mut Change,
+    next: u64,
+    event: &Event,
+) -> Result<(), AllocError>
+    requires { MayAlter next event.now change.old }
+    ensures { OnOk result (change.new ≡ changed next event.now event.now.what change.old) }
+{
+    match &event.what {
+        EventKind::ChangeAttributes(attributes) => change.attributes = attributes.copy(alloc)?,
+        EventKind::Begin => set_developer(alloc, change, Some(event.who.copy(alloc)?)),
+        EventKind::BeginUndo => set_developer(alloc, change, None),
+        EventKind::File(path, action, usage, origin) => {
+            add_file(alloc, change, path, *action, *usage, *origin)?;
+        }
+        EventKind::Unfile(path) => drop_file(alloc, change, path),
+        EventKind::Run(run) => note_run(alloc, change, row_of_run(alloc, event, run)?)?,
+        EventKind::End(tree, _, places) => end_development(alloc, change, next, tree, places),
+        EventKind::EndUndo | EventKind::Fail => send_back(alloc, change),
+        EventKind::ReviewBegin => change.reviewing = Some(event.who.copy(alloc)?),
+        EventKind::ReviewBeginUndo => change.reviewing = None,
+        EventKind::Pass => change.reviewer = Some(event.who.copy(alloc)?),
+        EventKind::PassUndo => change.reviewer = None,
+        EventKind::IBegin => set_integrator(alloc, change, Some(event.who.copy(alloc)?)),
+        EventKind::IBeginUndo => set_integrator(alloc, change, None),
+        EventKind::IPass => thaw(alloc, change),
+        EventKind::IFail => {
+            send_back(alloc, change);
+            set_integrator(alloc, change, None);
+        }
+        _ => {}
+    }
+    Ok(())
+}
+
+// The change goes into the phase of the event, and its history gets the row, where the event has one.
+fn enter_phase(alloc: Global, change: &mut Change, event: &Event) -> Result<(), AllocError>
+    ensures { OnOk result (change.new ≡ record change.old { phase = moved (phase_after event.now.what) change.old.phase; history = with_row (word_of event.now.what) event.now.who event.now.when change.old.history }) }
+{
+    if let Some(phase) = phase_after(&event.what) {
+        change.phase = phase;
+    }
+    match word_of(&event.what) {
+        Some(what) => change.history.push(HistoryRow {
+            what,
+            who: event.who.copy(alloc)?,
+            when: event.when,
+        }),
+        None => Ok(()),
+    }
+}
+
+/// The change is what the event makes of it; `next` is the number of the next version.
+pub(crate) fn alter(
+    alloc: Global,
+    change: &mut Change,
+    next: u64,
+    event: &Event,
+) -> Result<(), AllocError>
+    requires { MayAlter next event.now change.old }
+    ensures { OnOk result (change.new ≡ change_after next event.now change.old) }
+{
+    change_parts(alloc, change, next, event)?;
+    enter_phase(alloc, change, event)
+}
