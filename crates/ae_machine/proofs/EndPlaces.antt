@@ -20,7 +20,8 @@ use Rattle.ae_space.specs.Fit.{fit}
 use Rattle.ae_history.specs.Placing.{units_of, extents, places_of, IsShort}
 use Rattle.ae_history.proofs.InSpace.{places-in-space}
 use Rattle.ae_machine.specs.declared.view.View.{View}
-use Rattle.ae_machine.specs.Fits.{IsAtMost}
+use Rattle.ae_outside.specs.Site.{IsAtMost}
+use Rattle.ae_machine.specs.Accepted.{RowsShort}
 use Rattle.ae_machine.specs.Sight.{bytes_of, content_of, read_at, bytes_read}
 use Rattle.ae_machine.specs.Space.{placing}
 use Rattle.ae_machine.proofs.Lists.{all-members, members-all}
@@ -45,10 +46,6 @@ as-many taken (bytes ∷ more) places e = go (fit taken (units_of bytes)) e (λ 
 
 abbrev pub AreShort : Rows → Type 0
 AreShort tree = (row : Row) → In tree row → IfSome row.1 (λ (bytes : List ℕ). length bytes ≤ 4194304)
-
--- what was read is within its limit
-abbrev pub RowsShort : View → Type 0
-RowsShort view = All (λ (row : List ℕ × Content). IsAtMost 4194304 row.1) view.develop
 
 content-short : (rows : List (List ℕ × Content)) (path : List ℕ) → ((row : List ℕ × Content) → In rows row → IsAtMost 4194304 row.1) → IsAtMost 4194304 (content_of (find (λ (row : List ℕ × Content). bytes_eq path row.0) rows))
 content-short [] path h = tt

@@ -12,6 +12,7 @@ pub mod CandidateStands
 pub mod PassedBaseline
 pub mod RightRuns
 pub mod RunStatuses
+pub mod TypedPaths
 pub mod EndPlaces
 pub mod AcceptedEnd
 pub mod Accepted
@@ -33,10 +34,12 @@ pub mod ReversedEnd
 pub mod Reversed
 pub mod Making
 pub mod Entries
+mod Conditions
 mod PathSplits
 mod LeastClash
 mod PathsThere
 mod PathsUp
+mod PathsEver
 mod InFolder
 mod PathClash
 mod ClashingPaths
@@ -44,9 +47,11 @@ mod ByRule
 pub mod CommandBytes
 pub mod CommandsRead
 mod WhoWorks
+mod Reviews
 mod SnapshotRows
 mod Picked
 pub mod ShownVersions
 pub mod RunsMade
 pub mod AskedFor
 pub mod SightShows
+pub mod EndAnswer

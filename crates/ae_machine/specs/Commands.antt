@@ -1,6 +1,7 @@
 -- The command of each run, from what was read of aegis.conf.
 use Rattle.std.specs.Prelude.{◌≡◌, ◌≤◌, ℕ, List, [], ◌∷◌, Option, Some, None, if◌then◌else◌, is_some, IfSome, Result, Ok, Err}
 use Rattle.std.specs.Option.{option_map, option_or}
+use Rattle.ae_base.specs.Limits.{most_deltas}
 use Rattle.ae_base.specs.Names.{IsPath, IsProjectName}
 use Rattle.ae_base.specs.declared.words.Kind.{Kind}
 use Rattle.ae_base.specs.declared.words.Kind.TheVariants as kind
@@ -74,7 +75,7 @@ pub record AreValues (values : Values) : Type 0 where
   pub file_name : IfSome values.file_name IsPath
   pub project : IsProjectName values.project
   pub change : values.change ≤ 1999
-  pub delta : values.delta ≤ 1990
+  pub delta : values.delta ≤ most_deltas
 
 -- the commands of builds and tests, where they are given, are of bytes that may stand in one
 abbrev pub GivesCommands : ConfigRead → Type 0

@@ -1,8 +1,9 @@
 -- Which views a command may have.
-use Rattle.std.specs.Prelude.{◌≡◌, ◌≢◌, ℕ, ◌≤◌, Bool, true, false, ◌&&◌, List, [], ◌∷◌, ◌++◌, map, Option, Some, None, if◌then◌else◌, length, take, All, IsTrue}
+use Rattle.std.specs.Prelude.{◌≡◌, ◌≢◌, ℕ, Bool, true, false, ◌&&◌, List, [], ◌∷◌, ◌++◌, map, Option, Some, None, if◌then◌else◌, length, take, All, IsTrue}
 use Rattle.std.specs.List.{list_all}
 use Rattle.ae_base.specs.Limits.{most_attribute_bytes, most_file_bytes}
 use Rattle.ae_base.specs.Rows.{Rows}
+use Rattle.ae_outside.specs.Site.{IsAtMost}
 use Rattle.ae_outside.specs.declared.dir.Content.{Content}
 use Rattle.ae_outside.specs.declared.dir.Content.TheVariants.{Bytes}
 use Rattle.ae_types.specs.declared.change.Change.{Change}
@@ -16,10 +17,6 @@ use Rattle.ae_machine.specs.declared.view.RunRow.{RunRow}
 use Rattle.ae_machine.specs.Call.{Call, Given, change_of}
 use Rattle.ae_machine.specs.Runs.{group, needed_of, tracked}
 use Rattle.ae_machine.specs.Sight.{paths_read, config_below}
-
-abbrev pub IsAtMost : ℕ → Content → Type 0
-IsAtMost most (Bytes bytes) = length bytes ≤ most
-IsAtMost most _ = Unit {0}
 
 -- ---- what a function reads and runs
 

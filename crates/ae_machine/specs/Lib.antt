@@ -8,6 +8,7 @@ pub mod Permission
 pub mod Paths
 pub mod Freezing
 pub mod Statuses
+pub mod TypedPaths
 pub mod Verdict
 pub mod Legal
 pub mod Provenance

@@ -6,6 +6,7 @@ ghost use Rattle.ae_types.specs.Found.{change_at, file_path, has_file};
 ghost use Rattle.ae_types.specs.Phases.{is_integrating};
 ghost use Rattle.ae_types.specs.Ordered.{Ascends};
 ghost use Rattle.ae_types.specs.Trees.{TreeRow, baseline_of, tree_row};
+ghost use Rattle.ae_base.specs.Limits.{most_deltas};
 ghost use Rattle.ae_base.specs.Rows.{text_cmp};
 ghost use Rattle.ae_words.specs.Meaning.{is_config};
 ghost use Rattle.ae_machine.specs.Call.{Placing, call_of, change_of, given_of};
@@ -37,7 +38,8 @@ fn reads_files(function: Function) -> bool
     )
 }
 
-pub(crate) fn makes_runs(function: Function) -> bool
+/// Whether a function makes runs.
+pub fn makes_runs(function: Function) -> bool
     ensures { result ≡ makes_runs function }
 {
     matches!(function, Function::Build | Function::Test)
@@ -63,7 +65,7 @@ pub fn paths_asked(alloc: Global, state: &State, command: &Command) -> Result<Pa
 
 // The directory of the change's files.
 fn dir_of_change(state: &State, change: &Change) -> Dir
-    requires { is_integrating change.now.phase ≡ true → length state.now.project.deltas < 1990 }
+    requires { is_integrating change.now.phase ≡ true → length state.now.project.deltas < most_deltas }
     ensures { (command : _) (who : List ℕ) → result ≡ files_dir (call_of state.now command who) change.now }
 {
     if is_integrating(change.phase) {

@@ -3,8 +3,9 @@ ghost use Rattle.std.specs.Prelude.{◌≡◌, ℕ, List, IfOk, option_copied};
 ghost use Rattle.ae_machine.specs.Call.{call_of, change_of};
 ghost use Rattle.ae_machine.specs.Versions.{first_differing, is_read_so, is_row_shown, rows_compared};
 
-use crate::reading::{bytes_at, candidate_tree};
+use crate::reading::candidate_tree;
 use crate::runs::is_integrating;
+use crate::seen::Seen;
 use crate::{FileList, View};
 use ae_base::{Path, Refusal, Text};
 use ae_files::TreeRows;
@@ -46,10 +47,10 @@ fn is_read_so(read: Option<&Text>, bytes: Option<&Text>) -> bool
 }
 
 // Whether what was read at the path of a row is its bytes.
-fn is_row_shown(view: &View, row: &(Path, Option<Text>)) -> bool
-    ensures { result ≡ is_row_shown view.now row.now }
+fn is_row_shown(seen: &Seen, row: &(Path, Option<Text>)) -> bool
+    ensures { result ≡ is_row_shown seen.now.view.now row.now }
 {
-    is_read_so(bytes_at(view, row.0.bytes()), row.1.as_ref())
+    is_read_so(seen.bytes_at(row.0.bytes()), row.1.as_ref())
 }
 
 /// The refusal of the first of these files that was read with other bytes.
@@ -60,8 +61,9 @@ pub fn files_differ(
 ) -> Result<Option<Refusal>, AllocError>
     ensures { IfOk result (λ refusal. refusal ≡ first_differing view.now compared.now) }
 {
+    let seen = Seen::of(view);
     for row in compared.as_slice() {
-        if !is_row_shown(view, row) {
+        if !is_row_shown(&seen, row) {
             return Ok(Some(Refusal::Differs(row.0.copy(alloc)?)));
         }
     }

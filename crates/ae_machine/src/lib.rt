@@ -8,7 +8,10 @@ mod commands;
 mod comparing;
 mod deciding;
 mod directories;
+mod ending;
 mod events;
+mod finishing;
+mod integrating;
 mod jobs;
 mod laws;
 mod numbers;
@@ -18,15 +21,18 @@ mod permission;
 mod preparing;
 mod reading;
 mod refusing;
+mod reviewing;
 mod running;
 mod runs;
+mod seen;
 mod there;
 mod verdict;
 mod view;
 mod working;
 
 pub use asking::{
-    config_version, files_dir, files_refused, paths_asked, rows_based, rows_refreshed, runs_dir,
+    config_version, files_dir, files_refused, makes_runs, paths_asked, rows_based, rows_refreshed,
+    runs_dir,
 };
 pub use comparing::{files_differ, rows_compared};
 pub use deciding::{decide, decide_rest};
@@ -34,11 +40,12 @@ pub use directories::{DirChange, DirChangeList, FileList};
 pub use jobs::{Job, JobList, jobs_asked};
 pub use laws::{
     accepted_events_apply, accepted_events_follow, commands_are_reversed, legal_logs_are_provided,
-    legal_logs_are_sound, legal_logs_have_facts, legal_runs_have_statuses, note_refused_before,
-    trees_are_by_rules,
+    legal_logs_are_sound, legal_logs_have_facts, legal_logs_have_paths, legal_runs_have_statuses,
+    note_refused_before, trees_are_by_rules,
 };
 pub use preparing::{run_changes, tracked};
 pub use refusing::before;
+pub use runs::last_delta;
 pub use there::is_there_yet;
 pub use verdict::Verdict;
 pub use view::{RunRow, RunRowList, ScanList, View};

@@ -49,7 +49,8 @@ fn is_in_tree(state: &State, delta: usize, path: &Path) -> bool
     usage_at(state, delta, path).is_some()
 }
 
-fn is_in_baseline(state: &State, path: &Path) -> bool
+/// Whether the path is in the baseline.
+pub(crate) fn is_in_baseline(state: &State, path: &Path) -> bool
     ensures { result ≡ is_in (baseline_of state.now) path.now }
 {
     is_in_tree(state, state.project().deltas.len(), path)

@@ -1,9 +1,7 @@
 // What a command read of the files, and the trees that it makes of them.
 ghost use Rattle.std.specs.Prelude.{◌≡◌, ◌++◌, ◌∷◌, [], ℕ, List, Some, map, IfOk, OnOk, option_copied};
-ghost use Rattle.std.specs.List.{find};
 ghost use Rattle.std.specs.Str.{bytes_eq};
 ghost use Rattle.ae_types.specs.Found.{change_at, file_path};
-ghost use Rattle.ae_types.specs.Observation.{Observation};
 ghost use Rattle.ae_types.specs.Ordered.{Ascends, itself};
 ghost use Rattle.ae_types.specs.Trees.{candidate_of, paths_of};
 ghost use Rattle.ae_base.specs.Rows.{text_cmp};
@@ -16,35 +14,13 @@ ghost use Rattle.ae_machine.specs.Sight.{bytes_of, bytes_read, config_path, kept
 
 use crate::View;
 use crate::runs::is_integrating;
+use crate::seen::Seen;
 use ae_base::{Action, ChangeNo, Path, PathList, Refusal, Snapshot, Text, Which};
 use ae_evidence::{digest, digest_rows};
 use ae_files::{TreeRow, TreeRows, candidate};
 use ae_outside::Content;
 use ae_types::{Change, ChangeFile, State};
 use std::alloc::{AllocError, Global};
-
-fn is_at(row: &(Path, Content), path: &[u8]) -> bool
-    ensures { result ≡ bytes_eq path.now row.now.0 }
-{
-    path == row.0.bytes()
-}
-
-// The first row of a path.
-fn row_of<'a>(rows: &'a [(Path, Content)], path: &[u8]) -> Option<&'a (Path, Content)>
-    ensures { option_copied result ≡ find (λ row. bytes_eq path.now row.0) rows.now }
-{
-    rows.iter().find(|row| is_at(row, path))
-}
-
-/// The bytes that were read at a path.
-pub(crate) fn bytes_at<'a>(view: &'a View, path: &[u8]) -> Option<&'a Text>
-    ensures { option_copied result ≡ bytes_of (read_at view.now path.now) }
-{
-    match row_of(view.develop.as_slice(), path) {
-        Some((_, Content::Bytes(bytes))) => Some(bytes),
-        _ => None,
-    }
-}
 
 fn text_copy(alloc: Global, text: Option<&Text>) -> Result<Option<Text>, AllocError>
     ensures { IfOk result (λ copy. copy ≡ option_copied text.entry) }
@@ -128,10 +104,10 @@ pub(crate) fn paths_read(
 // ---- whether they are as asked
 
 // Why what was read at a path is refused.
-fn content_refused(alloc: Global, view: &View, path: &Path) -> Result<Option<Refusal>, AllocError>
-    ensures { IfOk result (λ refusal. refusal ≡ content_is_good path.now (read_at view.now path.now)) }
+fn content_refused(alloc: Global, seen: &Seen, path: &Path) -> Result<Option<Refusal>, AllocError>
+    ensures { IfOk result (λ refusal. refusal ≡ content_is_good path.now (read_at seen.now.view.now path.now)) }
 {
-    match row_of(view.develop.as_slice(), path.bytes()) {
+    match seen.row(path.bytes()) {
         Some((_, Content::Bytes(_))) => Ok(None),
         Some((_, Content::TooLong)) => Ok(Some(Refusal::Limit(Which::FileBytes, 4_194_304))),
         Some((_, Content::Absent)) | None => Ok(Some(Refusal::FileMissing(path.copy(alloc)?))),
@@ -146,8 +122,9 @@ pub(crate) fn contents_refused(
 ) -> Result<Option<Refusal>, AllocError>
     ensures { IfOk result (λ refusal. refusal ≡ first_content_refused view.now paths.now) }
 {
+    let seen = Seen::of(view);
     for path in paths {
-        if let Some(refusal) = content_refused(alloc, view, path)? {
+        if let Some(refusal) = content_refused(alloc, &seen, path)? {
             return Ok(Some(refusal));
         }
     }
@@ -161,32 +138,38 @@ pub(crate) fn tree_read(alloc: Global, view: &View, paths: &[Path]) -> Result<Sn
     requires { Ascends text_cmp itself paths.now }
     ensures { IfOk result (λ tree. tree ≡ map (λ path. (path, bytes_of (read_at view.now path))) paths.now) }
 {
+    let seen = Seen::of(view);
     let mut rows = Vec::new(alloc);
     for path in paths {
-        let bytes = text_copy(alloc, bytes_at(view, path.bytes()))?;
+        let bytes = text_copy(alloc, seen.bytes_at(path.bytes()))?;
         rows.push((path.copy(alloc)?, bytes))?;
     }
     Ok(Snapshot::of(rows))
 }
 
 // The bytes that were read of a file, none where the change removes it.
-fn bytes_read(alloc: Global, view: &View, file: &ChangeFile) -> Result<Option<Text>, AllocError>
-    ensures { IfOk result (λ bytes. bytes ≡ bytes_read view.now file.now) }
+fn bytes_read(alloc: Global, seen: &Seen, file: &ChangeFile) -> Result<Option<Text>, AllocError>
+    ensures { IfOk result (λ bytes. bytes ≡ bytes_read seen.now.view.now file.now) }
 {
     match file.action {
         Action::Remove => Ok(None),
-        _ => text_copy(alloc, bytes_at(view, file.path.bytes())),
+        _ => text_copy(alloc, seen.bytes_at(file.path.bytes())),
     }
 }
 
-// The change's files with what was read of them, the removed ones too.
-fn change_tree(alloc: Global, view: &View, files: &[ChangeFile]) -> Result<Snapshot, AllocError>
+/// The change's files with what was read of them, the removed ones too.
+pub(crate) fn change_tree(
+    alloc: Global,
+    view: &View,
+    files: &[ChangeFile],
+) -> Result<Snapshot, AllocError>
     requires { Ascends text_cmp file_path files.now }
     ensures { IfOk result (λ tree. tree ≡ map (λ (file : ChangeFile). (file.path, bytes_read view.now file)) files.now) }
 {
+    let seen = Seen::of(view);
     let mut rows = Vec::new(alloc);
     for file in files {
-        rows.push((file.path.copy(alloc)?, bytes_read(alloc, view, file)?))?;
+        rows.push((file.path.copy(alloc)?, bytes_read(alloc, &seen, file)?))?;
     }
     Ok(Snapshot::of(rows))
 }
@@ -245,5 +228,5 @@ pub(crate) fn config_seen<'a>(
             return Ok(None);
         }
     }
-    Ok(bytes_at(view, b"aegis.conf"))
+    Ok(Seen::of(view).bytes_at(b"aegis.conf"))
 }

@@ -1,5 +1,6 @@
 // Which runs a build or a test is to make, and with which values.
 ghost use Rattle.std.specs.Prelude.{◌≡◌, ◌∷◌, ◌<◌, [], ℕ, List, None, length, true, IfOk, IfSome, option_copied};
+ghost use Rattle.ae_base.specs.Limits.{most_deltas};
 ghost use Rattle.ae_base.specs.Names.{IsPath};
 ghost use Rattle.ae_base.specs.declared.words.Kind.{Kind};
 ghost use Rattle.ae_types.specs.Found.{file_path};
@@ -120,7 +121,7 @@ fn last_of(deltas: &[DeltaRow]) -> Delta
 }
 
 /// The number of the last delta, 0 where there is none.
-pub(crate) fn last_delta(state: &State) -> Delta
+pub fn last_delta(state: &State) -> Delta
     ensures { result ≡ last_delta state.now }
 {
     last_of(state.project().deltas.as_slice())
@@ -128,7 +129,7 @@ pub(crate) fn last_delta(state: &State) -> Delta
 
 /// The delta of a run: in development the last one, in integration the one to be.
 pub(crate) fn delta_of_run(state: &State, change: &Change) -> Delta
-    requires { is_integrating change.now.phase ≡ true → length state.now.project.deltas < 1990 }
+    requires { is_integrating change.now.phase ≡ true → length state.now.project.deltas < most_deltas }
     ensures { (command : _) (who : List ℕ) → result ≡ delta_of_run (call_of state.now command who) change.now }
 {
     let last = last_delta(state);

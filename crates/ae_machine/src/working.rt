@@ -16,8 +16,8 @@ use ae_types::{Change, State};
 use ae_words::Command;
 use std::alloc::{AllocError, Global};
 
-// Why a user who doesn't integrate the change is refused. It is being integrated.
-fn not_this_integrator(
+/// Why a user who doesn't integrate the change is refused. It is being integrated.
+pub(crate) fn not_this_integrator(
     alloc: Global,
     change: &Change,
     who: &User,
