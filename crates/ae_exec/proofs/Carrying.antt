@@ -287,6 +287,14 @@ ending o (Some c) tree to places s m = go (change_at o c) refl m
     }
     go None at_c m = absurd m
 
+-- the pieces of an event that may come are pieces of the region
+pub end-pieces-good : (o : Observation) → Sound o → (event : Event) → Applies o event → are_pieces (pieces_by event.what) ≡ true
+end-pieces-good o s event m = go event.what m.comes
+  where
+    go : (kind : EventKind) → AppliesBy o event.change kind → are_pieces (pieces_by kind) ≡ true
+    go (on.End tree to places) applies = let end = ending o event.change tree to places s applies in end-pieces o tree places end.up end.space
+    go kind applies = refl
+
 module _ (log : Log) (event : Event) (o : Observation) (stands : observation log ≡ Some o) (s : Sound o) (m : Applies o event) (all-made : VersionsAreMade log) where
   there-before : (place : Place) (v : VersionRef) → version_at o.files o.changes place ≡ Some v → version_in (observation log) place ≡ Some v
   there-before place v e = ap (λ (x : Option Observation). version_in x place) stands ∙ e
@@ -319,10 +327,6 @@ module _ (log : Log) (event : Event) (o : Observation) (stands : observation log
   apart-by (on.End tree to places) applies place v e = let end = ending o event.change tree to places s applies in end-apart o tree places end.up end.space place v e
   apart-by kind applies place v e = λ k covered low high. covered
 
-  pieces-good : (kind : EventKind) → AppliesBy o event.change kind → are_pieces (pieces_by kind) ≡ true
-  pieces-good (on.End tree to places) applies = let end = ending o event.change tree to places s applies in end-pieces o tree places end.up end.space
-  pieces-good kind applies = refl
-
   there-is : (place : Place) (v : VersionRef) → version_in (observation log) place ≡ Some v → version_at o.files o.changes place ≡ Some v
   there-is place v e = ap (λ (x : Option Observation). version_in x place) (sym stands) ∙ e
 
@@ -333,7 +337,7 @@ module _ (log : Log) (event : Event) (o : Observation) (stands : observation log
       each = λ place v e. (from v (comes o event s m.comes place v (there-after place v e))).carried;
     };
     made = λ place v e. (from v (comes o event s m.comes place v (there-after place v e))).was_made;
-    pieces = pieces-good event.what m.comes;
+    pieces = end-pieces-good o s event m;
   }
 
 pub versions-follow : VersionsFollow

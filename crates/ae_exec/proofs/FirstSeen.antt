@@ -4,6 +4,7 @@ use Rattle.std.specs.List.{cons_option, find, list_all}
 use Rattle.std.specs.Option.{option_or}
 use Rattle.std.specs.Str.{bytes_eq}
 use Rattle.std.proofs.Common.{refl, sym, ap, subst, ◌∙◌, inl, inr, cond}
+use Rattle.std.proofs.lemmas.List.{append-nil}
 use Rattle.std.proofs.lemmas.List.Folds.{find-append}
 use Rattle.ae_outside.specs.declared.dir.Content.{Content}
 use Rattle.ae_outside.specs.declared.dir.Content.TheVariants.{Bytes}
@@ -21,21 +22,32 @@ use Rattle.ae_words.specs.declared.table.Function.{Function}
 use Rattle.ae_words.specs.declared.table.Function.TheVariants as function
 use Rattle.ae_words.specs.Meaning.{is_config}
 use Rattle.ae_machine.specs.declared.view.View.{View}
-use Rattle.ae_machine.specs.Call.{Call, Given, call_of, change_named}
+use Rattle.ae_machine.specs.Call.{Call, Given, call_of, change_named, given_of}
 use Rattle.ae_machine.specs.Called.{files_seen}
 use Rattle.ae_machine.specs.Fits.{config_asked, config_row, makes_runs, path_of_row, paths_asked, reads_files}
 use Rattle.ae_machine.specs.Freezing.{is_these}
 use Rattle.ae_machine.specs.Jobs.{dir_of_files}
-use Rattle.ae_machine.specs.Sight.{config_below, config_path, content_of, has_config, kept_paths, paths_read, row_at}
-use Rattle.ae_machine.specs.Versions.{ShowsVersions, config_version, is_shown, versions_of_runs}
+use Rattle.ae_machine.specs.Sight.{config_below, config_path, content_of, has_config, kept_paths, paths_read, row_at, with_bytes}
+use Rattle.ae_machine.specs.Space.{placing}
+use Rattle.ae_machine.specs.Versions.{ShowsVersions, config_version, first_differing, is_shown, rows_compared, versions_of_runs}
+use Rattle.ae_machine.proofs.AskedFor.{none-differs}
 use Rattle.ae_machine.proofs.Lists.{filter-in, flipped, found-so}
-use Rattle.ae_exec.specs.Runs.{IsDeveloped}
-use Rattle.ae_exec.proofs.MadeKinds.{never}
+use Rattle.ae_exec.specs.Reading.{compared_for}
+use Rattle.ae_exec.proofs.Never.{never}
 
 pub runs-read-files : (f : Function) → makes_runs f ≡ true → reads_files f ≡ true
 runs-read-files function.Build is = refl
 runs-read-files function.Test is = refl
 runs-read-files _ is = never is
+
+-- only a function that reads files asks for paths
+pub asked-reads : (call : Call) (c : Option Change) → (paths_asked call c ≡ [] → ⊥) → reads_files call.command.function ≡ true
+asked-reads call None some = absurd (some refl)
+asked-reads call (Some change) some = go (reads_files call.command.function) refl
+  where
+    go : (b : Bool) → reads_files call.command.function ≡ b → b ≡ true
+    go true is = refl
+    go false is = absurd (some (ap (λ (b : Bool). if b then paths_read call change else []) is))
 
 -- the files that are read, in the directory where they are read
 pub seen-there : (call : Call) (c : Option Change) (state : SiteState) → files_seen call c state ≡ contents 4194304 (state.trees (dir_of_files call c)) (paths_asked call c)
@@ -76,9 +88,13 @@ config-at rows row is = flipped row.path config_path ∙ (found-so (λ (r : Tree
 
 -- ---- so the baseline's aegis.conf is seen there
 
-module _ (o : Observation) (bytes : ℕ → List ℕ) (command : Command) (who : List ℕ) (seen : View) (rows : List (List ℕ × Content)) where
+module _ (o : Observation) (bytes : ℕ → List ℕ) (command : Command) (who : List ℕ) (seen alone : View) where
   abbrev call : Call
   call = call_of o command who
+
+  -- the files that are read
+  abbrev rows : List (List ℕ × Content)
+  rows = alone.develop
 
   one-shown : (change : Change) → has_config change ≡ false → map path_of_row rows ≡ kept_paths change → (row : TreeRow) → row_at (baseline_of o) config_path ≡ Some row
       → seen.develop ≡ rows ++ (row.path, Bytes (bytes row.version.number)) ∷ [] → is_shown bytes seen row ≡ true
@@ -106,11 +122,17 @@ module _ (o : Observation) (bytes : ℕ → List ℕ) (command : Command) (who :
       go true has here = refl
       go false none here = found (row_at (baseline_of o) config_path) refl none here
 
-  pub rows-show : makes_runs command.function ≡ true → IsDeveloped o command → seen.develop ≡ rows ++ config_row bytes (config_version call (change_named o command.change))
-      → map path_of_row rows ≡ paths_asked call (change_named o command.change) → ShowsVersions (Some o) bytes command who seen
-  rows-show makes developed is paths =
+  -- where nothing stands after the files that are read, and none differs from its version, they show the versions
+  compared-shown : (compared : List TreeRow) → seen.develop ≡ rows ++ [] → first_differing alone (with_bytes bytes compared) ≡ None → list_all (is_shown bytes seen) compared ≡ true
+  compared-shown compared is none =
+      ap (λ (l : List (List ℕ × Content)). list_all (λ (row : TreeRow). is_these (bytes row.version.number) (content_of (find (λ (r : List ℕ × Content). bytes_eq row.path r.0) l))) compared) (is ∙ append-nil rows)
+      ∙ none-differs (given_of placing o bytes command who 0 alone) compared none
+
+  pub rows-show : makes_runs command.function ≡ true → seen.develop ≡ rows ++ config_row bytes (config_version call (change_named o command.change))
+      → map path_of_row rows ≡ paths_asked call (change_named o command.change) → first_differing alone (with_bytes bytes (compared_for command o)) ≡ None → ShowsVersions (Some o) bytes command who seen
+  rows-show makes is paths none =
       ap (λ (b : Bool). list_all (is_shown bytes seen) (if b then versions_of_runs call (change_named o command.change) else [])) makes
-      ∙ go (change_named o command.change) refl (is ∙ ap (λ (v : Option TreeRow). rows ++ config_row bytes v) (version-is (change_named o command.change))) paths
+      ∙ go (change_named o command.change) (is ∙ ap (λ (v : Option TreeRow). rows ++ config_row bytes v) (version-is (change_named o command.change))) paths none
     where
       below-of : Option Change → Option TreeRow
       below-of (Some change) = config_below call change
@@ -125,12 +147,21 @@ module _ (o : Observation) (bytes : ℕ → List ℕ) (command : Command) (who :
           ap (λ (b : Bool). if b then paths_read call change else []) (runs-read-files command.function makes)
           ∙ ap (λ (b : Bool). if b then Rattle.ae_types.specs.Trees.paths_of (candidate_of o change) else kept_paths change) dev
 
-      go : (c : Option Change) → change_named o command.change ≡ c → seen.develop ≡ rows ++ config_row bytes (below-of c) → map path_of_row rows ≡ paths_asked call c
-          → list_all (is_shown bytes seen) (versions_of_runs call c) ≡ true
-      go (Some change) named here are =
-          ap (λ (b : Bool). list_all (is_shown bytes seen) (if b then candidate_of o change else cons_option (config_below call change) [])) (developed change named)
-          ∙ config-shown change (developed change named) (are ∙ read change (developed change named)) here
-      go None named here are = refl
+      by : (change : Change) (b : Bool) → is_integrating change.phase ≡ b → seen.develop ≡ rows ++ config_row bytes (config_below call change) → map path_of_row rows ≡ paths_asked call (Some change)
+          → first_differing alone (with_bytes bytes (rows_compared (call_of o command []) (Some change))) ≡ None → list_all (is_shown bytes seen) (versions_of_runs call (Some change)) ≡ true
+      by change false developed here are same =
+          ap (λ (b : Bool). list_all (is_shown bytes seen) (if b then candidate_of o change else cons_option (config_below call change) [])) developed
+          ∙ config-shown change developed (are ∙ read change developed) here
+      by change true integrated here are same =
+          ap (λ (b : Bool). list_all (is_shown bytes seen) (if b then candidate_of o change else cons_option (config_below call change) [])) integrated
+          ∙ compared-shown (candidate_of o change)
+          (here ∙ ap (λ (b : Bool). rows ++ config_row bytes (if b then None else if has_config change then None else row_at (baseline_of o) config_path)) integrated)
+          (sym (ap (λ (b : Bool). first_differing alone (with_bytes bytes (if b then candidate_of o change else []))) integrated) ∙ same)
+
+      go : (c : Option Change) → seen.develop ≡ rows ++ config_row bytes (below-of c) → map path_of_row rows ≡ paths_asked call c
+          → first_differing alone (with_bytes bytes (rows_compared (call_of o command []) c)) ≡ None → list_all (is_shown bytes seen) (versions_of_runs call c) ≡ true
+      go (Some change) here are same = by change (is_integrating change.phase) refl here are same
+      go None here are same = refl
 
 -- ---- it is what stands after the files that are read
 

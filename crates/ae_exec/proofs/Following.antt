@@ -1,5 +1,5 @@
 -- What follows of an answer to a command.
-use Rattle.std.specs.Prelude.{◌≡◌, ◌⊎◌, ℕ, true, false, Bool, List, [], ◌∷◌, Option, Some, None, IfSome, IsSome, IsSomeAnd, is_some, if◌then◌else◌, Result, Ok, Err, IfOk}
+use Rattle.std.specs.Prelude.{◌≡◌, ◌⊎◌, ℕ, true, false, Bool, List, [], ◌∷◌, Option, Some, None, IfSome, IsSome, IsSomeAnd, is_some, if◌then◌else◌, Result, Ok, Err, IfOk, All}
 use Rattle.std.specs.List.{list_all}
 use Rattle.std.proofs.Common.{inl, inr, refl, sym, ap, subst, ◌∙◌}
 use Rattle.std.proofs.lemmas.List.Elements.{All-nil, All-cons, All-map, All-same, All-tail}
@@ -13,14 +13,14 @@ use Rattle.ae_types.specs.Observation.{Observation}
 use Rattle.ae_types.specs.Sound.{Sound}
 use Rattle.ae_log.specs.declared.event.Event.{Event}
 use Rattle.ae_log.specs.After.{started, after, after_all}
-use Rattle.ae_log.specs.Applies.{MayApply}
+use Rattle.ae_log.specs.Applies.{MayApply, IsProject}
 use Rattle.ae_log.proofs.Keeping.{keeps, may-be-applied}
 use Rattle.ae_log.specs.Files.{version_bytes}
 use Rattle.ae_log.specs.Log.{Log, followed}
 use Rattle.ae_log.specs.Observed.{observation}
 use Rattle.ae_machine.specs.declared.verdict.Verdict.{Verdict}
 use Rattle.ae_machine.specs.declared.verdict.Verdict.TheVariants.{Accept, Refuse}
-use Rattle.ae_machine.specs.Accepted.{AppliesAll, AreStart, IsDecided, decided}
+use Rattle.ae_machine.specs.Accepted.{AppliesAll, AreStart, IsDecided, decided, RowsShort, ends_development}
 use Rattle.ae_machine.specs.Call.{Given, call_of, change_of, given_of, first_of}
 use Rattle.ae_machine.specs.Called.{Called, answer_to, attributes_seen, occasion_after, only_attributes, answer_after, view}
 use Rattle.ae_machine.specs.Legal.{Legal, Occasion, verdict_after}
@@ -31,20 +31,23 @@ use Rattle.ae_base.specs.declared.refusal.Refusal.TheVariants.{NoProject, Projec
 use Rattle.ae_words.specs.declared.command.Command.{Command}
 use Rattle.ae_machine.specs.declared.view.View.{View}
 use Rattle.ae_machine.specs.Verdict.{answer, refusal, refusal_before, refused_before, asked_of_sight, new_project, events_of, event_of, kinds_of, is_new_project, change_of_events, verdict, verdict_on}
-use Rattle.ae_exec.specs.Next.{next_of, MayBegin, MayFollow, AreMade, IfAccepted, IsComplete}
+use Rattle.ae_exec.specs.Next.{next_of, MayBegin, MayFollow, IfAccepted, IsComplete}
 use Rattle.ae_exec.specs.Plan.{IsPlanned, IsStep}
 use Rattle.ae_exec.specs.declared.reply.Finished.{Finished}
 use Rattle.ae_exec.specs.Bytes.{HaveBytes, ShowsLog}
-use Rattle.ae_exec.specs.Seen.{IsAnswer, IsDecidedSo, IsRefusedOn, ReadsForAnswer}
+use Rattle.ae_exec.specs.Seen.{IsAnswer, IsDecidedSo, IsRefusedOn, ReadsForAnswer, seen_alone}
 use Rattle.ae_machine.specs.Fits.{makes_runs}
 use Rattle.ae_machine.specs.Versions.{ShowsVersions, is_shown, versions_of_runs}
-use Rattle.ae_exec.specs.Said.{is_made}
+use Rattle.ae_exec.specs.Writing.{FitsRegion, MayBePut}
+use Rattle.ae_exec.proofs.Commands.{commands-write}
 use Rattle.ae_machine.proofs.Accepted.{accepted-apply}
 use Rattle.ae_machine.proofs.AcceptedLogs.{accepted-starts, accepted-follow, first-follow, legal-stands}
-use Rattle.ae_exec.proofs.MadeKinds.{project-made, kinds-made}
+use Rattle.ae_exec.proofs.InRegion.{kinds-fit}
 use Rattle.ae_exec.proofs.Numbered.{complete}
 use Rattle.ae_exec.proofs.Quiet.{quiet-view}
 use Rattle.ae_exec.proofs.Stores.{one}
+use Rattle.ae_log.specs.declared.event.EventKind.{EventKind}
+use Rattle.ae_log.specs.declared.event.EventKind.TheVariants as on
 
 -- ---- the events of an accepted command
 
@@ -57,12 +60,17 @@ may-follow None bytes occasion (Accept events) sound is shows answers = may-begi
 may-follow (Some o) bytes occasion (Accept events) sound is shows answers = accepted-apply o bytes occasion events sound is (answers bytes shows)
 may-follow o bytes occasion (Refuse _) sound is shows answers = tt
 
--- ---- they are of the kinds that are made so far
+-- ---- they may be put
 
-start-made : (events : List Event) → AreStart events → AreMade events
-start-made events start =
-    All-same (λ (event : Event). is_made event.what ≡ true) events (start.event ∷ []) start.only
-    (All-cons (λ (event : Event). is_made event.what ≡ true) start.event [] (project-made start.event.what start.starts.project) (All-nil (λ (event : Event). is_made event.what ≡ true)))
+start-fits : (kind : EventKind) → IsProject kind → FitsRegion kind
+start-fits (on.Project name attributes) is = tt
+start-fits kind is = absurd is
+
+start-put : (events : List Event) → AreStart events → MayBePut events
+start-put events start = subst MayBePut (sym start.only) (record {
+  fit = All-cons (λ (event : Event). FitsRegion event.what) start.event [] (start-fits start.event.what start.starts.project) (All-nil (λ (event : Event). FitsRegion event.what));
+  one = refl;
+})
 
 -- the events of a command that isn't refused
 accepted-are : (why : Option Refusal) (made events : List Event) → answer why made ≡ Accept events → events ≡ made
@@ -73,19 +81,21 @@ behind : (new : Bool) (given : Given) (events : List Event) (refusal : Refusal) 
 behind true given events refusal is = cc
 behind false given events why is = accepted-are (refusal given) (events_of given) events is
 
-events-made : (given : Given) → is_there_yet given.call.command.function ≡ true → AreMade (events_of given)
-events-made given there =
-    All-map (λ (event : Event). is_made event.what ≡ true) (event_of given.call.who given.when (change_of_events given.call.command.function given.call)) (kinds_of given.call.command.function given)
-    (kinds-made given.call.command.function given there)
+events-fit : (given : Given) → given.places ≡ placing → (ends_development given.call.command.function ≡ true → RowsShort given.view) → All (λ (event : Event). FitsRegion event.what) (events_of given)
+events-fit given is short =
+    All-map (λ (event : Event). FitsRegion event.what) (event_of given.call.who given.when (change_of_events given.call.command.function given.call)) (kinds_of given.call.command.function given)
+    (kinds-fit given.call.command.function given is short)
 
-pub all-made : (o : Option Observation) (bytes : ℕ → List ℕ) (occasion : Occasion) (v : Verdict) → IsDecided occasion → ShowsVersions o bytes occasion.command occasion.who occasion.view
-    → IsDecidedSo o occasion.command occasion.who occasion.when occasion.view v → IfAccepted v AreMade
-all-made None bytes occasion (Accept events) is shows answers = start-made events (accepted-starts bytes occasion events (answers bytes shows))
-all-made (Some o) bytes occasion (Accept events) is shows answers =
+pub all-put : (o : Option Observation) (bytes : ℕ → List ℕ) (occasion : Occasion) (v : Verdict) → IsDecided occasion → ShowsVersions o bytes occasion.command occasion.who occasion.view
+    → IsDecidedSo o occasion.command occasion.who occasion.when occasion.view v → IfAccepted v MayBePut
+all-put None bytes occasion (Accept events) is shows answers = start-put events (accepted-starts bytes occasion events (answers bytes shows))
+all-put (Some o) bytes occasion (Accept events) is shows answers =
     let given = given_of placing o bytes occasion.command occasion.who occasion.when occasion.view in
-    All-same (λ (event : Event). is_made event.what ≡ true) events (events_of given) (behind (is_new_project occasion.command.function) given events _ (answers bytes shows))
-    (events-made given is.there)
-all-made o bytes occasion (Refuse _) is shows answers = tt
+    record {
+      fit = All-same (λ (event : Event). FitsRegion event.what) events (events_of given) (behind (is_new_project occasion.command.function) given events _ (answers bytes shows)) (events-fit given refl is.short);
+      one = commands-write o bytes occasion events (answers bytes shows);
+    }
+all-put o bytes occasion (Refuse _) is shows answers = tt
 
 -- ---- the refusal that comes before reading
 
@@ -122,11 +132,11 @@ same_answer o command who when seen other v w same_view same_v answers =
     subst (λ (x : Verdict). IsDecidedSo o command who when other x) same_v (subst (λ (x : View). IsDecidedSo o command who when x v) same_view answers)
 
 -- the answer with what is seen
-pub seen_answer : (files : Option Image) (o : Option Observation) (called : Called) (v : Verdict) → is_there_yet called.command.function ≡ true → makes_runs called.command.function ≡ false
-    → IsDecidedSo o called.command called.who called.when (only_attributes (attributes_seen called.before called.command.attributes)) v → IsAnswer files o called v
-seen_answer files o called v there none answers bytes have =
-    subst (λ (x : View). verdict placing o bytes called.command called.who called.when x ≡ v) (sym (quiet-view o bytes called there none))
-    (answers bytes (quiet-shows o bytes called.command called.who (only_attributes (attributes_seen called.before called.command.attributes)) none))
+pub seen_answer : (files : Option Image) (o : Option Observation) (called : Called) (v : Verdict) → makes_runs called.command.function ≡ false
+    → IsDecidedSo o called.command called.who called.when (seen_alone o called) v → IsAnswer files o called v
+seen_answer files o called v none answers bytes have =
+    subst (λ (x : View). verdict placing o bytes called.command called.who called.when x ≡ v) (sym (quiet-view o bytes called none))
+    (answers bytes (quiet-shows o bytes called.command called.who (seen_alone o called) none))
 
 pub if_answered : {E : Type 0} (result : Result Verdict E) (f : (ℕ → List ℕ) → Verdict) (P : (ℕ → List ℕ) → Type 0) → ((bytes : ℕ → List ℕ) → P bytes → IfOk result (λ v. v ≡ f bytes)) → IfOk result (λ v. (bytes : ℕ → List ℕ) → P bytes → f bytes ≡ v)
 if_answered (Ok v) f P is = λ bytes shows. sym (is bytes shows)
@@ -134,15 +144,13 @@ if_answered (Err error) f P is = tt
 
 -- one event more is applied
 pub one_more : (o next : Observation) (events rest : List Event) (event : Event) (end : Observation) → events ≡ event ∷ rest → next ≡ after o event
-    → (after_all o events ≡ end) × AppliesAll o events × AreMade events × Sound o → (after_all next rest ≡ end) × AppliesAll next rest × AreMade rest × Sound next
+    → (after_all o events ≡ end) × AppliesAll o events × Sound o → (after_all next rest ≡ end) × AppliesAll next rest × Sound next
 one_more o next events rest event end is made so_far =
     let applies : AppliesAll o (event ∷ rest) = subst (λ (es : List Event). AppliesAll o es) is so_far.1 in
-    let all : after_all o (event ∷ rest) ≡ end = subst (λ (es : List Event). after_all o es ≡ end) is so_far.0 in
-    let are : AreMade (event ∷ rest) = subst AreMade is so_far.2 in (
+    let all : after_all o (event ∷ rest) ≡ end = subst (λ (es : List Event). after_all o es ≡ end) is so_far.0 in (
       subst (λ (n : Observation). after_all n rest ≡ end) (sym made) all,
       subst (λ (n : Observation). AppliesAll n rest) (sym made) applies.1,
-      All-tail (λ (e : Event). is_made e.what ≡ true) event rest are,
-      subst Sound (sym made) (keeps o event so_far.3 applies.0),
+      subst Sound (sym made) (keeps o event so_far.2 applies.0),
     )
 
 -- the first of these events may be applied

@@ -19,20 +19,20 @@ use Rattle.ae_machine.specs.declared.verdict.Verdict.{Verdict}
 use Rattle.ae_machine.specs.declared.view.RunRow.{RunRow}
 use Rattle.ae_machine.specs.declared.view.View.{View}
 use Rattle.ae_machine.specs.Call.{call_of, change_named, given_of}
-use Rattle.ae_machine.specs.Called.{Called, given_at, given_before, view}
+use Rattle.ae_machine.specs.Called.{Called, given_at, view}
 use Rattle.ae_machine.specs.Directories.{dirs_after}
 use Rattle.ae_machine.specs.Fits.{makes_runs}
 use Rattle.ae_machine.specs.Real.{IsLeft, dir_of_runs}
 use Rattle.ae_machine.specs.Space.{placing}
 use Rattle.ae_machine.specs.Verdict.{refused_before, verdict}
-use Rattle.ae_machine.specs.Versions.{ShowsVersions, files_refused}
+use Rattle.ae_machine.specs.Versions.{ShowsVersions}
 use Rattle.ae_exec.specs.Bytes.{HaveBytes}
 use Rattle.ae_exec.specs.Reading.{AreKept, FirstIsLost, IsLostAmong, asked_of, reads_of, versions_for_answer, versions_for_runs}
-use Rattle.ae_exec.specs.Runs.{AreForRuns, HaveRun, IsDeveloped}
-use Rattle.ae_exec.specs.Seen.{IsAnswer, IsDecidedSo, IsRefusedOn, files_alone, no_bytes}
+use Rattle.ae_exec.specs.Runs.{AreForRuns, HaveRun}
+use Rattle.ae_exec.specs.Seen.{FilesRefuse, IsAnswer, IsDecidedSo, IsRefusedOn}
 use Rattle.ae_exec.proofs.PathRows.{reads-found}
 use Rattle.ae_exec.proofs.ReadInOrder.{lost-right}
-use Rattle.ae_exec.proofs.RunAnswers.{alone-refused, files-answer, unrun-view}
+use Rattle.ae_exec.proofs.RunAnswers.{files-answer, unrun-view}
 use Rattle.ae_exec.proofs.RunLeft.{named-there, run-left, seen-with}
 use Rattle.ae_exec.proofs.RunVersions.{both-kept, runs-read}
 use Rattle.ae_exec.proofs.ShortConfig.{short-config}
@@ -51,14 +51,14 @@ module _ (files : Option Image) (o : Observation) (called : Called) where
   unrun-answer seen v still is shows decided = λ bytes have.
       ap (verdict placing (Some o) bytes called.command called.who called.when) (unrun-view o bytes called (ap (λ (s : SiteState). s.runs) still) ∙ sym (is bytes have)) ∙ decided bytes (shows bytes have)
 
-  -- a file that is missing or too long
-  pub refused-alone : makes_runs called.command.function ≡ true → refused_before (Some o) called.command called.who ≡ None → IsDeveloped o called.command → called.after ≡ called.before → (refusal : Refusal)
-      → files_refused (given_before o no_bytes called (files_alone o called)) ≡ Some refusal → IsRefusedOn files (Some o) called refusal
-  refused-alone makes none developed still refusal is = record {
+  -- where its files refuse it
+  pub refused-so : makes_runs called.command.function ≡ true → refused_before (Some o) called.command called.who ≡ None → called.after ≡ called.before → (refusal : Refusal)
+      → FilesRefuse files o called refusal → IsRefusedOn files (Some o) called refusal
+  refused-so makes none still refusal is = record {
     answer = λ bytes have.
         ap (verdict placing (Some o) bytes called.command called.who called.when) (unrun-view o bytes called (ap (λ (s : SiteState). s.runs) still))
-        ∙ files-answer o bytes called.command called.who called.when (given_at o bytes called).view refusal makes none (alone-refused o bytes called makes developed ∙ is);
-    kept = λ passes. let both : Some refusal ≡ None = sym is ∙ passes.files in cc;
+        ∙ files-answer o bytes called.command called.who called.when (given_at o bytes called).view refusal makes none (is.right bytes have);
+    kept = λ passes. is.kept passes.files;
   }
 
 -- ---- the versions that are read
@@ -80,7 +80,7 @@ module _ (o : Observation) (command : Command) (who : List ℕ) (formed : IsForm
 -- ---- with its runs
 
 module _ (files : Option Image) (o : Observation) (called : Called) (s : Sound o) (makes : makes_runs called.command.function ≡ true) (formed : IsFormed called.command)
-    (none : refused_before (Some o) called.command called.who ≡ None) (developed : IsDeveloped o called.command) (asked : AreKept files (asked_of called.command (Some o))) (kept : AreKept files (versions_for_runs called.command o))
+    (none : refused_before (Some o) called.command called.who ≡ None) (asked : AreKept files (asked_of called.command (Some o))) (kept : AreKept files (versions_for_runs called.command o))
     (bytes : ℕ → List ℕ) (have : HaveBytes files (Some o) bytes) (seen : View) (is_seen : seen ≡ (given_at o bytes called).view)
     (dir : Dir) (changes : List DirChange) (tracked : Rows) (jobs : List Job) (rows : List RunRow)
     (is_dir : dir ≡ dir_of_runs (call_of o called.command called.who) (change_named o called.command.change))
@@ -91,7 +91,7 @@ module _ (files : Option Image) (o : Observation) (called : Called) (s : Sound o
 
   held : tracked ≡ reads.tracked_in (dirs_after changes called.before.trees dir) tracked
   held =
-      tracked-holds o files bytes called s have makes developed changes tracked jobs are-at up
+      tracked-holds o files bytes called s have makes changes tracked jobs are-at up
       ∙ (λ i. reads.tracked_in (dirs_after changes called.before.trees (sym is_dir i)) tracked)
 
   short : IsShortConfig (given_at o bytes called)

@@ -1,18 +1,22 @@
 -- The answer to a command with runs: before its files are read, before its runs are made, and with them.
-use Rattle.std.specs.Prelude.{◌≡◌, ℕ, Bool, true, if◌then◌else◌, List, [], ◌∷◌, ◌++◌, Option, Some, None}
+use Rattle.std.specs.Prelude.{◌≡◌, ℕ, Bool, true, false, not, if◌then◌else◌, List, [], ◌∷◌, ◌++◌, Option, Some, None}
 use Rattle.std.specs.List.{find}
-use Rattle.std.specs.Option.{option_and_then, option_or}
+use Rattle.std.specs.Option.{option_and_then, option_map, option_or}
 use Rattle.std.specs.Str.{bytes_eq}
 use Rattle.std.proofs.Common.{refl, sym, ap, subst, ◌∙◌, inl, inr}
 use Rattle.std.proofs.lemmas.List.{append-nil}
 use Rattle.ae_base.specs.Rows.{paths_of}
 use Rattle.ae_base.specs.declared.refusal.Refusal.{Refusal}
+use Rattle.ae_base.specs.declared.refusal.Refusal.TheVariants.{Differs}
 use Rattle.ae_outside.specs.declared.dir.Content.{Content}
+use Rattle.ae_outside.specs.Image.{Image}
 use Rattle.ae_outside.specs.Site.{RunMade, contents}
 use Rattle.ae_outside.specs.Trees.{Tree}
 use Rattle.ae_types.specs.declared.change.Change.{Change}
 use Rattle.ae_types.specs.Observation.{Observation}
+use Rattle.ae_types.specs.Phases.{is_integrating}
 use Rattle.ae_types.specs.Runs.{Needed}
+use Rattle.ae_types.specs.Trees.{TreeRow, baseline_of, candidate_of}
 use Rattle.ae_types.proofs.Members.{In}
 use Rattle.ae_words.specs.declared.command.Command.{Command}
 use Rattle.ae_words.specs.declared.table.Function.{Function}
@@ -21,19 +25,21 @@ use Rattle.ae_log.specs.declared.event.Event.{Event}
 use Rattle.ae_machine.specs.declared.verdict.Verdict.TheVariants.{Accept, Refuse}
 use Rattle.ae_machine.specs.declared.view.RunRow.{RunRow}
 use Rattle.ae_machine.specs.declared.view.View.{View}
-use Rattle.ae_machine.specs.Call.{Given, change_named, change_of, first_of, given_of}
+use Rattle.ae_machine.specs.Call.{Given, call_of, change_named, change_of, first_of, given_of}
 use Rattle.ae_machine.specs.Called.{Called, files_dir, files_seen, given_at, given_before, new_runs, nothing_seen, rows_of, view}
-use Rattle.ae_machine.specs.Fits.{config_asked, makes_runs, paths_asked, runs_asked, tracked_in}
-use Rattle.ae_machine.specs.Freezing.{configured, content_is_good, files_are_as_asked, first_content_refused, first_difference, right_files}
-use Rattle.ae_machine.specs.Sight.{content_of, paths_read, read_at}
+use Rattle.ae_machine.specs.Fits.{config_asked, config_row, makes_runs, paths_asked, runs_asked, tracked_in}
+use Rattle.ae_machine.specs.Freezing.{configured, content_is_good, files_are_as_asked, first_content_refused, first_difference, is_these, right_files}
+use Rattle.ae_machine.specs.Sight.{config_below, config_path, content_of, has_config, paths_read, read_at, row_at, with_bytes}
 use Rattle.ae_machine.specs.Space.{placing}
 use Rattle.ae_machine.specs.Verdict.{answer, asked_of_sight, events_of, refused_before, verdict}
-use Rattle.ae_machine.specs.Versions.{files_refused, kept_files_refused}
+use Rattle.ae_machine.specs.Versions.{files_refused, first_differing, kept_files_refused, rows_compared}
+use Rattle.ae_machine.proofs.AskedFor.{differing-is}
 use Rattle.ae_machine.proofs.Behind.{behind-is}
-use Rattle.ae_exec.specs.Runs.{IsDeveloped}
-use Rattle.ae_exec.specs.Seen.{files_alone, no_bytes}
+use Rattle.ae_exec.specs.Bytes.{HaveBytes}
+use Rattle.ae_exec.specs.Reading.{AreKept, asked_of, compared_for}
+use Rattle.ae_exec.specs.Seen.{FilesRefuse, files_alone, no_bytes}
 use Rattle.ae_exec.proofs.FirstSeen.{runs-read-files}
-use Rattle.ae_exec.proofs.MadeKinds.{never}
+use Rattle.ae_exec.proofs.Never.{never}
 use Rattle.ae_exec.proofs.Quiet.{no-new}
 use Rattle.ae_exec.proofs.TrackedStays.{read-is}
 
@@ -111,10 +117,15 @@ accepted-with o bytes command who when seen rows events makes none is =
     no-refusal : first_of (asked_of_sight command.function) given ≡ None
     no-refusal = go (first_of (asked_of_sight command.function) given) (events_of given) (sym (behind-is placing o bytes command who when seen none) ∙ is)
 
--- in development the files are refused by what is read of them alone
-pub alone-refused : (o : Observation) (bytes : ℕ → List ℕ) (called : Called) → makes_runs called.command.function ≡ true → IsDeveloped o called.command
-    → right_files (given_at o bytes called) ≡ files_refused (given_before o no_bytes called (files_alone o called))
-alone-refused o bytes called makes developed = go (change_named o called.command.change) refl
+-- ---- they are refused by what is read of them alone, and where that refuses nothing by the first that differs from its version
+
+or-none : (v : Option Refusal) → option_or v None ≡ v
+or-none (Some refusal) = refl
+or-none None = refl
+
+pub alone-refused : (o : Observation) (bytes : ℕ → List ℕ) (called : Called) → makes_runs called.command.function ≡ true
+    → right_files (given_at o bytes called) ≡ option_or (files_refused (given_before o no_bytes called (files_alone o called))) (first_differing (files_alone o called) (with_bytes bytes (compared_for called.command o)))
+alone-refused o bytes called makes = go (change_named o called.command.change) refl
   where
     given : Given
     given = given_at o bytes called
@@ -122,15 +133,71 @@ alone-refused o bytes called makes developed = go (change_named o called.command
     alone : Given
     alone = given_before o no_bytes called (files_alone o called)
 
-    go : (c : Option Change) → change_named o called.command.change ≡ c → option_and_then (files_are_as_asked given) c ≡ option_and_then (kept_files_refused alone) c
-    go None named = refl
-    go (Some change) named =
+    compared : Given
+    compared = given_before o bytes called (files_alone o called)
+
+    read : List (List ℕ × Content)
+    read = (files_alone o called).develop
+
+    developed-refused : (change : Change) → change_named o called.command.change ≡ Some change → is_integrating change.phase ≡ false → files_are_as_asked given change ≡ kept_files_refused alone change
+    developed-refused change named developed =
         let tree : Tree = called.before.trees (files_dir given.call change) in
         let all : List (List ℕ) = paths_asked given.call (Some change) in
         let rest : List (List ℕ × Content) = config_asked (given_before o bytes called nothing_seen) (change_named o called.command.change) in
-        ap (λ (b : Bool). if b then first_difference given (Rattle.ae_types.specs.Trees.candidate_of o change) else first_content_refused given.view (paths_read given.call change)) (developed change named)
+        ap (λ (b : Bool). if b then first_difference given (candidate_of o change) else first_content_refused given.view (paths_read given.call change)) developed
         ∙ same-refused given.view alone.view tree rest [] all (paths_read given.call change)
         (ap (λ (c : Option Change). files_seen given.call c called.before ++ rest) named)
         (ap (λ (c : Option Change). files_seen given.call c called.before) named ∙ sym (append-nil (contents 4194304 tree all)))
         (λ path h. subst (λ (l : List (List ℕ)). In l path) (sym (ap (λ (b : Bool). if b then paths_read given.call change else []) (runs-read-files called.command.function makes))) h)
-        ∙ sym (ap (λ (b : Bool). if b then None else first_content_refused alone.view (paths_read alone.call change)) (developed change named))
+        ∙ sym (ap (λ (b : Bool). if b then None else first_content_refused alone.view (paths_read alone.call change)) developed)
+
+    -- in integration nothing stands after the files that are read
+    nothing-after : (change : Change) → change_named o called.command.change ≡ Some change → is_integrating change.phase ≡ true → given.view.develop ≡ read
+    nothing-after change named integrated =
+        ap (λ (c : Option Change). read ++ config_asked (given_before o bytes called nothing_seen) c) named
+        ∙ ap (λ (b : Bool). read ++ (if b then config_row bytes (config_below given.call change) else [])) makes
+        ∙ ap (λ (b : Bool). read ++ config_row bytes (if b then None else if has_config change then None else row_at (baseline_of o) config_path)) integrated
+        ∙ append-nil read
+
+    integrated-refused : (change : Change) → change_named o called.command.change ≡ Some change → is_integrating change.phase ≡ true
+        → files_are_as_asked given change ≡ first_differing (files_alone o called) (with_bytes bytes (candidate_of o change))
+    integrated-refused change named integrated =
+        ap (λ (b : Bool). if b then first_difference given (candidate_of o change) else first_content_refused given.view (paths_read given.call change)) integrated
+        ∙ ap (λ (l : List (List ℕ × Content)). option_map (λ (row : TreeRow). Differs row.path) (find (λ (row : TreeRow). not (is_these (bytes row.version.number) (content_of (find (λ (r : List ℕ × Content). bytes_eq row.path r.0) l)))) (candidate_of o change)))
+        (nothing-after change named integrated)
+        ∙ sym (differing-is compared (candidate_of o change))
+
+    by : (change : Change) → change_named o called.command.change ≡ Some change → (b : Bool) → is_integrating change.phase ≡ b
+        → files_are_as_asked given change ≡ option_or (kept_files_refused alone change) (first_differing (files_alone o called) (with_bytes bytes (if is_integrating change.phase then candidate_of o change else [])))
+    by change named false developed =
+        developed-refused change named developed
+        ∙ sym (or-none (kept_files_refused alone change))
+        ∙ sym (ap (λ (b : Bool). option_or (kept_files_refused alone change) (first_differing (files_alone o called) (with_bytes bytes (if b then candidate_of o change else [])))) developed)
+    by change named true integrated =
+        integrated-refused change named integrated
+        ∙ sym (ap (λ (b : Bool). option_or (if b then None else first_content_refused alone.view (paths_read alone.call change)) (first_differing (files_alone o called) (with_bytes bytes (if b then candidate_of o change else [])))) integrated)
+
+    go : (c : Option Change) → change_named o called.command.change ≡ c
+        → option_and_then (files_are_as_asked given) c ≡ option_or (option_and_then (kept_files_refused alone) c) (first_differing (files_alone o called) (with_bytes bytes (rows_compared (call_of o called.command []) c)))
+    go None named = refl
+    go (Some change) named = by change named (is_integrating change.phase) refl
+
+module _ (files : Option Image) (o : Observation) (called : Called) (makes : makes_runs called.command.function ≡ true) (refusal : Refusal) where
+  -- a file that is missing or too long
+  pub refused-alone : files_refused (given_before o no_bytes called (files_alone o called)) ≡ Some refusal → FilesRefuse files o called refusal
+  refused-alone is = record {
+    right = λ bytes have. alone-refused o bytes called makes ∙ ap (λ (v : Option Refusal). option_or v (first_differing (files_alone o called) (with_bytes bytes (compared_for called.command o)))) is;
+    kept = λ passes. let both : Some refusal ≡ None = sym is ∙ passes in cc;
+  }
+
+  -- a file that differs
+  pub refused-differing : files_refused (given_before o no_bytes called (files_alone o called)) ≡ None
+      → ((bytes : ℕ → List ℕ) → HaveBytes files (Some o) bytes → first_differing (files_alone o called) (with_bytes bytes (compared_for called.command o)) ≡ Some refusal)
+      → AreKept files (asked_of called.command (Some o)) → FilesRefuse files o called refusal
+  refused-differing none differs kept = record {
+    right = λ bytes have.
+        alone-refused o bytes called makes
+        ∙ ap (λ (v : Option Refusal). option_or v (first_differing (files_alone o called) (with_bytes bytes (compared_for called.command o)))) none
+        ∙ differs bytes have;
+    kept = λ passes. kept;
+  }

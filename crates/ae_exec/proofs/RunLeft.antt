@@ -33,7 +33,7 @@ use Rattle.ae_dirs.specs.Runs.{EndsUnclean, RunsAre}
 use Rattle.ae_dirs.proofs.FittingRuns.{runs-fit}
 use Rattle.ae_dirs.proofs.RealRuns.{runs-are-real}
 use Rattle.ae_exec.specs.Runs.{AreForRuns, HaveRun}
-use Rattle.ae_exec.proofs.MadeKinds.{never}
+use Rattle.ae_exec.proofs.Never.{never}
 
 -- ---- what the conditions without reading say
 

@@ -1,7 +1,7 @@
 -- The versions that a command with runs reads stand.
 use Rattle.std.specs.Prelude.{◌≡◌, ◌⊎◌, ℕ, Bool, true, false, not, if◌then◌else◌, List, [], ◌∷◌, ◌++◌, filter, Option, Some, None, flat_map, filter_map}
 use Rattle.std.specs.List.{cons_option}
-use Rattle.std.specs.Option.{option_map}
+use Rattle.std.specs.Option.{option_map_or, option_map}
 use Rattle.std.specs.FinMap.Entries.{by_order}
 use Rattle.std.specs.declared.cmp.Ordering.{Ordering}
 use Rattle.std.specs.declared.cmp.Ordering.TheVariants as ordering
@@ -12,7 +12,7 @@ use Rattle.ae_outside.specs.Image.{Image}
 use Rattle.ae_types.specs.declared.change.Change.{Change}
 use Rattle.ae_types.specs.declared.change.ChangeFile.{ChangeFile}
 use Rattle.ae_types.specs.declared.version.VersionRef.{VersionRef}
-use Rattle.ae_types.specs.Found.{has_file, number_of_change}
+use Rattle.ae_types.specs.Found.{has_file, number_of_change, change_at}
 use Rattle.ae_types.specs.Observation.{Observation}
 use Rattle.ae_types.specs.Ordered.{put_by}
 use Rattle.ae_types.specs.Phases.{is_integrating}
@@ -29,16 +29,16 @@ use Rattle.ae_machine.specs.Call.{Call, call_of, change_named}
 use Rattle.ae_machine.specs.Fits.{makes_runs}
 use Rattle.ae_machine.specs.Runs.{kind_of}
 use Rattle.ae_machine.specs.Sight.{config_below, config_path, has_config, row_at}
-use Rattle.ae_machine.specs.Versions.{config_version, rows_based, rows_refreshed, rows_under, versions_asked, versions_of_change, versions_of_runs}
+use Rattle.ae_machine.specs.Versions.{config_version, rows_based, rows_compared, rows_refreshed, rows_under, versions_asked, versions_of_change, versions_of_runs}
 use Rattle.ae_machine.proofs.Lists.{filter-in}
 use Rattle.std.specs.Prelude.{All}
+use Rattle.std.proofs.lemmas.List.{append-nil}
 use Rattle.std.proofs.lemmas.List.Elements.{All-cons, All-nil}
 use Rattle.ae_exec.specs.Bytes.{HaveBytes, bytes_at, row_version, rows_at}
 use Rattle.ae_machine.specs.Sight.{with_bytes}
-use Rattle.ae_exec.specs.Reading.{AreKept, IsInside, asked_of, reads_of, versions_by, versions_for_answer, versions_for_runs, versions_of}
+use Rattle.ae_exec.specs.Reading.{candidate_named, compared_for, AreKept, IsInside, asked_of, reads_of, versions_by, versions_for_answer, versions_for_runs, versions_of}
 use Rattle.ae_exec.proofs.Baseline.{baseline-lives}
-use Rattle.ae_exec.proofs.MadeKinds.{never}
-use Rattle.ae_exec.specs.Runs.{IsDeveloped}
+use Rattle.ae_exec.proofs.Never.{never}
 use Rattle.ae_types.specs.Sound.{Sound}
 use Rattle.ae_exec.proofs.PathRows.{kept-lives, reads-found, row-kept}
 use Rattle.ae_exec.proofs.Shown.{list-in, live-in}
@@ -72,7 +72,7 @@ put-in row (first ∷ rows) x h = go (text_cmp (tree_path row) (tree_path first)
         later (inl is) = inl is
         later (inr m) = inr (inr m)
 
-puts-in : (more rows : List TreeRow) (x : TreeRow) → In (put_rows more rows) x → In more x ⊎ In rows x
+pub puts-in : (more rows : List TreeRow) (x : TreeRow) → In (put_rows more rows) x → In more x ⊎ In rows x
 puts-in [] rows x h = inr h
 puts-in (row ∷ more) rows x h = go (puts-in more (put_by text_cmp tree_path row rows) x h)
   where
@@ -84,7 +84,7 @@ puts-in (row ∷ more) rows x h = go (puts-in more (put_by text_cmp tree_path ro
     go (inl m) = inl (inr m)
     go (inr m) = of-put (put-in row rows x m)
 
-frozen-is : (file : ChangeFile) (row : TreeRow) → frozen_row file ≡ Some row → file.frozen ≡ Some row.version
+pub frozen-is : (file : ChangeFile) (row : TreeRow) → frozen_row file ≡ Some row → file.frozen ≡ Some row.version
 frozen-is file row is = go file.frozen is
   where
     go : (v : Option VersionRef) → option_map (λ version. record { path = file.path; usage = file.usage; version = version }) v ≡ Some row → v ≡ Some row.version
@@ -107,7 +107,7 @@ candidate-row o change there row h = go (puts-in (filter_map frozen_row change.f
 
 -- ---- the rows that a command reads
 
-named-in : (o : Observation) (number : Option ℕ) (change : Change) → change_named o number ≡ Some change → In o.changes change
+pub named-in : (o : Observation) (number : Option ℕ) (change : Change) → change_named o number ≡ Some change → In o.changes change
 named-in o (Some number) change is = found-in by_number number_of_change o.changes number change is
 named-in o None change is = cc
 
@@ -203,16 +203,21 @@ config-lives o command row is = go (change_named o command.change) is
 pub config-inside : (o : Observation) (command : Command) (row : TreeRow) → Sound o → config_version (call_of o command []) (change_named o command.change) ≡ Some row → IsInside row.version
 config-inside o command row s is = let p = live-in o s row.version (config-lives o command row is) in s.versions.inside p.0 row.version p.1
 
--- in development it is all that the answer depends on
-pub answer-config : (o : Observation) (command : Command) → makes_runs command.function ≡ true → IsDeveloped o command
-    → versions_of (cons_option (config_version (call_of o command []) (change_named o command.change)) []) ≡ versions_for_answer command o
-answer-config o command makes developed = go (change_named o command.change) refl ∙ sym (ap (λ (b : Bool). versions_of (if b then versions_of_runs (call_of o command []) (change_named o command.change) else [])) makes)
+-- the answer depends on the versions that are compared, and on it
+pub answer-both : (o : Observation) (command : Command) → makes_runs command.function ≡ true
+    → versions_of (compared_for command o) ++ versions_of (cons_option (config_version (call_of o command []) (change_named o command.change)) []) ≡ versions_for_answer command o
+answer-both o command makes = go (change_named o command.change) ∙ sym (ap (λ (b : Bool). versions_of (if b then versions_of_runs (call_of o command []) (change_named o command.change) else [])) makes)
   where
-    go : (c : Option Change) → change_named o command.change ≡ c → versions_of (cons_option (config_version (call_of o command []) c) []) ≡ versions_of (versions_of_runs (call_of o command []) c)
-    go (Some change) is =
-        ap (λ (b : Bool). versions_of (cons_option (if b then config_below (call_of o command []) change else None) [])) makes
-        ∙ sym (ap (λ (b : Bool). versions_of (if b then candidate_of o change else cons_option (config_below (call_of o command []) change) [])) (developed change is))
-    go None is = refl
+    by : (change : Change) (b : Bool) → versions_of (if b then candidate_of o change else []) ++ versions_of (cons_option (if b then None else if has_config change then None else row_at (baseline_of o) config_path) [])
+        ≡ versions_of (if b then candidate_of o change else cons_option (if b then None else if has_config change then None else row_at (baseline_of o) config_path) [])
+    by change true = append-nil (versions_of (candidate_of o change))
+    by change false = refl
+
+    go : (c : Option Change) → versions_of (rows_compared (call_of o command []) c) ++ versions_of (cons_option (config_version (call_of o command []) c) []) ≡ versions_of (versions_of_runs (call_of o command []) c)
+    go (Some change) =
+        ap (λ (b : Bool). versions_of (rows_compared (call_of o command []) (Some change)) ++ versions_of (cons_option (if b then config_below (call_of o command []) change else None) [])) makes
+        ∙ by change (is_integrating change.phase)
+    go None = refl
 
 -- ---- so they end in the region
 
@@ -228,6 +233,23 @@ refreshed-inside o s command = all-inside o s (rows_refreshed (call_of o command
 pub based-inside : (o : Observation) → Sound o → (command : Command) → All (λ (row : TreeRow). IsInside row.version) (rows_based (call_of o command []) (change_named o command.change))
 based-inside o s command = all-inside o s (rows_based (call_of o command []) (change_named o command.change)) (based-row o command (change_named o command.change))
 
+compared-row : (o : Observation) (command : Command) (x : TreeRow) → In (compared_for command o) x → Lives o x
+compared-row o command x h = go (change_named o command.change) refl h
+  where
+    by : (change : Change) → change_named o command.change ≡ Some change → (b : Bool) → In (if b then candidate_of o change else []) x → Lives o x
+    by change is true m = candidate-row o change (named-in o command.change change is) x m
+    by change is false m = absurd m
+
+    go : (c : Option Change) → change_named o command.change ≡ c → In (rows_compared (call_of o command []) c) x → Lives o x
+    go (Some change) is m = by change is (is_integrating change.phase) m
+    go None is m = absurd m
+
+pub compared-inside : (o : Observation) → Sound o → (command : Command) → All (λ (row : TreeRow). IsInside row.version) (compared_for command o)
+compared-inside o s command = all-inside o s (compared_for command o) (compared-row o command)
+
+pub candidate-inside : (o : Observation) → Sound o → (number : ℕ) (change : Change) → change_at o number ≡ Some change → All (λ (row : TreeRow). IsInside row.version) (candidate_of o change)
+candidate-inside o s number change there = all-inside o s (candidate_of o change) (candidate-row o change (named-in o (Some number) change there))
+
 -- and have the bytes that are kept
 rows-have : (o : Observation) (files : Option Image) (bytes : ℕ → List ℕ) → HaveBytes files (Some o) bytes → (rows : List TreeRow) → ((x : TreeRow) → In rows x → Lives o x) → rows_at files rows ≡ with_bytes bytes rows
 rows-have o files bytes have [] each = refl
@@ -242,6 +264,22 @@ refreshed-have o files bytes have command = rows-have o files bytes have (rows_r
 pub based-have : (o : Observation) (files : Option Image) (bytes : ℕ → List ℕ) → HaveBytes files (Some o) bytes → (command : Command)
     → rows_at files (rows_based (call_of o command []) (change_named o command.change)) ≡ with_bytes bytes (rows_based (call_of o command []) (change_named o command.change))
 based-have o files bytes have command = rows-have o files bytes have (rows_based (call_of o command []) (change_named o command.change)) (based-row o command (change_named o command.change))
+
+pub compared-have : (o : Observation) (files : Option Image) (bytes : ℕ → List ℕ) → HaveBytes files (Some o) bytes → (command : Command)
+    → rows_at files (compared_for command o) ≡ with_bytes bytes (compared_for command o)
+compared-have o files bytes have command = rows-have o files bytes have (compared_for command o) (compared-row o command)
+
+pub candidate-have : (o : Observation) (files : Option Image) (bytes : ℕ → List ℕ) → HaveBytes files (Some o) bytes → (number : ℕ) (change : Change) → change_at o number ≡ Some change
+    → rows_at files (candidate_of o change) ≡ with_bytes bytes (candidate_of o change)
+candidate-have o files bytes have number change there = rows-have o files bytes have (candidate_of o change) (candidate-row o change (named-in o (Some number) change there))
+
+-- those of the candidate of the change that is named stand
+pub candidate-live : (o : Observation) (command : Command) (version : VersionRef) → In (versions_of (candidate_named command o)) version → In (live o.files o.changes) version
+candidate-live o command version h = go (change_named o command.change) refl h
+  where
+    go : (c : Option Change) → change_named o command.change ≡ c → In (versions_of (option_map_or (candidate_of o) c [])) version → In (live o.files o.changes) version
+    go (Some change) is m = of-rows o command (candidate_of o change) (candidate-row o change (named-in o command.change change is)) version m
+    go None is m = absurd m
 
 -- ---- what an answer depends on is read first
 

@@ -21,7 +21,8 @@ use Rattle.ae_types.proofs.Members.{In}
 use Rattle.ae_vault.specs.Pieces.{pack}
 use Rattle.ae_machine.specs.Call.{call_of, change_named}
 use Rattle.ae_machine.specs.Called.{Called, given_at}
-use Rattle.ae_machine.specs.Fits.{IsAtMost, config_row}
+use Rattle.ae_outside.specs.Site.{IsAtMost}
+use Rattle.ae_machine.specs.Fits.{config_row}
 use Rattle.ae_machine.specs.Versions.{config_version}
 use Rattle.ae_dirs.specs.Jobs.{IsShortConfig}
 use Rattle.ae_exec.specs.Bytes.{HaveBytes, bytes_at}

@@ -5,6 +5,7 @@ use Rattle.std.specs.declared.cmp.Ordering.{Ordering}
 use Rattle.std.specs.declared.cmp.Ordering.TheVariants as ordering
 use Rattle.std.proofs.Common.{refl, sym, ap, subst, ◌∙◌, inl, inr, cond, arith}
 use Rattle.std.proofs.lemmas.Bool.Decides.{leb_tells}
+use Rattle.std.proofs.lemmas.List.{append-nil}
 use Rattle.ae_base.specs.Limits.{most_file_bytes}
 use Rattle.ae_base.specs.Rows.{Ascends, Row, Rows, paths_of, put_row, text_cmp}
 use Rattle.ae_base.specs.declared.words.Kind.{Kind}
@@ -38,10 +39,10 @@ use Rattle.ae_machine.specs.Sight.{base_tree, kept_paths, only_tests, overlaid, 
 use Rattle.ae_dirs.specs.Reads as reads
 use Rattle.ae_dirs.specs.Tracked.{AllWithin, filled_parts}
 use Rattle.ae_exec.specs.Bytes.{HaveBytes, row_version}
-use Rattle.ae_exec.specs.Runs.{AreForRuns, IsDeveloped}
+use Rattle.ae_exec.specs.Runs.{AreForRuns}
 use Rattle.ae_exec.proofs.Baseline.{baseline-lives}
 use Rattle.ae_exec.proofs.FirstSeen.{runs-read-files}
-use Rattle.ae_exec.proofs.MadeKinds.{never}
+use Rattle.ae_exec.proofs.Never.{never}
 use Rattle.ae_exec.proofs.ShortConfig.{short-version}
 use Rattle.ae_exec.proofs.TrackedStays.{kept-stay, read-parts}
 
@@ -111,18 +112,9 @@ files-ascend o s (Some number) change named = (s.changes.good number change name
 files-ascend o s None change named = cc
 
 module _ (o : Observation) (bytes : ℕ → List ℕ) (called : Called) (s : Sound o) (makes : makes_runs called.command.function ≡ true) (change : Change)
-    (named : change_named o called.command.change ≡ Some change) (developed : is_integrating change.phase ≡ false) where
+    (named : change_named o called.command.change ≡ Some change) where
   abbrev given : Given
   given = given_at o bytes called
-
-  abbrev tree : Tree
-  tree = called.before.trees (Develop change.number)
-
-  dir-is : files_dir given.call change ≡ Develop change.number
-  dir-is = ap (λ (b : Bool). if b then Integrate (last_delta o + 1) else Develop change.number) developed
-
-  kept-are : paths_read given.call change ≡ kept_paths change
-  kept-are = ap (λ (b : Bool). if b then Rattle.ae_types.specs.Trees.paths_of (candidate_of o change) else kept_paths change) developed
 
   -- what was read of its files
   read : tree_read given change ≡ parts 4194304 (called.before.trees (files_dir given.call change)) (paths_read given.call change)
@@ -132,21 +124,42 @@ module _ (o : Observation) (bytes : ℕ → List ℕ) (called : Called) (s : Sou
       (ap (λ (c : Option Change). files_seen given.call c called.before ++ rest) named)
       (λ path h. subst (λ (l : List (List ℕ)). In l path) (sym (ap (λ (b : Bool). if b then paths_read given.call change else []) (runs-read-files called.command.function makes))) h)
 
-  -- stands in the develop directory as it is refreshed
-  held : tree_read given change ≡ reads.tracked_in (with_rows (refreshed given change) tree) (tree_read given change)
-  held = from-parts (with_rows (refreshed given change) tree) _ (paths_read given.call change)
-      (read ∙ ap (λ (d : Dir). parts 4194304 (called.before.trees d) (paths_read given.call change)) dir-is
-      ∙ sym (kept-stay given change (files-ascend o s called.command.change change named) tree (paths_read given.call change) (λ path h. subst (λ (l : List (List ℕ)). In l path) kept-are h)))
+  -- in development it stands in the develop directory as that is refreshed
+  module _ (developed : is_integrating change.phase ≡ false) where
+    abbrev tree : Tree
+    tree = called.before.trees (Develop change.number)
 
-  before-is : before_runs given change ≡ Put (Develop change.number) (refreshed given change) ∷ []
-  before-is = ap (λ (b : Bool). if b then [] else Put (Develop change.number) (refreshed given change) ∷ []) developed
+    dir-is : files_dir given.call change ≡ Develop change.number
+    dir-is = ap (λ (b : Bool). if b then Integrate (last_delta o + 1) else Develop change.number) developed
 
-  develop-holds : (changes : List DirChange) → changes ≡ Put (Develop change.number) (refreshed given change) ∷ []
+    kept-are : paths_read given.call change ≡ kept_paths change
+    kept-are = ap (λ (b : Bool). if b then Rattle.ae_types.specs.Trees.paths_of (candidate_of o change) else kept_paths change) developed
+
+    held : tree_read given change ≡ reads.tracked_in (with_rows (refreshed given change) tree) (tree_read given change)
+    held = from-parts (with_rows (refreshed given change) tree) _ (paths_read given.call change)
+        (read ∙ ap (λ (d : Dir). parts 4194304 (called.before.trees d) (paths_read given.call change)) dir-is
+        ∙ sym (kept-stay given change (files-ascend o s called.command.change change named) tree (paths_read given.call change) (λ path h. subst (λ (l : List (List ℕ)). In l path) kept-are h)))
+
+    develop-holds : (changes : List DirChange) → changes ≡ Put (Develop change.number) (refreshed given change) ∷ []
+        → tree_read given change ≡ reads.tracked_in (dirs_after changes called.before.trees (files_dir given.call change)) (tree_read given change)
+    develop-holds changes is =
+        let there : dirs_after changes called.before.trees (files_dir given.call change) ≡ with_rows (refreshed given change) tree =
+        (λ i. dirs_after (is i) called.before.trees (dir-is i)) ∙ ap (λ (b : Bool). if b then with_rows (refreshed given change) tree else tree) (dir_eq_refl (Develop change.number)) in
+        held ∙ sym (ap (λ (t : Tree). reads.tracked_in t (tree_read given change)) there)
+
+  -- and in integration in the integrate directory as that is
+  integrate-holds : (changes : List DirChange) → changes ≡ [] → tree_read given change ≡ reads.tracked_in (dirs_after changes called.before.trees (files_dir given.call change)) (tree_read given change)
+  integrate-holds changes none =
+      from-parts (called.before.trees (files_dir given.call change)) _ (paths_read given.call change) read
+      ∙ sym (ap (λ (cs : List DirChange). reads.tracked_in (dirs_after cs called.before.trees (files_dir given.call change)) (tree_read given change)) none)
+
+  files-hold : (changes : List DirChange) → changes ≡ before_runs given change
       → tree_read given change ≡ reads.tracked_in (dirs_after changes called.before.trees (files_dir given.call change)) (tree_read given change)
-  develop-holds changes is =
-      let there : dirs_after changes called.before.trees (files_dir given.call change) ≡ with_rows (refreshed given change) tree =
-      (λ i. dirs_after (is i) called.before.trees (dir-is i)) ∙ ap (λ (b : Bool). if b then with_rows (refreshed given change) tree else tree) (dir_eq_refl (Develop change.number)) in
-      held ∙ sym (ap (λ (t : Tree). reads.tracked_in t (tree_read given change)) there)
+  files-hold changes is = by (is_integrating change.phase) refl
+    where
+      by : (b : Bool) → is_integrating change.phase ≡ b → tree_read given change ≡ reads.tracked_in (dirs_after changes called.before.trees (files_dir given.call change)) (tree_read given change)
+      by false developed = develop-holds developed changes (is ∙ ap (λ (b : Bool). if b then [] else Put (Develop change.number) (refreshed given change) ∷ []) developed)
+      by true integrated = integrate-holds changes (is ∙ ap (λ (b : Bool). if b then [] else Put (Develop change.number) (refreshed given change) ∷ []) integrated)
 
   -- the base directory has no long file
   base-small : (files : Option Image) → HaveBytes files (Some o) bytes → AllWithin 4194304 (base_tree given change)
@@ -158,38 +171,41 @@ module _ (o : Observation) (bytes : ℕ → List ℕ) (called : Called) (s : Sou
       → base_tree given change ≡ reads.tracked_in (dirs_after (before_runs given change ++ Fill (Base change.number) (base_tree given change) ∷ []) called.before.trees (Base change.number)) (base_tree given change)
   base-holds files have up =
       let there : dirs_after (before_runs given change ++ Fill (Base change.number) (base_tree given change) ∷ []) called.before.trees (Base change.number) ≡ with_rows (base_tree given change) no_files =
-      ap (λ (changes : List DirChange). dirs_after (changes ++ Fill (Base change.number) (base_tree given change) ∷ []) called.before.trees (Base change.number)) before-is
-      ∙ ap (λ (b : Bool). if b then with_rows (base_tree given change) no_files else dir_after (Put (Develop change.number) (refreshed given change)) called.before.trees (Base change.number)) (dir_eq_refl (Base change.number)) in
+      by (is_integrating change.phase) in
       filled_parts (base_tree given change) no_files up (base-small files have) ∙ sym (ap (λ (t : Tree). reads.tracked_in t (base_tree given change)) there)
+    where
+      by : (b : Bool) → dirs_after ((if b then [] else Put (Develop change.number) (refreshed given change) ∷ []) ++ Fill (Base change.number) (base_tree given change) ∷ []) called.before.trees (Base change.number) ≡ with_rows (base_tree given change) no_files
+      by true = ap (λ (b : Bool). if b then with_rows (base_tree given change) no_files else called.before.trees (Base change.number)) (dir_eq_refl (Base change.number))
+      by false = ap (λ (b : Bool). if b then with_rows (base_tree given change) no_files else dir_after (Put (Develop change.number) (refreshed given change)) called.before.trees (Base change.number)) (dir_eq_refl (Base change.number))
 
   by-kind : (files : Option Image) → HaveBytes files (Some o) bytes → (k : Kind) → Ascends (tracked_by k given change)
       → tracked_by k given change ≡ reads.tracked_in (dirs_after (before_runs given change ++ before_tests k given change) called.before.trees (dir_for k given.call change)) (tracked_by k given change)
   by-kind files have kind.BaselineTest up = base-holds files have up
-  by-kind files have kind.Build up = develop-holds (before_runs given change ++ []) (ap (λ (changes : List DirChange). changes ++ []) before-is)
-  by-kind files have kind.Test up = develop-holds (before_runs given change ++ []) (ap (λ (changes : List DirChange). changes ++ []) before-is)
-  by-kind files have kind.RegressionTest up = develop-holds (before_runs given change ++ []) (ap (λ (changes : List DirChange). changes ++ []) before-is)
+  by-kind files have kind.Build up = files-hold (before_runs given change ++ []) (append-nil (before_runs given change))
+  by-kind files have kind.Test up = files-hold (before_runs given change ++ []) (append-nil (before_runs given change))
+  by-kind files have kind.RegressionTest up = files-hold (before_runs given change ++ []) (append-nil (before_runs given change))
 
   by-function : (files : Option Image) → HaveBytes files (Some o) bytes → (f : Function) → makes_runs f ≡ true → Ascends (tracked_by (kind_of f called.command) given change)
       → tracked_by (kind_of f called.command) given change
       ≡ reads.tracked_in (dirs_after (changes_of f given change) called.before.trees (dir_for (kind_of f called.command) given.call change)) (tracked_by (kind_of f called.command) given change)
-  by-function files have function.Build is up = develop-holds (before_runs given change) before-is
+  by-function files have function.Build is up = files-hold (before_runs given change) refl
   by-function files have function.Test is up = by-kind files have (test_kind called.command) up
   by-function files have _ is up = never is
 
 -- ---- whatever it names
 
-holds : (o : Observation) (files : Option Image) (bytes : ℕ → List ℕ) (called : Called) → Sound o → HaveBytes files (Some o) bytes → makes_runs called.command.function ≡ true → IsDeveloped o called.command
+holds : (o : Observation) (files : Option Image) (bytes : ℕ → List ℕ) (called : Called) → Sound o → HaveBytes files (Some o) bytes → makes_runs called.command.function ≡ true
     → (c : Option Change) → change_named o called.command.change ≡ c → Ascends (tracked_in (given_at o bytes called) c)
     → tracked_in (given_at o bytes called) c ≡ reads.tracked_in (dirs_after (changes_by (given_at o bytes called) c) called.before.trees (dir_of_runs (given_at o bytes called).call c)) (tracked_in (given_at o bytes called) c)
-holds o files bytes called s have makes developed (Some change) named up =
-    by-function o bytes called s makes change named (developed change named) files have called.command.function makes up
-holds o files bytes called s have makes developed None named up = refl
+holds o files bytes called s have makes (Some change) named up =
+    by-function o bytes called s makes change named files have called.command.function makes up
+holds o files bytes called s have makes None named up = refl
 
-pub tracked-holds : (o : Observation) (files : Option Image) (bytes : ℕ → List ℕ) (called : Called) → Sound o → HaveBytes files (Some o) bytes → makes_runs called.command.function ≡ true → IsDeveloped o called.command
+pub tracked-holds : (o : Observation) (files : Option Image) (bytes : ℕ → List ℕ) (called : Called) → Sound o → HaveBytes files (Some o) bytes → makes_runs called.command.function ≡ true
     → (changes : List DirChange) (tracked : Rows) (jobs : List Job) → AreForRuns (given_at o bytes called) changes tracked jobs → Ascends tracked
     → tracked ≡ reads.tracked_in (dirs_after changes called.before.trees (dir_of_runs (given_at o bytes called).call (change_of (given_at o bytes called).call))) tracked
-tracked-holds o files bytes called s have makes developed changes tracked jobs are up =
+tracked-holds o files bytes called s have makes changes tracked jobs are up =
     let dir : Dir = dir_of_runs (given_at o bytes called).call (change_of (given_at o bytes called).call) in
     are.tracked_are
-    ∙ holds o files bytes called s have makes developed (change_named o called.command.change) refl (subst Ascends are.tracked_are up)
+    ∙ holds o files bytes called s have makes (change_named o called.command.change) refl (subst Ascends are.tracked_are up)
     ∙ sym (λ i. reads.tracked_in (dirs_after (are.changes_are i) called.before.trees dir) (are.tracked_are i))

@@ -23,7 +23,7 @@ use Rattle.ae_machine.specs.Directories.{refreshed, removed}
 use Rattle.ae_machine.specs.Sight.{bytes_of, content_of, kept_paths, read_at, with_bytes}
 use Rattle.ae_machine.proofs.Lists.{filter-in}
 use Rattle.ae_dirs.specs.Tracked.{names_path, with_rows_elsewhere}
-use Rattle.ae_exec.proofs.MadeKinds.{never}
+use Rattle.ae_exec.proofs.Never.{never}
 
 -- ---- rows that name no such path
 

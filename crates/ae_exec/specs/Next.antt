@@ -1,5 +1,5 @@
 -- What stands after the events of a command.
-use Rattle.std.specs.Prelude.{◌≡◌, List, [], ◌∷◌, map, Option, Some, None, All, true}
+use Rattle.std.specs.Prelude.{◌≡◌, List, [], ◌∷◌, map, Option, Some, None}
 use Rattle.ae_types.specs.Found.{number_of_change}
 use Rattle.ae_types.specs.Observation.{Observation}
 use Rattle.ae_log.specs.declared.event.Event.{Event}
@@ -8,7 +8,6 @@ use Rattle.ae_log.specs.Applies.{Starts}
 use Rattle.ae_machine.specs.declared.verdict.Verdict.{Verdict}
 use Rattle.ae_machine.specs.declared.verdict.Verdict.TheVariants.{Accept, Refuse}
 use Rattle.ae_machine.specs.Accepted.{AppliesAll}
-use Rattle.ae_exec.specs.Said.{is_made}
 
 -- where nothing stands, one event makes a project; else the events are applied one after another
 abbrev pub next_of : Option Observation → List Event → Option Observation
@@ -27,10 +26,6 @@ MayBegin (event ∷ other ∷ events) = ⊥
 abbrev pub MayFollow : Option Observation → List Event → Type 0
 MayFollow None events = MayBegin events
 MayFollow (Some o) events = AppliesAll o events
-
--- each is of a kind that commands make so far
-abbrev pub AreMade : List Event → Type 0
-AreMade events = All (λ (event : Event). is_made event.what ≡ true) events
 
 -- what is so of the events, where the command is accepted
 abbrev pub IfAccepted : Verdict → (List Event → Type 0) → Type 0

@@ -1,25 +1,17 @@
 -- A command with runs, and what it makes of the directories.
-use Rattle.std.specs.Prelude.{◌≡◌, ℕ, false, List, Some}
+use Rattle.std.specs.Prelude.{◌≡◌, ℕ, List}
 use Rattle.ae_base.specs.Rows.{Rows}
 use Rattle.ae_outside.specs.declared.dir.Dir.{Dir}
 use Rattle.ae_outside.specs.Site.{SiteState}
-use Rattle.ae_types.specs.declared.change.Change.{Change}
-use Rattle.ae_types.specs.Observation.{Observation}
-use Rattle.ae_types.specs.Phases.{is_integrating}
-use Rattle.ae_words.specs.declared.command.Command.{Command}
 use Rattle.ae_machine.specs.declared.directories.DirChange.{DirChange}
 use Rattle.ae_machine.specs.declared.jobs.Job.{Job}
 use Rattle.ae_machine.specs.declared.view.RunRow.{RunRow}
-use Rattle.ae_machine.specs.Call.{Given, change_named, change_of}
+use Rattle.ae_machine.specs.Call.{Given, change_of}
 use Rattle.ae_machine.specs.Directories.{dir_changes, dirs_after}
 use Rattle.ae_machine.specs.Fits.{runs_asked, tracked_in}
 use Rattle.ae_machine.specs.Jobs.{AreJobs}
 use Rattle.ae_machine.specs.Real.{command_for}
 use Rattle.ae_dirs.specs.Runs.{RunsAre}
-
--- the change that the command names, if any, isn't being integrated
-abbrev pub IsDeveloped : Observation → Command → Type 0
-IsDeveloped o command = (change : Change) → change_named o command.change ≡ Some change → is_integrating change.phase ≡ false
 
 -- What the runs of a command are made of: the changes of directories before them, the files that they are to leave as they are,
 -- and the jobs.

@@ -1,12 +1,13 @@
 // The directories are changed as a command asks, before anything is put on the disk.
-ghost use Rattle.std.specs.Prelude.{◌≡◌, ◌≤◌, ◌++◌, ◌∷◌, [], ℕ, List, Option, Some, map, true, false, IfOk, IfErr, OnOk, option_copied};
+ghost use Rattle.std.specs.Prelude.{◌≡◌, ◌≤◌, ◌<◌, ◌+◌, ◌++◌, ◌∷◌, [], ℕ, List, Option, Some, map, true, false, IfOk, IfErr, OnOk, option_copied};
 ghost use Rattle.std.specs.List.{cons_option};
 ghost use Rattle.ae_outside.specs.Causes.{HasRisen};
 ghost use Rattle.std.specs.Option.{option_map};
 ghost use Rattle.ae_outside.specs.Image.{Image, IsSame};
 ghost use Rattle.ae_outside.specs.State.{reads, GoesOn};
 ghost use Rattle.ae_types.specs.Ordered.{Ascends, itself, put_by};
-ghost use Rattle.ae_types.specs.Trees.{TreeRow, baseline_of, tree_of, tree_row};
+ghost use Rattle.ae_types.specs.Trees.{TreeRow, baseline_of, last_delta, tree_of, tree_row};
+ghost use Rattle.ae_base.specs.Limits.{most_deltas};
 ghost use Rattle.ae_base.specs.Rows.{text_cmp};
 ghost use Rattle.ae_vault.specs.Commit.{IsClean};
 ghost use Rattle.ae_vault.specs.Vault.{effective};
@@ -17,16 +18,17 @@ ghost use Rattle.ae_machine.specs.Real.{IsLeft};
 ghost use Rattle.ae_machine.specs.Sight.{row_at};
 ghost use Rattle.ae_machine.specs.There.{is_there_yet};
 ghost use Rattle.ae_exec.specs.Bytes.{HaveBytes, row_of_path, row_version, rows_at};
-ghost use Rattle.ae_exec.specs.Directories.{AreChanges, AreOwn, LeavesDirs, makes_files, removes_files, paths_put, puts_files, tree_put};
+ghost use Rattle.ae_exec.specs.Directories.{AreChanges, AreOwn, DeltaHasRoom, LeavesDirs, makes_files, removes_files, paths_put, puts_files, tree_put};
 ghost use Rattle.ae_exec.specs.Reading.{AreKept, IsInside, IsLostAmong, reads_of, versions_at, versions_of, versions_read};
 ghost use Rattle.ae_exec.specs.Endings.{EndsAs, StopsReading, outcome_of, outcome_of_stop};
 
+use crate::candidate::candidate_files;
 use crate::stop::Stop;
 use crate::version::read_version;
-use ae_base::{Path, PathList, Text};
+use ae_base::{Delta, Path, PathList, Text};
 use ae_dirs::change_dirs;
 use ae_files::entry_at;
-use ae_machine::{DirChange, DirChangeList, FileList};
+use ae_machine::{DirChange, DirChangeList, FileList, last_delta};
 use ae_outside::{Dir, Disk, Site};
 use ae_types::{FileRow, FileVersion, State, VersionRef};
 use ae_words::{Command, Function};
@@ -293,6 +295,43 @@ fn put_changes<D: Disk>(
     Ok(changes)
 }
 
+// The delta that comes next.
+fn next_delta(state: &State) -> Delta
+    requires room { last_delta state.now < most_deltas }
+    ensures { result ≡ last_delta state.now + 1 }
+{
+    Delta::of(last_delta(state).number() + 1)
+}
+
+// The changes of directories with which the integration of a change begins: its directory is filled with the candidate.
+fn integrate_changes<D: Disk>(
+    alloc: Global,
+    disk: &mut D,
+    state: &State,
+    command: &Command,
+) -> Result<DirChangeList, Stop>
+    requires clean { D.tells → IsClean (D.state disk.old) }
+    requires begin { command.now.function ≡ Function.IntegrateBegin }
+    requires room { last_delta state.now < most_deltas }
+    ensures changes { IfOk result (λ changes. D.tells → AreChanges (effective (reads (D.state disk.old))) state.now command.now changes) }
+    ensures own { IfOk result (λ changes. AreOwn command.now changes) }
+    ensures kept { OnOk result (D.tells → AreKept (effective (reads (D.state disk.old))) (versions_read command.now state.now)) }
+    ensures same { D.tells → GoesOn IsSame (D.state disk.old) (D.state disk.new) }
+    ensures stopped { IfErr result (λ stop. StopsReading D.tells (reads (D.state disk.old)) (versions_read command.now state.now) (HasRisen (D.faults disk.old) (D.faults disk.new)) stop) }
+    ensures later { D.faults disk.old ≤ D.faults disk.new }
+{
+    let mut changes = DirChangeList::new(alloc);
+    let Some(number) = command.change else {
+        return Ok(changes);
+    };
+    let Some(change) = state.change(number) else {
+        return Ok(changes);
+    };
+    let files = candidate_files(alloc, disk, state, number, change)?;
+    changes.push(DirChange::Fill(Dir::Integrate(next_delta(state)), files))?;
+    Ok(changes)
+}
+
 // The changes of directories that the command asks for.
 fn dir_changes<D: Disk>(
     alloc: Global,
@@ -303,6 +342,7 @@ fn dir_changes<D: Disk>(
     requires clean { D.tells → IsClean (D.state disk.old) }
     requires there { is_there_yet command.now.function ≡ true }
     requires quiet { makes_runs command.now.function ≡ false }
+    requires room { DeltaHasRoom command.now (Some state.now) }
     ensures changes { IfOk result (λ changes. D.tells → AreChanges (effective (reads (D.state disk.old))) state.now command.now changes) }
     ensures own { IfOk result (λ changes. AreOwn command.now changes) }
     ensures kept { OnOk result (D.tells → AreKept (effective (reads (D.state disk.old))) (versions_read command.now state.now)) }
@@ -319,6 +359,7 @@ fn dir_changes<D: Disk>(
         Function::CopyFile | Function::CopyFileUndo | Function::RemoveFileUndo => {
             put_changes(alloc, disk, state, command)
         }
+        Function::IntegrateBegin => integrate_changes(alloc, disk, state, command),
         _ => Ok(DirChangeList::new(alloc)),
     }
 }
@@ -334,6 +375,7 @@ pub(crate) fn change_directories<D: Disk, S: Site>(
     requires clean { D.tells → IsClean (D.state disk.old) }
     requires there { is_there_yet command.now.function ≡ true }
     requires quiet { makes_runs command.now.function ≡ false }
+    requires room { DeltaHasRoom command.now (option_copied old) }
     ensures left { OnOk result (D.tells → S.tells → (bytes : ℕ → List ℕ) (who : List ℕ) (when : ℕ) → HaveBytes (effective (reads (D.state disk.old))) (option_copied old.entry) bytes → IsLeft (option_copied old.entry) bytes (called command.now who when (S.state site.old) (S.state site.new))) }
     ensures directories { S.tells → LeavesDirs command.now (S.state site.old) (S.state site.new) (outcome_of result) }
     ensures kept { OnOk result (D.tells → AreKept (effective (reads (D.state disk.old))) (reads_of command.now (option_copied old.entry))) }

@@ -1,13 +1,15 @@
 //! One command, from the store to the reply.
 #![tactic(auto)]
 
+mod candidate;
+mod comparing;
 mod directories;
-mod freezing;
 mod laws;
 mod load;
 mod next;
 mod open;
 mod performing;
+mod pieces;
 mod plan;
 mod reply;
 mod running;
@@ -18,10 +20,9 @@ mod sight;
 mod stop;
 mod version;
 
-pub use freezing::{Frozen, freeze};
 pub use laws::{
-    calls_join, end_is_placed_last, ends_once, legal_logs_are_held, note_shown, note_whole,
-    performed_is_legal, placing_is_in_space, versions_are_carried,
+    calls_join, ends_once, legal_logs_are_held, note_shown, note_whole, performed_is_legal,
+    placing_is_in_space, versions_are_carried,
 };
 pub use performing::{Performed, perform};
 pub use version::read_version;

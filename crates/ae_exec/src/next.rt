@@ -2,7 +2,7 @@
 ghost use Rattle.std.specs.Prelude.{◌≡◌, Some, None, IfOk, option_copied};
 ghost use Rattle.ae_log.specs.After.{after_all};
 ghost use Rattle.ae_machine.specs.Accepted.{AppliesAll};
-ghost use Rattle.ae_exec.specs.Next.{next_of, MayBegin, MayFollow, AreMade};
+ghost use Rattle.ae_exec.specs.Next.{next_of, MayBegin, MayFollow};
 
 use ae_log::{EventList, apply, start};
 use ae_types::State;
@@ -22,7 +22,6 @@ fn started(alloc: Global, events: &EventList) -> Result<State, AllocError>
 // The state after events, one after another.
 fn applied(alloc: Global, state: State, events: EventList) -> Result<State, AllocError>
     requires come { AppliesAll state events }
-    requires made { AreMade events }
     ensures { IfOk result (λ next. next ≡ after_all state events) }
 {
     state.note_sound();
@@ -40,7 +39,6 @@ pub(crate) fn next_state(
     events: EventList,
 ) -> Result<State, AllocError>
     requires follow { MayFollow (option_copied old) events }
-    requires made { AreMade events }
     ensures { IfOk result (λ next. next_of (option_copied old.entry) events ≡ Some next) }
 {
     match old {

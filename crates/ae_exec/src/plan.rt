@@ -10,6 +10,7 @@ ghost use Rattle.ae_vault.specs.Commit.{IsClean};
 ghost use Rattle.ae_vault.specs.Vault.{effective};
 ghost use Rattle.ae_words.specs.Formed.{IsFormed};
 ghost use Rattle.ae_base.specs.declared.outcome.Outcome.{Outcome};
+ghost use Rattle.ae_machine.specs.Accepted.{RowsShort, ends_development};
 ghost use Rattle.ae_machine.specs.Called.{called};
 ghost use Rattle.ae_machine.specs.Fits.{makes_runs};
 ghost use Rattle.ae_machine.specs.There.{is_there_yet};
@@ -18,16 +19,18 @@ ghost use Rattle.ae_machine.specs.Verdict.{refused_before};
 ghost use Rattle.ae_exec.specs.Carried.{pieces_of};
 ghost use Rattle.ae_exec.specs.Directories.{LeavesDirs};
 ghost use Rattle.ae_exec.specs.Endings.{EndsAs, IsDamagedFor, outcome_of, outcome_of_stop};
-ghost use Rattle.ae_exec.specs.Next.{MayFollow, AreMade, IfAccepted, next_of};
+ghost use Rattle.ae_exec.specs.Next.{MayFollow, IfAccepted, next_of};
 ghost use Rattle.ae_exec.specs.Plan.{IsStep, IsMade, IsPlanned};
+ghost use Rattle.ae_exec.specs.Writing.{MayBePut};
 ghost use Rattle.ae_exec.specs.Seen.{CallsSite, CallsSiteOn, IsDecidedSo, IsRefused, IsRefusedOn, LosesVersion};
 
 use crate::directories::change_directories;
 use crate::load::load_state;
 use crate::next::next_state;
+use crate::pieces::pieces_of;
 use crate::reply::{Finished, finish};
 use crate::runs_plan::{makes_runs, plan_runs};
-use crate::sight::look;
+use crate::seeing::see_quiet;
 use crate::stop::Stop;
 use ae_base::User;
 use ae_log::EventList;
@@ -35,7 +38,7 @@ use ae_machine::{Verdict, View, before, decide_rest};
 use ae_outside::{Disk, Site};
 use ae_store::batch;
 use ae_types::State;
-use ae_vault::{Batch, PieceList};
+use ae_vault::Batch;
 use ae_words::Command;
 use std::alloc::{AllocError, Global};
 
@@ -49,12 +52,13 @@ pub(crate) struct Plan {
 // The batch that takes the files to what stands after the events.
 fn next_batch(alloc: Global, old: Option<&State>, events: EventList) -> Result<Batch, AllocError>
     requires follow { MayFollow (option_copied old) events }
-    requires made { AreMade events }
+    requires put { MayBePut events }
     ensures step { IfOk result (λ batch. (next : Observation) × (next_of (option_copied old.entry) events ≡ Some next) × IsStep (option_copied old.entry) next batch) }
     ensures pieces { IfOk result (λ batch. batch.pieces ≡ pieces_of events) }
 {
+    let pieces = pieces_of(alloc, old, events.as_slice())?;
     let new = next_state(alloc, old, events)?;
-    batch(alloc, old, &new, PieceList::new(alloc))
+    batch(alloc, old, &new, pieces)
 }
 
 /// The batch of events, and what the command comes to.
@@ -65,7 +69,7 @@ pub(crate) fn prepare(
     status_line: bool,
 ) -> Result<Plan, AllocError>
     requires follow { MayFollow (option_copied old) events }
-    requires made { AreMade events }
+    requires put { MayBePut events }
     ensures { IfOk result (λ plan. IsMade (option_copied old.entry) status_line events plan.batch plan.finished) }
 {
     let finished = finish(alloc, old, &events, status_line)?;
@@ -86,9 +90,10 @@ pub(crate) fn answer_on(
     requires there { is_there_yet command.now.function ≡ true }
     requires moment { now ≤ last_moment }
     requires passed { refused_before (Some state.now) command.now who.now ≡ None }
+    requires short { ends_development command.now.function ≡ true → RowsShort view.now }
     ensures is { IfOk result (λ answer. IsDecidedSo (Some state.now) command.now who.now now view.now answer) }
     ensures follow { (bytes : ℕ → List ℕ) → ShowsVersions (Some state.now) bytes command.now who.now view.now → IfOk result (λ answer. IfAccepted answer (MayFollow (Some state.now))) }
-    ensures made { (bytes : ℕ → List ℕ) → ShowsVersions (Some state.now) bytes command.now who.now view.now → IfOk result (λ answer. IfAccepted answer AreMade) }
+    ensures put { (bytes : ℕ → List ℕ) → ShowsVersions (Some state.now) bytes command.now who.now view.now → IfOk result (λ answer. IfAccepted answer MayBePut) }
 {
     state.note_sound();
     decide_rest(alloc, Some(state), command, who, now, view)
@@ -106,9 +111,10 @@ fn first_answer(
     requires there { is_there_yet command.now.function ≡ true }
     requires moment { now ≤ last_moment }
     requires passed { refused_before None command.now who.now ≡ None }
+    requires short { RowsShort view.now }
     ensures is { IfOk result (λ answer. IsDecidedSo None command.now who.now now view.now answer) }
     ensures follow { IfOk result (λ answer. IfAccepted answer (MayFollow None)) }
-    ensures made { IfOk result (λ answer. IfAccepted answer AreMade) }
+    ensures put { IfOk result (λ answer. IfAccepted answer MayBePut) }
 {
     decide_rest(alloc, None, command, who, now, view)
 }
@@ -127,9 +133,10 @@ fn answer(
     requires moment { now ≤ last_moment }
     requires quiet { makes_runs command.now.function ≡ false }
     requires passed { refused_before (option_copied old) command.now who.now ≡ None }
+    requires short { RowsShort view.now }
     ensures is { IfOk result (λ answer. IsDecidedSo (option_copied old.entry) command.now who.now now view.now answer) }
     ensures follow { IfOk result (λ answer. IfAccepted answer (MayFollow (option_copied old.entry))) }
-    ensures made { IfOk result (λ answer. IfAccepted answer AreMade) }
+    ensures put { IfOk result (λ answer. IfAccepted answer MayBePut) }
 {
     match old {
         Some(state) => answer_on(alloc, state, command, who, now, view),
@@ -161,7 +168,7 @@ fn plan_quiet<D: Disk, S: Site>(
     ensures disk_later { D.faults disk.old ≤ D.faults disk.new }
     ensures site_later { S.faults site.old ≤ S.faults site.new }
 {
-    let view = look(alloc, site, command.attributes.as_ref())?;
+    let view = see_quiet(alloc, old, site, command)?;
     match answer(alloc, old, command, who, now, &view)? {
         Verdict::Accept(events) => {
             change_directories(alloc, old, disk, site, command)?;

@@ -20,7 +20,7 @@ ghost use Rattle.ae_machine.specs.Jobs.{IsCommand};
 ghost use Rattle.ae_machine.specs.Sight.{with_bytes};
 ghost use Rattle.ae_machine.specs.Space.{placing};
 ghost use Rattle.ae_machine.specs.Versions.{ShowsVersions, rows_based, rows_refreshed};
-ghost use Rattle.ae_exec.specs.Bytes.{HaveBytes, rows_at};
+ghost use Rattle.ae_exec.specs.Bytes.{AreThere, HaveBytes, rows_at};
 ghost use Rattle.ae_exec.specs.Endings.{StopsReading};
 ghost use Rattle.ae_exec.specs.Reading.{AreKept, IsInside, versions_for_runs, versions_of};
 ghost use Rattle.ae_exec.specs.Runs.{AreForRuns, HaveRun};
@@ -59,6 +59,7 @@ fn push_row<D: Disk>(
     requires inside { IsInside row.now.version }
     ensures pushed { OnOk result (D.tells → files.new ≡ files.old ++ rows_at (effective (reads (D.state disk.old))) (row.now ∷ [])) }
     ensures path { OnOk result (paths_of files.new ≡ paths_of files.old ++ row.now.path ∷ []) }
+    ensures there { OnOk result (AreThere files.old → AreThere files.new) }
     ensures kept { OnOk result (D.tells → AreKept (effective (reads (D.state disk.old))) (versions_of (row.now ∷ []))) }
     ensures same { D.tells → GoesOn IsSame (D.state disk.old) (D.state disk.new) }
     ensures stopped { IfErr result (λ stop. StopsReading D.tells (reads (D.state disk.old)) (versions_of (row.now ∷ [])) (HasRisen (D.faults disk.old) (D.faults disk.new)) stop) }
@@ -69,12 +70,17 @@ fn push_row<D: Disk>(
     Ok(())
 }
 
-// The files of rows, with their bytes.
-fn files_of_rows<D: Disk>(alloc: Global, disk: &mut D, rows: &[TreeRow]) -> Result<FileList, Stop>
+/// The files of rows, with their bytes.
+pub(crate) fn files_of_rows<D: Disk>(
+    alloc: Global,
+    disk: &mut D,
+    rows: &[TreeRow],
+) -> Result<FileList, Stop>
     requires clean { D.tells → IsClean (D.state disk.old) }
     requires inside { All (λ (row : TreeRow). IsInside row.version) rows.now }
     ensures rows { IfOk result (λ files. D.tells → files ≡ rows_at (effective (reads (D.state disk.old))) rows.now) }
     ensures paths { IfOk result (λ files. paths_of files ≡ map tree_path rows.now) }
+    ensures there { IfOk result AreThere }
     ensures kept { OnOk result (D.tells → AreKept (effective (reads (D.state disk.old))) (versions_of rows.now)) }
     ensures same { D.tells → GoesOn IsSame (D.state disk.old) (D.state disk.new) }
     ensures stopped { IfErr result (λ stop. StopsReading D.tells (reads (D.state disk.old)) (versions_of rows.now) (HasRisen (D.faults disk.old) (D.faults disk.new)) stop) }

@@ -19,7 +19,7 @@ ghost use Rattle.ae_exec.specs.Seen.{CallsSiteOn, IsRefusedOn, LosesVersion};
 
 use crate::plan::{Plan, answer_on, prepare};
 use crate::running::{make_runs, ready};
-use crate::seeing::{is_integrated, see};
+use crate::seeing::see;
 use crate::stop::Stop;
 use ae_base::User;
 use ae_machine::{RunRowList, Verdict, View, runs_dir};
@@ -101,9 +101,6 @@ fn plan_runs_on<D: Disk, S: Site>(
     ensures site_later { S.faults site.old ≤ S.faults site.new }
 {
     state.note_sound();
-    if is_integrated(state, command) {
-        return Err(Stop::Memory);
-    }
     let view = see(alloc, state, disk, site, command)?;
     if let Verdict::Refuse(refusal) = answer_on(alloc, state, command, who, now, &view)? {
         return Err(Stop::Refused(refusal));

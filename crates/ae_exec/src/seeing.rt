@@ -1,26 +1,29 @@
 // What a build or a test sees of the directories and of the versions before its runs.
-ghost use Rattle.std.specs.Prelude.{◌≡◌, ◌≢◌, ◌≤◌, ◌++◌, ℕ, List, [], Some, None, map, true, false, IfOk, IfErr, IsErrOf, OnOk};
+ghost use Rattle.std.specs.Prelude.{◌≡◌, ◌≢◌, ◌≤◌, ◌++◌, ◌⊎◌, ℕ, List, [], Some, None, map, true, false, All, IfOk, IfErr, IsErrOf, IsSome, OnOk, option_copied};
 ghost use Rattle.std.specs.List.{cons_option};
 ghost use Rattle.ae_outside.specs.Causes.{Counted, HasRisen};
 ghost use Rattle.ae_outside.specs.Image.{IsSame};
+ghost use Rattle.ae_outside.specs.Site.{IsAtMost, SiteState};
 ghost use Rattle.ae_outside.specs.State.{reads, GoesOn};
+ghost use Rattle.ae_dirs.specs.Reads.{file_bytes};
 ghost use Rattle.ae_dirs.specs.declared.error.DirsError.{DirsError};
 ghost use Rattle.ae_vault.specs.Commit.{IsClean};
 ghost use Rattle.ae_vault.specs.Vault.{effective};
+ghost use Rattle.ae_machine.specs.Accepted.{RowsShort};
 ghost use Rattle.ae_machine.specs.Call.{call_of, change_named};
 ghost use Rattle.ae_machine.specs.Called.{called, files_seen, given_at, given_before};
-ghost use Rattle.ae_machine.specs.Fits.{config_row, makes_runs, path_of_row, paths_asked};
+ghost use Rattle.ae_machine.specs.Fits.{config_row, makes_runs, path_of_row, paths_asked, reads_files};
 ghost use Rattle.ae_machine.specs.Versions.{ShowsVersions, config_version, files_refused};
 ghost use Rattle.ae_exec.specs.Bytes.{HaveBytes};
 ghost use Rattle.ae_exec.specs.Endings.{EndsAs, StopsReading, outcome_of_stop};
 ghost use Rattle.ae_exec.specs.Reading.{AreKept, IsLostAmong, asked_of, versions_of};
-ghost use Rattle.ae_exec.specs.Runs.{IsDeveloped};
-ghost use Rattle.ae_exec.specs.Seen.{files_alone, no_bytes};
+ghost use Rattle.ae_exec.specs.Seen.{FilesRefuse, files_alone, no_bytes, seen_alone};
 
+use crate::comparing::compare;
 use crate::sight::look;
 use crate::stop::Stop;
 use crate::version::read_version;
-use ae_base::{Path, Phase, Text};
+use ae_base::{Path, Text};
 use ae_dirs::{DirsError, scan};
 use ae_machine::{ScanList, View, config_version, files_dir, files_refused, paths_asked};
 use ae_outside::{Content, Disk, Site};
@@ -37,6 +40,8 @@ fn read_files<S: Site>(
 ) -> Result<ScanList, DirsError>
     ensures rows { IfOk result (λ rows. S.tells → rows ≡ files_seen (call_of state.now command.now []) (change_named state.now command.now.change) (S.state site.old)) }
     ensures paths { IfOk result (λ rows. map path_of_row rows ≡ paths_asked (call_of state.now command.now []) (change_named state.now command.now.change)) }
+    ensures short { IfOk result (λ rows. All (λ row. IsAtMost file_bytes row.1) rows) }
+    ensures asked { IsErrOf result DirsError.SiteFault → reads_files command.now.function ≡ true }
     ensures same { S.tells → S.state site.new ≡ S.state site.old }
     ensures cause { Counted (S.faults site.old) (S.faults site.new) (IsErrOf result DirsError.SiteFault) }
 {
@@ -54,8 +59,9 @@ fn see_files<S: Site>(
 ) -> Result<View, Stop>
     ensures alone { IfOk result (λ view. S.tells → (who : List ℕ) (when : ℕ) → view ≡ files_alone state.now (called command.now who when (S.state site.old) (S.state site.old))) }
     ensures paths { IfOk result (λ view. map path_of_row view.develop ≡ paths_asked (call_of state.now command.now []) (change_named state.now command.now.change)) }
+    ensures short { IfOk result RowsShort }
     ensures same { S.tells → S.state site.new ≡ S.state site.old }
-    ensures stopped { IfErr result (λ stop. EndsAs ⊥ ⊥ (λ refusal. ⊥) (λ name. ⊥) ⊥ (HasRisen (S.faults site.old) (S.faults site.new)) (outcome_of_stop stop)) }
+    ensures stopped { IfErr result (λ stop. EndsAs ⊥ ⊥ (λ refusal. ⊥) (λ name. ⊥) ⊥ (HasRisen (S.faults site.old) (S.faults site.new) × (IsSome command.now.attributes ⊎ (reads_files command.now.function ≡ true))) (outcome_of_stop stop)) }
     ensures later { S.faults site.old ≤ S.faults site.new }
 {
     let view = look(alloc, site, command.attributes.as_ref())?;
@@ -65,6 +71,25 @@ fn see_files<S: Site>(
         develop: rows,
         runs: view.runs,
     })
+}
+
+/// What a command sees that makes no runs: the file of attributes that it names, and the files of its change that it reads.
+pub(crate) fn see_quiet<S: Site>(
+    alloc: Global,
+    old: Option<&State>,
+    site: &mut S,
+    command: &Command,
+) -> Result<View, Stop>
+    ensures seen { IfOk result (λ view. S.tells → (who : List ℕ) (when : ℕ) (after : SiteState) → view ≡ seen_alone (option_copied old.entry) (called command.now who when (S.state site.old) after)) }
+    ensures short { IfOk result RowsShort }
+    ensures same { S.tells → S.state site.new ≡ S.state site.old }
+    ensures stopped { IfErr result (λ stop. EndsAs ⊥ ⊥ (λ refusal. ⊥) (λ name. ⊥) ⊥ (HasRisen (S.faults site.old) (S.faults site.new) × (IsSome command.now.attributes ⊎ (reads_files command.now.function ≡ true))) (outcome_of_stop stop)) }
+    ensures later { S.faults site.old ≤ S.faults site.new }
+{
+    match old {
+        Some(state) => see_files(alloc, state, site, command),
+        None => Ok(look(alloc, site, command.attributes.as_ref())?),
+    }
 }
 
 // The baseline's aegis.conf as a row that was read, where the commands of its runs are taken from it.
@@ -101,18 +126,9 @@ fn with_row(view: View, row: Option<(Path, Content)>) -> Result<View, AllocError
     Ok(view)
 }
 
-/// Whether the change that the command names is being integrated.
-pub(crate) fn is_integrated(state: &State, command: &Command) -> bool
-    ensures { result ≡ false → IsDeveloped state.now command.now }
-{
-    match command.change.and_then(|number| state.change(number)) {
-        Some(change) => change.phase == Phase::BeingIntegrated,
-        None => false,
-    }
-}
-
 /// What the command sees before its runs: the files of its change that it reads, and after them the baseline's aegis.conf, where
-/// the commands of its runs are taken from it. It is refused before that is read, where one of the files is missing or too long.
+/// the commands of its runs are taken from it. It is refused before that is read, in development where one of the files is
+/// missing or too long, in integration where one differs from the candidate's version.
 pub(crate) fn see<D: Disk, S: Site>(
     alloc: Global,
     state: &State,
@@ -122,7 +138,6 @@ pub(crate) fn see<D: Disk, S: Site>(
 ) -> Result<View, Stop>
     requires clean { D.tells → IsClean (D.state disk.old) }
     requires runs { makes_runs command.now.function ≡ true }
-    requires developed { IsDeveloped state.now command.now }
     ensures seen { IfOk result (λ view. D.tells → S.tells → (bytes : ℕ → List ℕ) (who : List ℕ) (when : ℕ) → HaveBytes (effective (reads (D.state disk.old))) (Some state.now) bytes → view ≡ (given_at state.now bytes (called command.now who when (S.state site.old) (S.state site.old))).view) }
     ensures shown { IfOk result (λ view. (bytes : ℕ → List ℕ) × ((who : List ℕ) → ShowsVersions (Some state.now) bytes command.now who view)) }
     ensures shows { IfOk result (λ view. D.tells → (bytes : ℕ → List ℕ) (who : List ℕ) → HaveBytes (effective (reads (D.state disk.old))) (Some state.now) bytes → ShowsVersions (Some state.now) bytes command.now who view) }
@@ -131,7 +146,7 @@ pub(crate) fn see<D: Disk, S: Site>(
     ensures same { D.tells → GoesOn IsSame (D.state disk.old) (D.state disk.new) }
     ensures site_same { S.tells → S.state site.new ≡ S.state site.old }
     ensures stopped { (who : List ℕ) (when : ℕ) → let call = called command.now who when (S.state site.old) (S.state site.old) in let refused = files_refused (given_before state.now no_bytes call (files_alone state.now call)) in
-        IfErr result (λ stop. EndsAs ⊥ ⊥ (λ refusal. S.tells → refused ≡ Some refusal) (λ name. D.tells → S.tells → (refused ≡ None) × IsLostAmong (reads (D.state disk.old)) (asked_of command.now (Some state.now)) name) (HasRisen (D.faults disk.old) (D.faults disk.new)) (HasRisen (S.faults site.old) (S.faults site.new)) (outcome_of_stop stop)) }
+        IfErr result (λ stop. EndsAs ⊥ ⊥ (λ refusal. D.tells → S.tells → FilesRefuse (effective (reads (D.state disk.old))) state.now call refusal) (λ name. D.tells → S.tells → (refused ≡ None) × IsLostAmong (reads (D.state disk.old)) (asked_of command.now (Some state.now)) name) (HasRisen (D.faults disk.old) (D.faults disk.new)) (HasRisen (S.faults site.old) (S.faults site.new)) (outcome_of_stop stop)) }
     ensures disk_later { D.faults disk.old ≤ D.faults disk.new }
     ensures site_later { S.faults site.old ≤ S.faults site.new }
 {
@@ -139,6 +154,7 @@ pub(crate) fn see<D: Disk, S: Site>(
     if let Some(refusal) = files_refused(alloc, state, command, &view)? {
         return Err(Stop::Refused(refusal));
     }
+    compare(alloc, state, disk, command, &view)?;
     let row = read_config(alloc, state, disk, command)?;
     let seen = with_row(view, row)?;
     Ok(seen)

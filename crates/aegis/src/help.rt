@@ -30,17 +30,17 @@ The functions; one with a * at its end isn't there yet, and is answered as a wor
   -Develop_Begin -Change N
   -Develop_Begin_Undo -Change N
   -Build -Change N
-  -Develop_End -Change N *
-  -Develop_End_Undo -Change N *
-  -Review_Begin -Change N *
-  -Review_Begin_Undo -Change N *
-  -Review_PASS -Change N *
-  -Review_Pass_Undo -Change N *
-  -Review_FAIL -Change N *
-  -Integrate_Begin -Change N *
-  -Integrate_Begin_Undo -Change N *
-  -Integrate_PASS -Change N *
-  -Integrate_FAIL -Change N *
+  -Develop_End -Change N
+  -Develop_End_Undo -Change N
+  -Review_Begin -Change N
+  -Review_Begin_Undo -Change N
+  -Review_PASS -Change N
+  -Review_Pass_Undo -Change N
+  -Review_FAIL -Change N
+  -Integrate_Begin -Change N
+  -Integrate_Begin_Undo -Change N
+  -Integrate_PASS -Change N
+  -Integrate_FAIL -Change N
   -CoPy_file -Change N PATH.. [-DELta N] [-OverWriting]
   -CoPy_file_Undo -Change N PATH..
   -New_File -Change N PATH..

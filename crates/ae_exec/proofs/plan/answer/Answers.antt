@@ -12,5 +12,5 @@ returns-in-Some-clause-follow c =
     subst (λ (o : Option Observation). IfOk c.answer_on.result (λ answer. IfAccepted answer (MayFollow o))) (sym there)
     (c.answer_on.ensures.follow no_bytes (quiet-shows (Some c.in-Some.state.now) no_bytes c.args.command.now c.args.who.now c.args.view.now c.requires.quiet))
 
-pub returns-in-Some-clause-made : goal.returns-in-Some-clause-made
-returns-in-Some-clause-made c = c.answer_on.ensures.made no_bytes (quiet-shows (Some c.in-Some.state.now) no_bytes c.args.command.now c.args.who.now c.args.view.now c.requires.quiet)
+pub returns-in-Some-clause-put : goal.returns-in-Some-clause-put
+returns-in-Some-clause-put c = c.answer_on.ensures.put no_bytes (quiet-shows (Some c.in-Some.state.now) no_bytes c.args.command.now c.args.who.now c.args.view.now c.requires.quiet)

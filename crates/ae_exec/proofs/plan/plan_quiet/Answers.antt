@@ -1,26 +1,27 @@
-use Rattle.std.proofs.Common.{rules, ◌≡◌, ap, inl, subst, Err}
+use Rattle.std.proofs.Common.{rules, ◌≡◌, subst, Err}
 use Rattle.std.specs.Prelude.{option_copied}
 use Rattle.ae_outside.specs.Site.{SiteState}
 use Rattle.ae_outside.specs.State.{reads}
 use Rattle.ae_vault.specs.Vault.{effective}
 use Rattle.ae_machine.specs.declared.verdict.Verdict.TheVariants.{Accept, Refuse}
-use Rattle.ae_machine.specs.Called.{Called, called, only_attributes, attributes_seen}
+use Rattle.ae_machine.specs.Called.{Called, called}
 use Rattle.ae_machine.specs.Real.{IsLeft}
 use Rattle.ae_exec.specs.declared.stop.Stop.TheVariants as stop
 use Rattle.ae_exec.specs.Endings.{refused, memory}
 use Rattle.ae_exec.specs.Seen as seen_specs
-use Rattle.ae_exec.specs.Seen.{IsAnswer, changing, reading}
+use Rattle.ae_exec.specs.Seen.{IsAnswer, changing, reading, seen_alone}
 use Rattle.ae_exec.proofs.RunVersions.{quiet-asked}
-use Rattle.ae_exec.specs.Stopping.{stop_of_site}
 use Rattle.ae_exec.proofs.Attempting.{risen_later}
-use Rattle.ae_exec.proofs.Endings.{ends_for, site_ends}
+use Rattle.ae_exec.proofs.Endings.{ends_for}
 use Rattle.ae_exec.proofs.Following.{same_answer, seen_answer}
+use Rattle.ae_exec.proofs.Room.{delta-room}
 use Rattle.ae_exec.proofs.plan.plan_quiet.Goals as goal
 
 pub returns-in_err-view-clause-stopped : goal.returns-in_err-view-clause-stopped
 returns-in_err-view-clause-stopped g c =
-    let is : c.from_residual.result ≡ Err (stop_of_site c.in_err-view.field-0.0) = search rules in
-    rw is (site_ends c.in_err-view.field-0.0 (λ failed. (c.in_err-view.ensures.cause.rose (ap Err failed), λ tells seen. reading c.requires.passed (inl (let asked = c.in_err-view.ensures.asked (ap Err failed) in search rules)))))
+    let is : c.from_residual.result ≡ Err c.in_err-view.field-0.0 = search rules in
+    rw is (ends_for _ c.in_err-view.ensures.stopped (λ none. none) (λ refusal none. absurd none) (λ name none. absurd none) (λ none. absurd none)
+    (λ rose. (rose.0, λ tells seen. reading c.requires.passed rose.1)))
 
 pub returns-in_err-events-clause-stopped : goal.returns-in_err-events-clause-stopped
 returns-in_err-events-clause-stopped g c = let is : c.from_residual-in_err-events.result ≡ Err stop.Memory = search rules in rw is memory
@@ -30,12 +31,11 @@ returns-in_err-change_directories-in-Accept-clause-stopped g c =
     let is : c.from_residual-in_err-change_directories-in-Accept.result ≡ Err c.in_err-change_directories-in-Accept.field-0.0 = search rules in
     let call : Called = called c.args.command.now c.args.who.now c.args.now (g.S.Site.state c.args.site.now) (g.S.Site.state c.change_directories.new.site) in
     let accepted : g.S.Site.tells → IsAnswer (effective (reads (g.D.Disk.state c.args.disk.now))) (option_copied c.args.old) call (Accept c.in-Accept.events) = λ seen.
-    let is_seen : c.in_ok-view.view ≡ only_attributes (attributes_seen (g.S.Site.state c.args.site.now) c.args.command.now.attributes) = search rules in
-    seen_answer (effective (reads (g.D.Disk.state c.args.disk.now))) (option_copied c.args.old) call (Accept c.in-Accept.events) c.requires.there c.requires.quiet
-    (same_answer (option_copied c.args.old) c.args.command.now c.args.who.now c.args.now _ _ _ _ is_seen c.in-Accept.is c.in_ok-events.ensures.is) in
+    seen_answer (effective (reads (g.D.Disk.state c.args.disk.now))) (option_copied c.args.old) call (Accept c.in-Accept.events) c.requires.quiet
+    (same_answer (option_copied c.args.old) c.args.command.now c.args.who.now c.args.now c.in_ok-view.view (seen_alone (option_copied c.args.old) call) _ (Accept c.in-Accept.events) (c.in_ok-view.ensures.seen seen c.args.who.now c.args.now (g.S.Site.state c.change_directories.new.site)) c.in-Accept.is c.in_ok-events.ensures.is) in
     rw is (ends_for _ c.in_err-change_directories-in-Accept.ensures.stopped (λ none. none) (λ refusal none. absurd none)
     (λ name lost tells seen. seen_specs.accepted c.in-Accept.events (accepted seen) (lost tells)) (λ rose. rose)
-    (λ rose. (risen_later _ _ _ c.look.ensures.cause.later rose.0, λ tells seen. changing c.in-Accept.events (accepted seen) (rose.1 tells))))
+    (λ rose. (risen_later _ _ _ c.see_quiet.ensures.later rose.0, λ tells seen. changing c.in-Accept.events (accepted seen) (rose.1 tells))))
 
 pub returns-in_err-prepare-in-Accept-clause-stopped : goal.returns-in_err-prepare-in-Accept-clause-stopped
 returns-in_err-prepare-in-Accept-clause-stopped g c = let is : c.from_residual-in_err-prepare-in-Accept.result ≡ Err stop.Memory = search rules in rw is memory
@@ -46,10 +46,9 @@ returns-in-Accept-clause-planned g c =
     record {
       events = c.in-Accept.events;
       accepted = λ told.
-          let is_seen : c.in_ok-view.view ≡ only_attributes (attributes_seen (g.S.Site.state c.args.site.now) c.args.command.now.attributes) = let seen = told.1 in search rules in
-          seen_answer (effective (reads (g.D.Disk.state c.args.disk.now))) (option_copied c.args.old) call (Accept c.in-Accept.events) c.requires.there c.requires.quiet
-          (same_answer (option_copied c.args.old) c.args.command.now c.args.who.now c.args.now _ _ _ _ is_seen c.in-Accept.is c.in_ok-events.ensures.is);
-      left = λ told bytes have. subst (λ (before : SiteState). IsLeft (option_copied c.args.old) bytes (called c.args.command.now c.args.who.now c.args.now before (g.S.Site.state c.change_directories.new.site))) (c.look.ensures.same told.1)
+          seen_answer (effective (reads (g.D.Disk.state c.args.disk.now))) (option_copied c.args.old) call (Accept c.in-Accept.events) c.requires.quiet
+          (same_answer (option_copied c.args.old) c.args.command.now c.args.who.now c.args.now c.in_ok-view.view (seen_alone (option_copied c.args.old) call) _ (Accept c.in-Accept.events) (c.in_ok-view.ensures.seen told.1 c.args.who.now c.args.now (g.S.Site.state c.change_directories.new.site)) c.in-Accept.is c.in_ok-events.ensures.is);
+      left = λ told bytes have. subst (λ (before : SiteState). IsLeft (option_copied c.args.old) bytes (called c.args.command.now c.args.who.now c.args.now before (g.S.Site.state c.change_directories.new.site))) (c.see_quiet.ensures.same told.1)
           (c.in_ok-change_directories-in-Accept.ensures.left told.0 told.1 bytes c.args.who.now c.args.now have);
       kept = λ told. c.in_ok-change_directories-in-Accept.ensures.kept told.0;
       made = c.in_ok-prepare-in-Accept.ensures;
@@ -57,10 +56,11 @@ returns-in-Accept-clause-planned g c =
 
 pub returns-clause-stopped : goal.returns-clause-stopped
 returns-clause-stopped g c =
-    refused c.in-Refuse.refusal (λ tells seen.
-    let is_seen : c.in_ok-view.view ≡ only_attributes (attributes_seen (g.S.Site.state c.args.site.now) c.args.command.now.attributes) = search rules in
-    record {
+    refused c.in-Refuse.refusal (λ tells seen. record {
       kept = λ passes. quiet-asked (effective (reads (g.D.Disk.state c.args.disk.now))) c.args.command.now (option_copied c.args.old) c.requires.quiet;
-      answer = seen_answer (effective (reads (g.D.Disk.state c.args.disk.now))) (option_copied c.args.old) (called c.args.command.now c.args.who.now c.args.now (g.S.Site.state c.args.site.now) (g.S.Site.state c.look.new.site)) (Refuse c.in-Refuse.refusal) c.requires.there c.requires.quiet
-          (same_answer (option_copied c.args.old) c.args.command.now c.args.who.now c.args.now _ _ _ _ is_seen c.in-Refuse.is c.in_ok-events.ensures.is);
+      answer = seen_answer (effective (reads (g.D.Disk.state c.args.disk.now))) (option_copied c.args.old) (called c.args.command.now c.args.who.now c.args.now (g.S.Site.state c.args.site.now) (g.S.Site.state c.see_quiet.new.site)) (Refuse c.in-Refuse.refusal) c.requires.quiet
+          (same_answer (option_copied c.args.old) c.args.command.now c.args.who.now c.args.now c.in_ok-view.view (seen_alone (option_copied c.args.old) (called c.args.command.now c.args.who.now c.args.now (g.S.Site.state c.args.site.now) (g.S.Site.state c.see_quiet.new.site))) _ (Refuse c.in-Refuse.refusal) (c.in_ok-view.ensures.seen seen c.args.who.now c.args.now (g.S.Site.state c.see_quiet.new.site)) c.in-Refuse.is c.in_ok-events.ensures.is);
     })
+
+pub change_directories-requires-clause-room : goal.change_directories-requires-clause-room
+change_directories-requires-clause-room g c = delta-room (option_copied c.args.old) c.args.command.now c.args.who.now c.requires.passed

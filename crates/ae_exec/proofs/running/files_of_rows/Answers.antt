@@ -39,6 +39,7 @@ loop-row-preserved g c = record {
   rows = λ tells. row-more _ _ c.args.rows.now c.loop-row.row-index c.row-item.result _ _ c.loop-row-test.true c.row-item.is
       (ap effective (same_reads (g.D.Disk.state c.args.disk.now) (g.D.Disk.state c.loop-row.disk) (c.loop-row.invariant.same tells))) (c.loop-row.invariant.rows tells) (c.in_ok-push_row.ensures.pushed tells);
   paths = c.in_ok-push_row.ensures.path ∙ (λ i. c.loop-row.invariant.paths i ++ tree_path (c.row-item.is i) ∷ []) ∙ sym (map_more tree_path c.args.rows.now c.loop-row.row-index c.row-item.result c.loop-row-test.true);
+  there = c.in_ok-push_row.ensures.there c.loop-row.invariant.there;
   kept = λ tells rest.
       let same : effective (reads (g.D.Disk.state c.loop-row.disk)) ≡ effective (reads (g.D.Disk.state c.args.disk.now)) = ap effective (same_reads (g.D.Disk.state c.args.disk.now) (g.D.Disk.state c.loop-row.disk) (c.loop-row.invariant.same tells)) in
       kept-next (effective (reads (g.D.Disk.state c.args.disk.now))) versions_of (λ (row : TreeRow). versions_of (row ∷ [])) rows-step

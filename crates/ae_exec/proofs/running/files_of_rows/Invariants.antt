@@ -4,7 +4,7 @@ use Rattle.ae_outside.specs.Image.{IsSame}
 use Rattle.ae_outside.specs.State.{reads, GoesOn}
 use Rattle.ae_vault.specs.Vault.{effective}
 use Rattle.ae_types.specs.Trees.{tree_path}
-use Rattle.ae_exec.specs.Bytes.{rows_at}
+use Rattle.ae_exec.specs.Bytes.{AreThere, rows_at}
 use Rattle.ae_exec.specs.Reading.{AreKept, FirstIsLost, versions_of}
 use Rattle.ae_exec.proofs.running.files_of_rows.Given as goal
 
@@ -12,6 +12,7 @@ abbrev pub invariant-loop-row : goal.invariant-loop-row
 invariant-loop-row g l = record {
   rows : g.D.Disk.tells → l.files ≡ rows_at (effective (reads (g.D.Disk.state l.initial.disk))) (take l.row-index l.rows);
   paths : paths_of l.files ≡ map tree_path (take l.row-index l.rows);
+  there : AreThere l.files;
   kept : g.D.Disk.tells → AreKept (effective (reads (g.D.Disk.state l.initial.disk))) (versions_of (drop l.row-index l.rows)) → AreKept (effective (reads (g.D.Disk.state l.initial.disk))) (versions_of l.rows);
   lost : g.D.Disk.tells → FirstIsLost (effective (reads (g.D.Disk.state l.initial.disk))) (versions_of (drop l.row-index l.rows)) → FirstIsLost (effective (reads (g.D.Disk.state l.initial.disk))) (versions_of l.rows);
   same : g.D.Disk.tells → GoesOn IsSame (g.D.Disk.state l.initial.disk) (g.D.Disk.state l.disk);

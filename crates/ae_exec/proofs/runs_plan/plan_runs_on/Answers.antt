@@ -13,33 +13,35 @@ use Rattle.ae_base.specs.Rows.{paths_of}
 use Rattle.ae_machine.specs.Space.{placing}
 use Rattle.ae_machine.specs.Versions.{ShowsVersions}
 use Rattle.ae_exec.specs.Bytes.{HaveBytes}
-use Rattle.ae_exec.specs.Next.{AreMade, IfAccepted, MayFollow}
+use Rattle.ae_exec.specs.Next.{IfAccepted, MayFollow}
+use Rattle.ae_exec.specs.Writing.{MayBePut}
+use Rattle.ae_exec.proofs.FirstSeen.{runs-read-files}
 use Rattle.ae_machine.specs.declared.verdict.Verdict.{Verdict}
 use Rattle.ae_machine.specs.Verdict.{verdict}
 use Rattle.ae_exec.specs.Reading.{AreKept, versions_for_runs}
-use Rattle.ae_exec.specs.Runs.{HaveRun, IsDeveloped}
+use Rattle.ae_exec.specs.Runs.{HaveRun}
 use Rattle.ae_exec.specs.declared.stop.Stop.TheVariants as stop
 use Rattle.ae_exec.specs.Endings.{memory, refused}
 use Rattle.ae_exec.specs.Seen as seen_specs
-use Rattle.ae_exec.specs.Seen.{IsAnswer, IsDecidedSo, answering, reading}
+use Rattle.ae_exec.specs.Seen.{FilesRefuse, IsAnswer, IsDecidedSo, answering, reading}
 use Rattle.ae_exec.specs.Stopping.{stop_of_dirs}
 use Rattle.ae_exec.proofs.Attempting.{risen_later}
 use Rattle.ae_exec.proofs.Endings.{ends_for}
 use Rattle.ae_exec.proofs.OwnDirs.{dirs_ends}
 use Rattle.ae_exec.proofs.Following.{same_answer}
 use Rattle.ae_exec.proofs.RunAnswers.{accepted-configured, accepted-with}
-use Rattle.ae_exec.proofs.RanSo.{all-kept, lost-later, of_ok, ran-both, refused-alone, unrun-answer}
+use Rattle.ae_exec.proofs.RanSo.{all-kept, lost-later, of_ok, ran-both, refused-so, unrun-answer}
 use Rattle.ae_exec.proofs.runs_plan.plan_runs_on.Goals as goal
 
 pub returns-in_err-view-clause-stopped : goal.returns-in_err-view-clause-stopped
 returns-in_err-view-clause-stopped g c =
     let is : c.from_residual.result ≡ Err c.in_err-view.field-0.0 = search rules in
-    let developed : IsDeveloped c.args.state.now c.args.command.now = search rules in
     let call : Called = called c.args.command.now c.args.who.now c.args.now (g.S.Site.state c.args.site.now) (g.S.Site.state c.see.new.site) in
     rw is (ends_for _ (c.in_err-view.ensures.stopped c.args.who.now c.args.now) (λ none. none)
-    (λ refusal seen tells told. refused-alone (effective (reads (g.D.Disk.state c.args.disk.now))) c.args.state.now call c.requires.runs c.requires.passed developed (c.see.ensures.site_same told) refusal (seen told))
+    (λ refusal seen tells told. refused-so (effective (reads (g.D.Disk.state c.args.disk.now))) c.args.state.now call c.requires.runs c.requires.passed (c.see.ensures.site_same told) refusal
+    (subst (λ (after : SiteState). FilesRefuse (effective (reads (g.D.Disk.state c.args.disk.now))) c.args.state.now (called c.args.command.now c.args.who.now c.args.now (g.S.Site.state c.args.site.now) after) refusal) (sym (c.see.ensures.site_same told)) (seen tells told)))
     (λ name lost tells told. let both = lost tells told in answering (record { before = c.requires.passed; files = both.0 }) both.1)
-    (λ rose. rose) (λ rose. (rose, λ tells told. reading c.requires.passed (inr c.requires.runs))))
+    (λ rose. rose) (λ rose. (rose, λ tells told. reading c.requires.passed (inr (runs-read-files c.args.command.now.function c.requires.runs)))))
 
 pub returns-in_err-plan-clause-stopped : goal.returns-in_err-plan-clause-stopped
 returns-in_err-plan-clause-stopped g c =
@@ -59,7 +61,7 @@ returns-in_err-plan-clause-stopped g c =
 pub returns-in_err-runs-clause-stopped : goal.returns-in_err-runs-clause-stopped
 returns-in_err-runs-clause-stopped g c =
     let is : c.from_residual-in_err-runs.result ≡ Err (stop_of_dirs c.in_err-runs.field-0.0) = search rules in
-    rw is (dirs_ends c.in_err-runs.field-0.0 (λ failed. (risen_later _ _ _ c.see.ensures.site_later (c.in_err-runs.ensures.cause.rose (ap Err failed)), λ tells told. reading c.requires.passed (inr c.requires.runs))))
+    rw is (dirs_ends c.in_err-runs.field-0.0 (λ failed. (risen_later _ _ _ c.see.ensures.site_later (c.in_err-runs.ensures.cause.rose (ap Err failed)), λ tells told. reading c.requires.passed (inr (runs-read-files c.args.command.now.function c.requires.runs)))))
 
 pub returns-in_err-runs-clause-same : goal.returns-in_err-runs-clause-same
 returns-in_err-runs-clause-same g c = λ tells. same_on (g.D.Disk.state c.args.disk.now) (g.D.Disk.state c.see.new.disk) (g.D.Disk.state c.ready.new.disk) (c.see.ensures.same tells) (c.ready.ensures.same tells)
@@ -97,12 +99,12 @@ prepare-requires-clause-follow g c =
     subst (λ (v : Verdict). IfAccepted v (MayFollow (Some c.args.state.now))) c.in-Accept.is
     (of_ok (λ (v : Verdict). IfAccepted v (MayFollow (Some c.args.state.now))) c.answer_on-2.result _ c.in_ok-events.was (c.answer_on-2.ensures.follow shown.0 shows))
 
-pub prepare-requires-clause-made : goal.prepare-requires-clause-made
-prepare-requires-clause-made g c =
+pub prepare-requires-clause-put : goal.prepare-requires-clause-put
+prepare-requires-clause-put g c =
     let shown = c.in_ok-view.ensures.shown in
     let shows : ShowsVersions (Some c.args.state.now) shown.0 c.args.command.now c.args.who.now c.with_runs-view.result = subst (ShowsVersions (Some c.args.state.now) shown.0 c.args.command.now c.args.who.now) (sym c.with_runs-view.ensures) (shown.1 c.args.who.now) in
-    subst (λ (v : Verdict). IfAccepted v AreMade) c.in-Accept.is
-    (of_ok (λ (v : Verdict). IfAccepted v AreMade) c.answer_on-2.result _ c.in_ok-events.was (c.answer_on-2.ensures.made shown.0 shows))
+    subst (λ (v : Verdict). IfAccepted v MayBePut) c.in-Accept.is
+    (of_ok (λ (v : Verdict). IfAccepted v MayBePut) c.answer_on-2.result _ c.in_ok-events.was (c.answer_on-2.ensures.put shown.0 shows))
 
 pub unreachable-requires : goal.unreachable-requires
 unreachable-requires g c =
@@ -119,7 +121,6 @@ returns-clause-planned g c =
     let files : Option Image = effective (reads (g.D.Disk.state c.args.disk.now)) in
     let o = c.args.state.now in
     let call : Called = called c.args.command.now c.args.who.now c.args.now (g.S.Site.state c.args.site.now) (g.S.Site.state c.make_runs.new.site) in
-    let developed : IsDeveloped c.args.state.now c.args.command.now = search rules in
     let kept : g.D.Disk.tells → AreKept files (versions_for_runs c.args.command.now c.args.state.now) = λ tells.
     subst (λ (x : Option Image). AreKept x (versions_for_runs c.args.command.now c.args.state.now)) (ap effective (same_reads (g.D.Disk.state c.args.disk.now) (g.D.Disk.state c.see.new.disk) (c.see.ensures.same tells))) (c.in_ok-plan.ensures.kept tells) in
     let decided : IsDecidedSo (Some c.args.state.now) c.args.command.now c.args.who.now c.args.now (record c.in_ok-view.view { runs = c.in_ok-runs.runs }) (Accept c.in-Accept.events) =
@@ -127,7 +128,7 @@ returns-clause-planned g c =
     let ran : g.D.Disk.tells → g.S.Site.tells → (bytes : ℕ → List ℕ) → HaveBytes files (Some c.args.state.now) bytes → (answer_to (Some c.args.state.now) bytes call ≡ Accept c.in-Accept.events) × IsLeft (Some c.args.state.now) bytes call = λ tells told bytes have.
     let shows : ShowsVersions (Some c.args.state.now) bytes c.args.command.now c.args.who.now c.in_ok-view.view = c.in_ok-view.ensures.shows tells bytes c.args.who.now have in
     let same : effective (reads (g.D.Disk.state c.see.new.disk)) ≡ files = ap effective (same_reads (g.D.Disk.state c.args.disk.now) (g.D.Disk.state c.see.new.disk) (c.see.ensures.same tells)) in
-    ran-both files c.args.state.now call c.note_sound.ensures.sound c.requires.runs c.requires.formed c.requires.passed developed (c.in_ok-view.ensures.kept tells) (kept tells) bytes have
+    ran-both files c.args.state.now call c.note_sound.ensures.sound c.requires.runs c.requires.formed c.requires.passed (c.in_ok-view.ensures.kept tells) (kept tells) bytes have
     c.in_ok-view.view (c.in_ok-view.ensures.seen tells told bytes c.args.who.now c.args.now have) c.runs_dir.result c.in_ok-plan.plan.changes c.in_ok-plan.plan.tracked c.in_ok-plan.plan.jobs c.in_ok-runs.runs
     (c.runs_dir.ensures c.args.who.now)
     (c.in_ok-plan.ensures.are tells bytes c.args.who.now c.args.now (subst (λ (x : Option Image). HaveBytes x (Some c.args.state.now) bytes) (sym same) have) shows)
@@ -155,6 +156,3 @@ returns-in-Refuse-clause-stopped g c =
           (same_answer (Some c.args.state.now) c.args.command.now c.args.who.now c.args.now _ _ _ _ refl c.in-Refuse.is c.in_ok-refusal.ensures.is);
       kept = λ passes. c.in_ok-view.ensures.kept tells;
     })
-
-pub returns-then-is_integrated-clause-stopped : goal.returns-then-is_integrated-clause-stopped
-returns-then-is_integrated-clause-stopped g c = memory

@@ -1,9 +1,13 @@
 use Rattle.std.proofs.Common.{◌∙◌, sym, []}
 use Rattle.ae_outside.specs.Site.{contents}
 use Rattle.ae_machine.specs.Call.{call_of, change_named}
-use Rattle.ae_exec.proofs.FirstSeen.{seen-there}
+use Rattle.ae_exec.proofs.FirstSeen.{asked-reads, seen-there}
 use Rattle.ae_exec.proofs.Stores.{if_ok}
 use Rattle.ae_exec.proofs.seeing.read_files.Goals as goal
+
+pub returns-clause-asked : goal.returns-clause-asked
+returns-clause-asked g c = λ failed.
+    asked-reads (call_of c.args.state.now c.args.command.now []) (change_named c.args.state.now c.args.command.now.change) (λ none. c.scan.ensures.asked failed (c.in_ok-paths.ensures [] ∙ none))
 
 pub returns-clause-rows : goal.returns-clause-rows
 returns-clause-rows g c = if_ok _ _ c.scan.result c.scan.ensures.rows (λ rows is tells.
