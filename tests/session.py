@@ -138,8 +138,12 @@ class Session:
             self.complain("the transcript has more commands than the script")
 
     def compare_store(self, expected):
-        """The state files are the same but for moments, and each moment is one of this run. No file is an empty one."""
-        store = read_tree(os.path.join(self.top, "aegis.d", "store"), ("gate", "body"))
+        """The state files are the same but for moments, and each moment is one of this run. No file is an empty one.
+
+        `gate` and `body` are compared where the session has them.
+        """
+        left_out = {"gate", "body"} - expected.keys()
+        store = read_tree(os.path.join(self.top, "aegis.d", "store"), left_out)
         for name in sorted({*store, *expected}):
             found, wanted = store.get(name, b""), expected.get(name, b"")
             moments = [int(moment) for moment in re.findall(rb"when = (\d+);", found)]
