@@ -55,3 +55,7 @@ pub mod RunsMade
 pub mod AskedFor
 pub mod SightShows
 pub mod EndAnswer
+pub mod ExampleCommands
+pub mod ExampleLogs
+pub mod Evident
+pub mod Released

@@ -15,7 +15,6 @@ pub mod Provenance
 pub mod Same
 pub mod Replies
 pub mod Laws
-pub mod There
 pub mod Accepted
 pub mod Facts
 pub mod Directories
@@ -29,3 +28,6 @@ pub mod LeastClash
 pub mod Typed
 pub mod PathClash
 pub mod Rules
+pub mod Examples
+pub mod Evident
+pub mod Released

@@ -20,6 +20,7 @@ use crate::asking::files_refused;
 use crate::events::accept_one;
 use crate::reading::change_tree;
 use crate::{Verdict, View};
+use ae_base::limits::MOST_FROZEN_BYTES;
 use ae_base::{ChangeNo, Ground, Path, Phase, Refusal, Snapshot, Text, User, Which};
 use ae_evidence::{digest, missing};
 use ae_history::{space_of, take_places};
@@ -43,7 +44,7 @@ fn size_of(row: &(Path, Option<Text>)) -> u64
 fn have_room(rows: &[(Path, Option<Text>)]) -> bool
     ensures { result ≡ nat_le (sum (map size_of rows.now)) most_frozen_bytes }
 {
-    let mut left = 67_108_864;
+    let mut left = MOST_FROZEN_BYTES as u64;
     for row in rows {
         let size = size_of(row);
         if size > left {
@@ -66,7 +67,7 @@ fn tree_refused(
         option_or (within FrozenBytes most_frozen_bytes (sum (map size_of tree.now))) (missing state.now change Develop (digest tree.now)))) }
 {
     if !have_room(tree.as_slice()) {
-        return Ok(Some(Refusal::Limit(Which::FrozenBytes, 67_108_864)));
+        return Ok(Some(Refusal::Limit(Which::FrozenBytes, Which::FrozenBytes.most())));
     }
     missing(alloc, state, number, Ground::Develop, &digest(tree))
 }

@@ -25,7 +25,7 @@ mod reviewing;
 mod running;
 mod runs;
 mod seen;
-mod there;
+mod single;
 mod verdict;
 mod view;
 mod working;
@@ -39,13 +39,14 @@ pub use deciding::{decide, decide_rest};
 pub use directories::{DirChange, DirChangeList, FileList};
 pub use jobs::{Job, JobList, jobs_asked};
 pub use laws::{
-    accepted_events_apply, accepted_events_follow, commands_are_reversed, legal_logs_are_provided,
-    legal_logs_are_sound, legal_logs_have_facts, legal_logs_have_paths, legal_runs_have_statuses,
-    note_refused_before, trees_are_by_rules,
+    accepted_events_apply, accepted_events_follow, commands_are_reversed, legal_logs_are_evident,
+    legal_logs_are_provided, legal_logs_are_sound, legal_logs_have_facts, legal_logs_have_paths,
+    legal_runs_have_statuses, note_refused_before, provenance_is_decided_by_value,
+    released_files_are_traced, trees_are_by_rules,
 };
 pub use preparing::{run_changes, tracked};
 pub use refusing::before;
 pub use runs::last_delta;
-pub use there::is_there_yet;
+pub use single::is_one_command;
 pub use verdict::Verdict;
 pub use view::{RunRow, RunRowList, ScanList, View};

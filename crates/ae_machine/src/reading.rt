@@ -109,7 +109,10 @@ fn content_refused(alloc: Global, seen: &Seen, path: &Path) -> Result<Option<Ref
 {
     match seen.row(path.bytes()) {
         Some((_, Content::Bytes(_))) => Ok(None),
-        Some((_, Content::TooLong)) => Ok(Some(Refusal::Limit(Which::FileBytes, 4_194_304))),
+        Some((_, Content::TooLong)) => Ok(Some(Refusal::Limit(
+            Which::FileBytes,
+            Which::FileBytes.most(),
+        ))),
         Some((_, Content::Absent)) | None => Ok(Some(Refusal::FileMissing(path.copy(alloc)?))),
     }
 }
