@@ -23,9 +23,8 @@ use Rattle.ae_machine.specs.declared.verdict.Verdict.TheVariants.{Accept, Refuse
 use Rattle.ae_machine.specs.Accepted.{AppliesAll, AreStart, IsDecided, decided, RowsShort, ends_development}
 use Rattle.ae_machine.specs.Call.{Given, call_of, change_of, given_of, first_of}
 use Rattle.ae_machine.specs.Called.{Called, answer_to, attributes_seen, occasion_after, only_attributes, answer_after, view}
-use Rattle.ae_machine.specs.Legal.{Legal, Occasion, verdict_after}
+use Rattle.ae_machine.specs.Legal.{Legal, Occasion, verdict_after, is_one_command}
 use Rattle.ae_machine.specs.Space.{placing}
-use Rattle.ae_machine.specs.There.{is_there_yet}
 use Rattle.std.specs.Option.{option_or}
 use Rattle.ae_base.specs.declared.refusal.Refusal.TheVariants.{NoProject, ProjectExists}
 use Rattle.ae_words.specs.declared.command.Command.{Command}

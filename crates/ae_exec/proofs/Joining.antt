@@ -9,6 +9,7 @@ use Rattle.ae_outside.specs.State.{DiskState}
 use Rattle.ae_types.proofs.Members.{In}
 use Rattle.ae_vault.specs.Kept.{Kept, StandsForOne}
 use Rattle.ae_log.specs.Log.{Log}
+use Rattle.ae_machine.specs.Called.{Called}
 use Rattle.ae_exec.specs.Holding.{IsCarriedTo}
 use Rattle.ae_exec.specs.Joining.{TwoCommands}
 use Rattle.ae_exec.specs.Refined.{KeptBy, MayBeUnsynced, Refined, held_by, synced, unsynced}
@@ -86,27 +87,27 @@ one-in log next l (inl is) = inl is
 one-in log next l (inr h) = absurd h
 
 -- the logs of which one is held after a command are those two
-carried-in : (disk : DiskState) (log next : Log) (outcome : Outcome) (c : IsCarriedTo disk (log ∷ []) log next outcome) (l : Log) → In c.logs l → In (log ∷ next ∷ []) l
-carried-in disk log next outcome c l h = go c.are
+carried-in : (disk : DiskState) (log : Log) (called : Called) (outcome : Outcome) (c : IsCarriedTo disk (log ∷ []) log called outcome) (l : Log) → In c.logs l → In (log ∷ step log called ∷ []) l
+carried-in disk log called outcome c l h = go c.are
   where
-    go : (MayBeUnsynced outcome × (c.logs ≡ log ∷ [])) ⊎ (c.logs ≡ held_by StandsForLog log next outcome) → In (log ∷ next ∷ []) l
-    go (inl early) = one-in log next l (subst (λ (logs : List Log). In logs l) early.1 h)
-    go (inr is) = held-in log next outcome l (subst (λ (logs : List Log). In logs l) is h)
+    go : (MayBeUnsynced outcome × (c.logs ≡ log ∷ [])) ⊎ (c.logs ≡ held_by StandsForLog log (step log called) outcome) → In (log ∷ step log called ∷ []) l
+    go (inl early) = one-in log (step log called) l (subst (λ (logs : List Log). In logs l) early.1 h)
+    go (inr is) = held-in log (step log called) outcome l (subst (λ (logs : List Log). In logs l) is h)
 
 -- ---- two
 
 pub two-commands : (base mid disk : DiskState) → TwoCommands base mid disk
-two-commands base mid disk log first second one two was may typed performs time later then = record {
+two-commands base mid disk log first second one two was may performs time later then = record {
   read = c.read;
-  among = list-in (log ∷ next ∷ []) c.read (carried-in mid log next one c c.read (in-list c.logs c.read c.among));
+  among = list-in (log ∷ next ∷ []) c.read (carried-in mid log first one c c.read (in-list c.logs c.read c.among));
   stops = stops;
 }
   where
     next : Log
     next = step log first
 
-    c : IsCarriedTo mid (log ∷ []) log (step log first) one
-    c = performs.carried may (log ∷ []) log typed was
+    c : IsCarriedTo mid (log ∷ []) log first one
+    c = performs.carried may (log ∷ []) log was
 
     last : Log
     last = step c.read second
@@ -117,7 +118,7 @@ two-commands base mid disk log first second one two was may typed performs time 
     more l (inr (inr h)) = absurd h
 
     of_second : (l : Log) → In (c.read ∷ last ∷ []) l → In (log ∷ next ∷ last ∷ []) l
-    of_second l (inl is) = more l (carried-in mid log next one c l (subst (In c.logs) is (in-list c.logs c.read c.among)))
+    of_second l (inl is) = more l (carried-in mid log first one c l (subst (In c.logs) is (in-list c.logs c.read c.among)))
     of_second l (inr (inl is)) = inr (inr (inl is))
     of_second l (inr (inr h)) = absurd h
 
@@ -125,6 +126,6 @@ two-commands base mid disk log first second one two was may typed performs time 
     stops u f from till is = elim (cases_lt u mid.moment) [
       | inl before ↦ refined-stops base mid (log ∷ []) log next one (log ∷ next ∷ last ∷ []) (λ l h. more l (one-in log next l h)) more (performs.refined (log ∷ []) log was.holds)
           u f from (omega (arith, before)) (later.no_more u f (omega (arith, before)) is)
-      | inr after ↦ refined-stops mid disk c.logs c.read last two (log ∷ next ∷ last ∷ []) (λ l h. more l (carried-in mid log next one c l h)) of_second (then.refined c.logs c.read c.holds.holds)
+      | inr after ↦ refined-stops mid disk c.logs c.read last two (log ∷ next ∷ last ∷ []) (λ l h. more l (carried-in mid log first one c l h)) of_second (then.refined c.logs c.read c.holds.holds)
           u f after till is
     ]

@@ -8,7 +8,7 @@ use Rattle.ae_vault.specs.Kept.{Holds, Kept, last_of}
 use Rattle.ae_log.specs.Log.{Log}
 use Rattle.ae_machine.specs.Called.{Called}
 use Rattle.ae_exec.specs.Endings.{Ends}
-use Rattle.ae_exec.specs.Holding.{HoldsLegal, MayGive, SeesTyped}
+use Rattle.ae_exec.specs.Holding.{HoldsLegal, MayGive}
 use Rattle.ae_exec.specs.Performs.{Performs}
 use Rattle.ae_exec.specs.Refined.{Refined}
 use Rattle.ae_exec.specs.Stands.{StandsForLog}
@@ -35,8 +35,7 @@ pub record LeaveThree (base disk : DiskState) (log : Log) (first second : Called
 
 abbrev pub TwoCommands : (base mid disk : DiskState) → Type 0
 TwoCommands base mid disk =
-    (log : Log) (first second : Called) (one two : Outcome) → HoldsLegal base (log ∷ []) log → MayGive first → SeesTyped log first → Performs base mid first one
-    → Continues base mid → Continues mid disk → Performs mid disk second two → LeaveThree base disk log first second
+    (log : Log) (first second : Called) (one two : Outcome) → HoldsLegal base (log ∷ []) log → MayGive first → Performs base mid first one → Continues base mid → Continues mid disk → Performs mid disk second two → LeaveThree base disk log first second
 
 -- ---- causes
 

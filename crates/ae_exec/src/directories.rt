@@ -16,7 +16,7 @@ ghost use Rattle.ae_machine.specs.Directories.{in_order, removed};
 ghost use Rattle.ae_machine.specs.Fits.{makes_runs};
 ghost use Rattle.ae_machine.specs.Real.{IsLeft};
 ghost use Rattle.ae_machine.specs.Sight.{row_at};
-ghost use Rattle.ae_machine.specs.There.{is_there_yet};
+ghost use Rattle.ae_machine.specs.Legal.{is_one_command};
 ghost use Rattle.ae_exec.specs.Bytes.{HaveBytes, row_of_path, row_version, rows_at};
 ghost use Rattle.ae_exec.specs.Directories.{AreChanges, AreOwn, DeltaHasRoom, LeavesDirs, makes_files, removes_files, paths_put, puts_files, tree_put};
 ghost use Rattle.ae_exec.specs.Reading.{AreKept, IsInside, IsLostAmong, reads_of, versions_at, versions_of, versions_read};
@@ -340,7 +340,7 @@ fn dir_changes<D: Disk>(
     command: &Command,
 ) -> Result<DirChangeList, Stop>
     requires clean { D.tells → IsClean (D.state disk.old) }
-    requires there { is_there_yet command.now.function ≡ true }
+    requires one { is_one_command command.now.function ≡ true }
     requires quiet { makes_runs command.now.function ≡ false }
     requires room { DeltaHasRoom command.now (Some state.now) }
     ensures changes { IfOk result (λ changes. D.tells → AreChanges (effective (reads (D.state disk.old))) state.now command.now changes) }
@@ -373,7 +373,7 @@ pub(crate) fn change_directories<D: Disk, S: Site>(
     command: &Command,
 ) -> Result<(), Stop>
     requires clean { D.tells → IsClean (D.state disk.old) }
-    requires there { is_there_yet command.now.function ≡ true }
+    requires one { is_one_command command.now.function ≡ true }
     requires quiet { makes_runs command.now.function ≡ false }
     requires room { DeltaHasRoom command.now (option_copied old) }
     ensures left { OnOk result (D.tells → S.tells → (bytes : ℕ → List ℕ) (who : List ℕ) (when : ℕ) → HaveBytes (effective (reads (D.state disk.old))) (option_copied old.entry) bytes → IsLeft (option_copied old.entry) bytes (called command.now who when (S.state site.old) (S.state site.new))) }

@@ -11,6 +11,7 @@ mod open;
 mod performing;
 mod pieces;
 mod plan;
+mod project;
 mod reply;
 mod running;
 mod runs;
@@ -22,7 +23,8 @@ mod version;
 
 pub use laws::{
     calls_join, ends_once, legal_logs_are_held, note_shown, note_whole, performed_is_legal,
-    placing_is_in_space, versions_are_carried,
+    placing_is_in_space, released_files_are_evident, versions_are_carried,
 };
 pub use performing::{Performed, perform};
+pub use project::load_project;
 pub use version::read_version;

@@ -13,7 +13,7 @@ ghost use Rattle.ae_base.specs.declared.outcome.Outcome.{Outcome};
 ghost use Rattle.ae_machine.specs.Accepted.{RowsShort, ends_development};
 ghost use Rattle.ae_machine.specs.Called.{called};
 ghost use Rattle.ae_machine.specs.Fits.{makes_runs};
-ghost use Rattle.ae_machine.specs.There.{is_there_yet};
+ghost use Rattle.ae_machine.specs.Legal.{is_one_command};
 ghost use Rattle.ae_machine.specs.Versions.{ShowsVersions};
 ghost use Rattle.ae_machine.specs.Verdict.{refused_before};
 ghost use Rattle.ae_exec.specs.Carried.{pieces_of};
@@ -29,12 +29,12 @@ use crate::load::load_state;
 use crate::next::next_state;
 use crate::pieces::pieces_of;
 use crate::reply::{Finished, finish};
-use crate::runs_plan::{makes_runs, plan_runs};
+use crate::runs_plan::plan_runs;
 use crate::seeing::see_quiet;
 use crate::stop::Stop;
 use ae_base::User;
 use ae_log::EventList;
-use ae_machine::{Verdict, View, before, decide_rest};
+use ae_machine::{Verdict, View, before, decide_rest, makes_runs};
 use ae_outside::{Disk, Site};
 use ae_store::batch;
 use ae_types::State;
@@ -61,18 +61,19 @@ fn next_batch(alloc: Global, old: Option<&State>, events: EventList) -> Result<B
     batch(alloc, old, &new, pieces)
 }
 
-/// The batch of events, and what the command comes to.
+/// The batch of the events of a command, and what it comes to.
 pub(crate) fn prepare(
     alloc: Global,
     old: Option<&State>,
+    command: &Command,
     events: EventList,
     status_line: bool,
 ) -> Result<Plan, AllocError>
     requires follow { MayFollow (option_copied old) events }
     requires put { MayBePut events }
-    ensures { IfOk result (λ plan. IsMade (option_copied old.entry) status_line events plan.batch plan.finished) }
+    ensures { IfOk result (λ plan. IsMade (option_copied old.entry) command.now status_line events plan.batch plan.finished) }
 {
-    let finished = finish(alloc, old, &events, status_line)?;
+    let finished = finish(alloc, old, command, &events, status_line)?;
     let batch = next_batch(alloc, old, events)?;
     Ok(Plan { batch, finished })
 }
@@ -87,7 +88,7 @@ pub(crate) fn answer_on(
     view: &View,
 ) -> Result<Verdict, AllocError>
     requires formed { IsFormed command.now }
-    requires there { is_there_yet command.now.function ≡ true }
+    requires one { is_one_command command.now.function ≡ true }
     requires moment { now ≤ last_moment }
     requires passed { refused_before (Some state.now) command.now who.now ≡ None }
     requires short { ends_development command.now.function ≡ true → RowsShort view.now }
@@ -108,7 +109,7 @@ fn first_answer(
     view: &View,
 ) -> Result<Verdict, AllocError>
     requires formed { IsFormed command.now }
-    requires there { is_there_yet command.now.function ≡ true }
+    requires one { is_one_command command.now.function ≡ true }
     requires moment { now ≤ last_moment }
     requires passed { refused_before None command.now who.now ≡ None }
     requires short { RowsShort view.now }
@@ -129,7 +130,7 @@ fn answer(
     view: &View,
 ) -> Result<Verdict, AllocError>
     requires formed { IsFormed command.now }
-    requires there { is_there_yet command.now.function ≡ true }
+    requires one { is_one_command command.now.function ≡ true }
     requires moment { now ≤ last_moment }
     requires quiet { makes_runs command.now.function ≡ false }
     requires passed { refused_before (option_copied old) command.now who.now ≡ None }
@@ -157,7 +158,7 @@ fn plan_quiet<D: Disk, S: Site>(
 ) -> Result<Plan, Stop>
     requires clean { D.tells → IsClean (D.state disk.old) }
     requires formed { IsFormed command.now }
-    requires there { is_there_yet command.now.function ≡ true }
+    requires one { is_one_command command.now.function ≡ true }
     requires moment { now ≤ last_moment }
     requires quiet { makes_runs command.now.function ≡ false }
     requires passed { refused_before (option_copied old) command.now who.now ≡ None }
@@ -172,7 +173,7 @@ fn plan_quiet<D: Disk, S: Site>(
     match answer(alloc, old, command, who, now, &view)? {
         Verdict::Accept(events) => {
             change_directories(alloc, old, disk, site, command)?;
-            Ok(prepare(alloc, old, events, status_line)?)
+            Ok(prepare(alloc, old, command, events, status_line)?)
         }
         Verdict::Refuse(refusal) => Err(Stop::Refused(refusal)),
     }
@@ -191,7 +192,7 @@ fn plan_on<D: Disk, S: Site>(
 ) -> Result<Plan, Stop>
     requires clean { D.tells → IsClean (D.state disk.old) }
     requires formed { IsFormed command.now }
-    requires there { is_there_yet command.now.function ≡ true }
+    requires one { is_one_command command.now.function ≡ true }
     requires moment { now ≤ last_moment }
     ensures planned { IfOk result (λ plan. IsPlanned (D.tells × S.tells) (effective (reads (D.state disk.old))) (option_copied old.entry) (called command.now who.now now (S.state site.old) (S.state site.new)) status_line plan.batch plan.finished) }
     ensures stopped { IfErr result (λ stop. EndsAs ⊥ ⊥ (λ refusal. D.tells → S.tells → IsRefusedOn (effective (reads (D.state disk.old))) (option_copied old.entry) (called command.now who.now now (S.state site.old) (S.state site.new)) refusal) (λ name. D.tells → S.tells → LosesVersion (reads (D.state disk.old)) (option_copied old.entry) (called command.now who.now now (S.state site.old) (S.state site.new)) name) (HasRisen (D.faults disk.old) (D.faults disk.new)) (HasRisen (S.faults site.old) (S.faults site.new) × (D.tells → S.tells → CallsSiteOn (effective (reads (D.state disk.old))) (option_copied old.entry) (called command.now who.now now (S.state site.old) (S.state site.new)))) (outcome_of_stop stop)) }
@@ -223,7 +224,7 @@ pub(crate) fn make_plan<D: Disk, S: Site>(
 ) -> Result<Plan, Stop>
     requires clean { D.tells → IsClean (D.state disk.old) }
     requires formed { IsFormed command.now }
-    requires there { is_there_yet command.now.function ≡ true }
+    requires one { is_one_command command.now.function ≡ true }
     requires moment { now ≤ last_moment }
     ensures planned { IfOk result (λ plan. (o : Option Observation) × (D.tells → Stands (reads (D.state disk.old)) o) × IsPlanned (D.tells × S.tells) (effective (reads (D.state disk.old))) o (called command.now who.now now (S.state site.old) (S.state site.new)) status_line plan.batch plan.finished) }
     ensures stopped { IfErr result (λ stop. EndsAs ⊥ ⊥ (λ refusal. D.tells → S.tells → IsRefused (reads (D.state disk.old)) (called command.now who.now now (S.state site.old) (S.state site.new)) refusal) (λ name. D.tells → S.tells → IsDamagedFor (reads (D.state disk.old)) (called command.now who.now now (S.state site.old) (S.state site.new)) name) (HasRisen (D.faults disk.old) (D.faults disk.new)) (HasRisen (S.faults site.old) (S.faults site.new) × (D.tells → S.tells → CallsSite (reads (D.state disk.old)) (called command.now who.now now (S.state site.old) (S.state site.new)))) (outcome_of_stop stop)) }

@@ -10,6 +10,7 @@ ghost use Rattle.ae_vault.specs.Vault.{effective};
 ghost use Rattle.ae_dirs.specs.declared.error.DirsError.{DirsError};
 ghost use Rattle.ae_dirs.specs.Jobs.{IsGroup};
 ghost use Rattle.ae_dirs.specs.Reads.{tracked_in};
+ghost use Rattle.ae_dirs.specs.Runs.{MakesByteRuns};
 ghost use Rattle.ae_machine.specs.declared.jobs.Job.{Job};
 ghost use Rattle.ae_machine.specs.Directories.{dirs_after};
 ghost use Rattle.ae_base.specs.Rows.{Ascends};
@@ -103,6 +104,8 @@ pub(crate) fn make_runs<S: Site>(
     requires commands { All (λ (job : Job). IsCommand job.command) plan.now.jobs }
     ensures ran { IfOk result (λ rows. S.tells → plan.now.tracked ≡ tracked_in (dirs_after plan.now.changes (S.state site.old).trees dir) plan.now.tracked → HaveRun dir plan.now.changes (paths_of plan.now.tracked) plan.now.jobs rows (S.state site.old) (S.state site.new)) }
     ensures whole { IfOk result (λ rows. IsGroup plan.now.tracked plan.now.jobs rows) }
+    // However it ends, the runs that it made are of bytes.
+    ensures bytes { S.tells → MakesByteRuns (S.state site.old) (S.state site.new) }
     ensures cause { Counted (S.faults site.old) (S.faults site.new) (IsErrOf result DirsError.SiteFault) }
 {
     change_dirs(alloc, site, plan.changes.as_slice())?;

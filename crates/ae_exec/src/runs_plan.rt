@@ -10,7 +10,7 @@ ghost use Rattle.ae_vault.specs.Vault.{effective};
 ghost use Rattle.ae_words.specs.Formed.{IsFormed};
 ghost use Rattle.ae_machine.specs.Called.{called};
 ghost use Rattle.ae_machine.specs.Fits.{makes_runs};
-ghost use Rattle.ae_machine.specs.There.{is_there_yet};
+ghost use Rattle.ae_machine.specs.Legal.{is_one_command};
 ghost use Rattle.ae_machine.specs.Verdict.{refused_before};
 ghost use Rattle.ae_exec.specs.Directories.{LeavesDirs};
 ghost use Rattle.ae_exec.specs.Endings.{EndsAs, outcome_of, outcome_of_stop};
@@ -25,15 +25,8 @@ use ae_base::User;
 use ae_machine::{RunRowList, Verdict, View, runs_dir};
 use ae_outside::{Disk, Site};
 use ae_types::State;
-use ae_words::{Command, Function};
+use ae_words::Command;
 use std::alloc::Global;
-
-/// Whether a function makes runs.
-pub(crate) fn makes_runs(function: Function) -> bool
-    ensures { result ≡ makes_runs function }
-{
-    matches!(function, Function::Build | Function::Test)
-}
 
 /// What is put and said of a command that makes runs, and that nothing refuses which asks nothing of the directories.
 pub(crate) fn plan_runs<D: Disk, S: Site>(
@@ -48,7 +41,7 @@ pub(crate) fn plan_runs<D: Disk, S: Site>(
 ) -> Result<Plan, Stop>
     requires clean { D.tells → IsClean (D.state disk.old) }
     requires formed { IsFormed command.now }
-    requires there { is_there_yet command.now.function ≡ true }
+    requires one { is_one_command command.now.function ≡ true }
     requires moment { now ≤ last_moment }
     requires runs { makes_runs command.now.function ≡ true }
     requires passed { refused_before (option_copied old) command.now who.now ≡ None }
@@ -88,7 +81,7 @@ fn plan_runs_on<D: Disk, S: Site>(
 ) -> Result<Plan, Stop>
     requires clean { D.tells → IsClean (D.state disk.old) }
     requires formed { IsFormed command.now }
-    requires there { is_there_yet command.now.function ≡ true }
+    requires one { is_one_command command.now.function ≡ true }
     requires moment { now ≤ last_moment }
     requires runs { makes_runs command.now.function ≡ true }
     requires passed { refused_before (Some state.now) command.now who.now ≡ None }
@@ -109,7 +102,7 @@ fn plan_runs_on<D: Disk, S: Site>(
     let runs = make_runs(alloc, site, runs_dir(state, command), &plan)?;
     let view = with_runs(view, runs);
     match answer_on(alloc, state, command, who, now, &view)? {
-        Verdict::Accept(events) => Ok(prepare(alloc, Some(state), events, status_line)?),
+        Verdict::Accept(events) => Ok(prepare(alloc, Some(state), command, events, status_line)?),
         Verdict::Refuse(_) => unreachable!(),
     }
 }

@@ -104,7 +104,7 @@ returns-in_err-put_batch-clause-performs g c = λ tells seen.
     (λ held log is.
     let plan = planned_before _ _ _ o call _ _ _ (λ told. c.open_store.ensures.files tells) c.in_ok-batch.ensures.planned.2 in
     let read = read_before (g.D.Disk.state c.args.disk.now) (g.D.Disk.state c.open_store.new.disk) o (c.open_store.ensures.files tells) (c.in_ok-batch.ensures.planned.1 tells) in
-    let decided : IsDecided (occasion_after log call) = record { formed = c.requires.formed; moment = c.requires.moment; there = c.requires.there; short = ends-short (observation log) (version_bytes log) call } in
+    let decided : IsDecided (occasion_after log call) = record { formed = c.requires.formed; moment = c.requires.moment; one = c.requires.one; short = ends-short (observation log) (version_bytes log) call } in
     let batch_takes = takes (g.D.Disk.state c.args.disk.now) _ o call _ _ _ plan read (tells, seen) log decided is.stands is.legal in
     let was = opened_still StandsForLog by_files alike (g.D.Disk.state c.args.disk.now) (g.D.Disk.state c.open_store.new.disk) (g.D.Disk.state c.make_plan.new.disk) held log (c.in_ok-open_store.ensures.opened tells held log is.holds is.stands) (c.make_plan.ensures.same tells) in (
       fault_refined StandsForLog by_files alike (g.D.Disk.state c.args.disk.now) (g.D.Disk.state c.make_plan.new.disk) (g.D.Disk.state c.put_batch.new.disk) held log (step log call) was (c.put_batch.ensures.time tells) (c.put_batch.ensures.left tells log (step log call) batch_takes was.holds),
@@ -146,7 +146,7 @@ returns-clause-performs g c = λ tells seen.
     (λ held log is.
     let plan = planned_before _ _ _ o call _ _ _ (λ told. c.open_store.ensures.files tells) c.in_ok-batch.ensures.planned.2 in
     let read = read_before (g.D.Disk.state c.args.disk.now) (g.D.Disk.state c.open_store.new.disk) o (c.open_store.ensures.files tells) (c.in_ok-batch.ensures.planned.1 tells) in
-    let decided : IsDecided (occasion_after log call) = record { formed = c.requires.formed; moment = c.requires.moment; there = c.requires.there; short = ends-short (observation log) (version_bytes log) call } in
+    let decided : IsDecided (occasion_after log call) = record { formed = c.requires.formed; moment = c.requires.moment; one = c.requires.one; short = ends-short (observation log) (version_bytes log) call } in
     let batch_takes = takes (g.D.Disk.state c.args.disk.now) _ o call _ _ _ plan read (tells, seen) log decided is.stands is.legal in
     let was = opened_still StandsForLog by_files alike (g.D.Disk.state c.args.disk.now) (g.D.Disk.state c.open_store.new.disk) (g.D.Disk.state c.make_plan.new.disk) held log (c.in_ok-open_store.ensures.opened tells held log is.holds is.stands) (c.make_plan.ensures.same tells) in (
       done_refined StandsForLog by_files alike _ (g.D.Disk.state c.args.disk.now) (g.D.Disk.state c.make_plan.new.disk) (g.D.Disk.state c.put_batch.new.disk) held log (step log call) was (c.put_batch.ensures.time tells) (c.put_batch.ensures.left tells log (step log call) batch_takes was.holds)

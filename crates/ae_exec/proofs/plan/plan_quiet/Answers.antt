@@ -15,6 +15,7 @@ use Rattle.ae_exec.proofs.Attempting.{risen_later}
 use Rattle.ae_exec.proofs.Endings.{ends_for}
 use Rattle.ae_exec.proofs.Following.{same_answer, seen_answer}
 use Rattle.ae_exec.proofs.Room.{delta-room}
+use Rattle.ae_exec.proofs.OwnDirs.{leaves-still}
 use Rattle.ae_exec.proofs.plan.plan_quiet.Goals as goal
 
 pub returns-in_err-view-clause-stopped : goal.returns-in_err-view-clause-stopped
@@ -64,3 +65,12 @@ returns-clause-stopped g c =
 
 pub change_directories-requires-clause-room : goal.change_directories-requires-clause-room
 change_directories-requires-clause-room g c = delta-room (option_copied c.args.old) c.args.command.now c.args.who.now c.requires.passed
+
+pub returns-in_err-view-clause-directories : goal.returns-in_err-view-clause-directories
+returns-in_err-view-clause-directories g c = λ seen. leaves-still c.args.command.now (g.S.Site.state c.args.site.now) (g.S.Site.state c.see_quiet.new.site) _ (c.see_quiet.ensures.same seen)
+
+pub returns-in_err-events-clause-directories : goal.returns-in_err-events-clause-directories
+returns-in_err-events-clause-directories g c = λ seen. leaves-still c.args.command.now (g.S.Site.state c.args.site.now) (g.S.Site.state c.see_quiet.new.site) _ (c.see_quiet.ensures.same seen)
+
+pub returns-clause-directories : goal.returns-clause-directories
+returns-clause-directories g c = λ seen. leaves-still c.args.command.now (g.S.Site.state c.args.site.now) (g.S.Site.state c.see_quiet.new.site) _ (c.see_quiet.ensures.same seen)

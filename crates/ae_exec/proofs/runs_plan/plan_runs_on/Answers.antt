@@ -9,6 +9,7 @@ use Rattle.ae_machine.specs.Called.{Called, answer_to, called}
 use Rattle.ae_machine.specs.Directories.{dirs_after}
 use Rattle.ae_machine.specs.Real.{IsLeft}
 use Rattle.ae_dirs.specs.Reads as dir_reads
+use Rattle.ae_dirs.specs.Runs.{MakesByteRuns}
 use Rattle.ae_base.specs.Rows.{paths_of}
 use Rattle.ae_machine.specs.Space.{placing}
 use Rattle.ae_machine.specs.Versions.{ShowsVersions}
@@ -27,7 +28,8 @@ use Rattle.ae_exec.specs.Seen.{FilesRefuse, IsAnswer, IsDecidedSo, answering, re
 use Rattle.ae_exec.specs.Stopping.{stop_of_dirs}
 use Rattle.ae_exec.proofs.Attempting.{risen_later}
 use Rattle.ae_exec.proofs.Endings.{ends_for}
-use Rattle.ae_exec.proofs.OwnDirs.{dirs_ends}
+use Rattle.ae_exec.proofs.Ended.{dirs_err}
+use Rattle.ae_exec.proofs.OwnDirs.{dirs_ends, dirs_touch, leaves-runs, leaves-still}
 use Rattle.ae_exec.proofs.Following.{same_answer}
 use Rattle.ae_exec.proofs.RunAnswers.{accepted-configured, accepted-with}
 use Rattle.ae_exec.proofs.RanSo.{all-kept, lost-later, of_ok, ran-both, refused-so, unrun-answer}
@@ -156,3 +158,34 @@ returns-in-Refuse-clause-stopped g c =
           (same_answer (Some c.args.state.now) c.args.command.now c.args.who.now c.args.now _ _ _ _ refl c.in-Refuse.is c.in_ok-refusal.ensures.is);
       kept = λ passes. c.in_ok-view.ensures.kept tells;
     })
+
+pub returns-in_err-view-clause-directories : goal.returns-in_err-view-clause-directories
+returns-in_err-view-clause-directories g c = λ seen. leaves-still c.args.command.now (g.S.Site.state c.args.site.now) (g.S.Site.state c.see.new.site) _ (c.see.ensures.site_same seen)
+
+pub returns-in_err-refusal-clause-directories : goal.returns-in_err-refusal-clause-directories
+returns-in_err-refusal-clause-directories g c = λ seen. leaves-still c.args.command.now (g.S.Site.state c.args.site.now) (g.S.Site.state c.see.new.site) _ (c.see.ensures.site_same seen)
+
+pub returns-in-Refuse-clause-directories : goal.returns-in-Refuse-clause-directories
+returns-in-Refuse-clause-directories g c = λ seen. leaves-still c.args.command.now (g.S.Site.state c.args.site.now) (g.S.Site.state c.see.new.site) _ (c.see.ensures.site_same seen)
+
+pub returns-in_err-plan-clause-directories : goal.returns-in_err-plan-clause-directories
+returns-in_err-plan-clause-directories g c = λ seen. leaves-still c.args.command.now (g.S.Site.state c.args.site.now) (g.S.Site.state c.see.new.site) _ (c.see.ensures.site_same seen)
+
+pub returns-in_err-runs-clause-directories : goal.returns-in_err-runs-clause-directories
+returns-in_err-runs-clause-directories g c = λ seen.
+    dirs_err c.args.command.now (g.S.Site.state c.args.site.now) (g.S.Site.state c.make_runs.new.site) _ (stop_of_dirs c.in_err-runs.field-0.0) (search rules)
+    (leaves-runs c.args.command.now (g.S.Site.state c.args.site.now) (g.S.Site.state c.make_runs.new.site) _ c.requires.runs (dirs_touch c.in_err-runs.field-0.0) (subst (λ (st : SiteState). MakesByteRuns st (g.S.Site.state c.make_runs.new.site)) (c.see.ensures.site_same seen) (c.make_runs.ensures.bytes seen)))
+
+pub returns-in_err-events-clause-directories : goal.returns-in_err-events-clause-directories
+returns-in_err-events-clause-directories g c = λ seen.
+    dirs_err c.args.command.now (g.S.Site.state c.args.site.now) (g.S.Site.state c.make_runs.new.site) _ stop.Memory (search rules)
+    (leaves-runs c.args.command.now (g.S.Site.state c.args.site.now) (g.S.Site.state c.make_runs.new.site) _ c.requires.runs (λ none. none) (subst (λ (st : SiteState). MakesByteRuns st (g.S.Site.state c.make_runs.new.site)) (c.see.ensures.site_same seen) (c.make_runs.ensures.bytes seen)))
+
+pub returns-in_err-prepare-in-Accept-clause-directories : goal.returns-in_err-prepare-in-Accept-clause-directories
+returns-in_err-prepare-in-Accept-clause-directories g c = λ seen.
+    dirs_err c.args.command.now (g.S.Site.state c.args.site.now) (g.S.Site.state c.make_runs.new.site) _ stop.Memory (search rules)
+    (leaves-runs c.args.command.now (g.S.Site.state c.args.site.now) (g.S.Site.state c.make_runs.new.site) _ c.requires.runs (λ none. none) (subst (λ (st : SiteState). MakesByteRuns st (g.S.Site.state c.make_runs.new.site)) (c.see.ensures.site_same seen) (c.make_runs.ensures.bytes seen)))
+
+pub returns-clause-directories : goal.returns-clause-directories
+returns-clause-directories g c = λ seen.
+    leaves-runs c.args.command.now (g.S.Site.state c.args.site.now) (g.S.Site.state c.make_runs.new.site) _ c.requires.runs (λ none. none) (subst (λ (st : SiteState). MakesByteRuns st (g.S.Site.state c.make_runs.new.site)) (c.see.ensures.site_same seen) (c.make_runs.ensures.bytes seen))
