@@ -1,0 +1,13 @@
+pub mod Along
+pub mod Caused
+pub mod Commands
+pub mod Completed
+pub mod Edits
+pub mod Ended
+pub mod Following
+pub mod Givers
+pub mod Keeping
+pub mod Runs
+pub mod SoFar
+pub mod Telling
+pub mod Told
