@@ -7,22 +7,94 @@ use Rattle.ae_words.specs.Answer.{IsAnswer, told}
 use Rattle.ae_words.specs.declared.command.Command.{Command}
 use Rattle.ae_words.specs.declared.read.WordsError.{WordsError}
 use Rattle.ae_words.specs.declared.read.WordsError.TheVariants as words_error
-use Rattle.ae_words.specs.Grammar.{IsFirstBad}
+use Rattle.ae_words.specs.declared.table.Function.{Function}
+use Rattle.ae_words.specs.declared.table.Function.TheVariants as function
+use Rattle.ae_words.specs.Grammar.{IsCommand, IsFirstBad}
 use Rattle.ae_words.proofs.FirstBad.{one_command, never_both}
-use Rattle.ae_machine.specs.There.{is_there_yet}
+use Rattle.ae_words.proofs.OneAnswer.{one_place}
+use Rattle.ae_machine.specs.Legal.{is_one_command}
+use Rattle.ae_script.specs.Step.{may_give}
 use Rattle.ae_session.specs.declared.request.Request.{Request}
 use Rattle.ae_session.specs.declared.request.RequestError.{RequestError}
 use Rattle.ae_session.specs.declared.request.RequestError.TheVariants as error
-use Rattle.ae_session.specs.Request.{may_ask, AsksFor, nobody, bad_word, not_there, NeverBoth}
+use Rattle.ae_session.specs.Request.{AsksFor, BadAt, nobody, bad_word, NeverBoth, OnePlace}
 
 pub asks_once : (words : List (List ℕ)) (who : List ℕ) (now : ℕ) (command other : Command) → AsksFor words who now command → AsksFor words who now other → command ≡ other
 asks_once words who now command other a b = one_command words command other a.said b.said
 
-pub asks_or_bad : NeverBoth
-asks_or_bad words who now place command asks (nobody may is) = absurd (let both : true ≡ false = sym asks.may ∙ may in cc)
-asks_or_bad words who now place command asks (bad_word first may is told) = never_both words command first asks.said is
-asks_or_bad words who now place command asks (not_there other may said there told) =
-    absurd (let both : true ≡ false = sym asks.there ∙ ap (λ (c : Command). is_there_yet c.function) (one_command words command other asks.said said) ∙ there in cc)
+-- ---- good or bad
+
+good_bad : (words : List (List ℕ)) (who : List ℕ) (now place : ℕ) (command : Command) → BadAt words who now place → may_give who now ≡ true → IsCommand words command → ⊥
+good_bad words who now place command (nobody may is) asks said = absurd (let both : true ≡ false = sym asks ∙ may in cc)
+good_bad words who now place command (bad_word first may is told) asks said = never_both words command first said is
+
+pub never_both_asked : NeverBoth
+never_both_asked words who now place bad = record {
+  no_command = λ command asks. good_bad words who now place command bad asks.may asks.said;
+  no_script = λ asks. good_bad words who now place asks.command bad asks.may asks.said;
+  no_project = λ start changes files asks. good_bad words who now place asks.command bad asks.may asks.said;
+}
+
+pub one_bad_place : OnePlace
+one_bad_place words who now place other (nobody may is) (nobody can at) = is ∙ sym at
+one_bad_place words who now place other (nobody may is) (bad_word first can at told) = absurd (let both : true ≡ false = sym can ∙ may in cc)
+one_bad_place words who now place other (bad_word first may is told_so) (nobody can at) = absurd (let both : true ≡ false = sym may ∙ can in cc)
+one_bad_place words who now place other (bad_word first may is told_so) (bad_word second can at told_too) = told_so ∙ ap told (one_place words first second is at) ∙ sym told_too
+
+-- what was read asks for something
+pub read_not_bad : (words : List (List ℕ)) (who : List ℕ) (now place : ℕ) (command : Command) → may_give who now ≡ true → IsCommand words command → BadAt words who now place → ⊥
+read_not_bad words who now place command may said bad = good_bad words who now place command bad may said
+
+-- no words ask for two of these
+pub not_both_functions : (words : List (List ℕ)) (a b : Command) → IsCommand words a → IsCommand words b → is_one_command a.function ≡ true → is_one_command b.function ≡ false → ⊥
+not_both_functions words a b is_a is_b one none = absurd (let both : false ≡ true = sym none ∙ ap (λ (c : Command). is_one_command c.function) (one_command words b a is_b is_a) ∙ one in cc)
+
+pub not_both_kinds : (words : List (List ℕ)) (a b : Command) → IsCommand words a → IsCommand words b → a.function ≡ function.Script → b.function ≡ function.Generate → ⊥
+not_both_kinds words a b is_a is_b script made = absurd (let both : function.Script ≡ function.Generate = sym script ∙ ap (λ (c : Command). c.function) (one_command words a b is_a is_b) ∙ made in cc)
+
+-- a function that is neither a script nor the generator is one command
+pub one_of_others : (f : Function) → (f ≡ function.Script → ⊥) → (f ≡ function.Generate → ⊥) → is_one_command f ≡ true
+one_of_others function.Build no_script no_made = refl
+one_of_others function.ChangeAttributes no_script no_made = refl
+one_of_others function.CopyFile no_script no_made = refl
+one_of_others function.CopyFileUndo no_script no_made = refl
+one_of_others function.DevelopBegin no_script no_made = refl
+one_of_others function.DevelopBeginUndo no_script no_made = refl
+one_of_others function.DevelopEnd no_script no_made = refl
+one_of_others function.DevelopEndUndo no_script no_made = refl
+one_of_others function.Generate no_script no_made = absurd (no_made refl)
+one_of_others function.IntegrateBegin no_script no_made = refl
+one_of_others function.IntegrateBeginUndo no_script no_made = refl
+one_of_others function.IntegrateFail no_script no_made = refl
+one_of_others function.IntegratePass no_script no_made = refl
+one_of_others function.List no_script no_made = refl
+one_of_others function.NewAdministrator no_script no_made = refl
+one_of_others function.NewChange no_script no_made = refl
+one_of_others function.NewChangeUndo no_script no_made = refl
+one_of_others function.NewDeveloper no_script no_made = refl
+one_of_others function.NewFile no_script no_made = refl
+one_of_others function.NewFileUndo no_script no_made = refl
+one_of_others function.NewIntegrator no_script no_made = refl
+one_of_others function.NewProject no_script no_made = refl
+one_of_others function.NewReviewer no_script no_made = refl
+one_of_others function.NewTest no_script no_made = refl
+one_of_others function.NewTestUndo no_script no_made = refl
+one_of_others function.ProjectAttributes no_script no_made = refl
+one_of_others function.RemoveAdministrator no_script no_made = refl
+one_of_others function.RemoveDeveloper no_script no_made = refl
+one_of_others function.RemoveFile no_script no_made = refl
+one_of_others function.RemoveFileUndo no_script no_made = refl
+one_of_others function.RemoveIntegrator no_script no_made = refl
+one_of_others function.RemoveReviewer no_script no_made = refl
+one_of_others function.ReviewBegin no_script no_made = refl
+one_of_others function.ReviewBeginUndo no_script no_made = refl
+one_of_others function.ReviewFail no_script no_made = refl
+one_of_others function.ReviewPass no_script no_made = refl
+one_of_others function.ReviewPassUndo no_script no_made = refl
+one_of_others function.Script no_script no_made = absurd (no_script refl)
+one_of_others function.Test no_script no_made = refl
+
+-- ---- what is read
 
 -- the place that is answered is that of the error
 pub same_place : (place other is : ℕ) → ◌≡◌ {A = Result Request RequestError} (Err (error.Bad other)) (Err (error.Bad place)) → other ≡ is → place ≡ is
@@ -31,13 +103,9 @@ same_place place other is same at = let one : other ≡ place = cc in sym one �
 pub bad_answer : (words : List (List ℕ)) (e : WordsError) (place : ℕ) → e ≡ words_error.Bad place → IsAnswer words (Err e) → (first : ℕ) × IsFirstBad words first × (place ≡ told first)
 bad_answer words e place is answer = subst (λ (e : WordsError). IsAnswer words (Err e)) is answer
 
-pub may_is : (text : List ℕ) (who : Option (List ℕ)) (user : List ℕ) (now : ℕ) → who ≡ read_as is_user text → who ≡ Some user → now ≤ 4102444799 → may_ask text now ≡ true
+pub may_is : (text : List ℕ) (who : Option (List ℕ)) (user : List ℕ) (now : ℕ) → who ≡ read_as is_user text → who ≡ Some user → now ≤ 4102444799 → may_give text now ≡ true
 may_is text who user now read some early = go (is_user text) refl
   where
-    go : (b : Bool) → is_user text ≡ b → may_ask text now ≡ true
+    go : (b : Bool) → is_user text ≡ b → may_give text now ≡ true
     go true is = grind (arith, common_steps, is, early)
     go false is = absurd (let none : who ≡ None = grind (arith, common_steps, read, is) in cc)
-
--- what holds of a command and who gives it
-pub said_by : (P : Command → List ℕ → Type 0) (command other : Command) (who user : List ℕ) → command ≡ other → who ≡ user → P command who → P other user
-said_by P command other who user same named is = subst (λ (w : List ℕ). P other w) named (subst (λ (c : Command). P c who) same is)

@@ -1,5 +1,12 @@
+pub mod Alone
 pub mod Asking
-pub mod Endings
-pub mod Completing
-pub mod Refining
-pub mod Pieces
+pub mod Calling
+pub mod Counting
+pub mod Making
+pub mod Projects
+pub mod Repeating
+pub mod RunsMade
+pub mod Sizes
+pub mod Still
+pub mod Summed
+pub mod Summing

@@ -1,85 +1,51 @@
--- What a call was asked, what it was handed, and what it answers.
-use Rattle.std.specs.Prelude.{◌≡◌, ◌⊎◌, ℕ, List}
+-- What a call of one command answers, whatever the disk holds.
+use Rattle.std.specs.Prelude.{◌≡◌, Bool, true, false, List, [], ℕ}
 use Rattle.ae_base.specs.declared.outcome.Outcome.{Outcome}
-use Rattle.ae_outside.specs.Site.{SiteState}
-use Rattle.ae_outside.specs.State.{DiskState}
-use Rattle.ae_words.specs.declared.command.Command.{Command}
-use Rattle.ae_machine.specs.Called.{Called, called}
-use Rattle.ae_exec.specs.Directories.{LeavesDirs}
-use Rattle.ae_exec.specs.Endings.{ChangesNothing}
-use Rattle.ae_exec.specs.Performs.{Completes, LeavesDisk, Performs}
-use Rattle.ae_session.specs.Answers.{CallEnds, IsMessage, IsReplyTo, IsSaid, MayPerform, unless_told}
-use Rattle.ae_session.specs.Request.{AsksFor, BadAt}
+use Rattle.ae_machine.specs.Called.{Called}
+use Rattle.ae_exec.specs.Directories.{IsDone, LeavesDirs}
+use Rattle.ae_exec.specs.Endings.{ChangesNothing, MayEnd}
+use Rattle.ae_exec.specs.Performs.{Completes, IsReply, LeavesDisk, Performs}
+use Rattle.ae_exec.specs.Said.{is_listing}
+use Rattle.ae_telling.specs.Messages.{command_text}
+use Rattle.ae_telling.specs.Telling.{SinkUse, IsTold}
+use Rattle.ae_script.specs.Uses.{DiskUse, SiteUse}
 
--- its words, who gives it, and when
-pub record Asked : Type 0 where
-  pub words : List (List ℕ)
-  pub who : List ℕ
-  pub now : ℕ
+-- ---- where a call tells what it says
 
-abbrev pub asked : List (List ℕ) → List ℕ → ℕ → Asked
-asked words who now = record { words = words; who = who; now = now }
+-- the sink to which it tells, and the other
+abbrev pub told_to : (to_out : Bool) → (out err : SinkUse) → SinkUse
+told_to true out err = out
+told_to false out err = err
 
--- a disk, directories and a sink: whether they tell what they hold, what they held before and after, and that their count of
--- faults rose
-pub record DiskUse : Type 1 where
-  pub told : Type 0
-  pub before : DiskState
-  pub after : DiskState
-  pub rose : Type 0
+abbrev pub silent : (to_out : Bool) → (out err : SinkUse) → SinkUse
+silent true out err = err
+silent false out err = out
 
-pub record SiteUse : Type 1 where
-  pub told : Type 0
-  pub before : SiteState
-  pub after : SiteState
-  pub rose : Type 0
+-- a sink has taken nothing
+abbrev pub TakesNothing : SinkUse → Type 0
+TakesNothing sink = sink.told → sink.after ≡ sink.before
 
-pub record SinkUse : Type 1 where
-  pub told : Type 0
-  pub before : List ℕ
-  pub after : List ℕ
-  pub rose : Type 0
+-- ---- of one command
 
-abbrev pub disk_use : (told : Type 0) → (before after : DiskState) → (rose : Type 0) → DiskUse
-disk_use told before after rose = record { told = told; before = before; after = after; rose = rose }
-
-abbrev pub site_use : (told : Type 0) → (before after : SiteState) → (rose : Type 0) → SiteUse
-site_use told before after rose = record { told = told; before = before; after = after; rose = rose }
-
-abbrev pub sink_use : (told : Type 0) → (before after : List ℕ) → (rose : Type 0) → SinkUse
-sink_use told before after rose = record { told = told; before = before; after = after; rose = rose }
-
--- ---- of a call
-
--- the call asks for this command
-abbrev pub Asks : Asked → Command → Type 0
-Asks asked command = AsksFor asked.words asked.who asked.now command
-
--- the command, with the directories before and after it
-abbrev pub called_by : Asked → SiteUse → Command → Called
-called_by asked site command = called command asked.who asked.now site.before site.after
-
--- the text is the reply to the command that it asks for
-abbrev pub IsReplyOf : Asked → DiskUse → SiteUse → List ℕ → Type 0
-IsReplyOf asked disk site text = IsReplyTo asked.words asked.who asked.now (disk.told × site.told) disk.before site.before site.after text
-
--- What a call answers. All of it is of the outcome that was meant, which is that of the call unless its message couldn't be written.
-pub record Answers (asked : Asked) (disk : DiskUse) (site : SiteUse) (sink : SinkUse) (result : Outcome) : Type 0 where
+-- What a call of one command answers. All of it is of the outcome that was meant, which is that of the call unless what is said of
+-- it couldn't be written.
+pub record Answers (called : Called) (disk : DiskUse) (site : SiteUse) (out err : SinkUse) (result : Outcome) : Type 0 where
   pub meant : Outcome
-  pub told : (result ≡ meant) ⊎ ((result ≡ unless_told meant) × sink.rose)
-  -- how it came: with bad words at their place, as a command may, or out of memory
-  pub ends : CallEnds (BadAt asked.words asked.who asked.now) (MayPerform asked.words asked.who asked.now disk.rose site.rose) meant
-  -- its message, and what of it is written
+  -- how it ends: a fault only where that count rose
+  pub ends : MayEnd disk.rose site.rose meant
+  -- what is said: once it is done its reply or its listing, and else the message of the outcome
   pub text : List ℕ
-  pub message : IsMessage (IsReplyOf asked disk site) meant text
-  pub said : sink.told → IsSaid text result sink.before sink.after sink.rose
-  -- what is left on the disk, whatever the words say
+  pub reply : IsDone meant → disk.told → site.told → IsReply disk.before called false text
+  pub message : (IsDone meant → ⊥) → text ≡ command_text false [] meant
+  -- a listing is told to `out`, and all else to `err`
+  pub told : IsTold meant text (told_to (is_listing called.command.function meant) out err) result
+  pub other : TakesNothing (silent (is_listing called.command.function meant) out err)
+  -- what it leaves on the disk and in the directories, and what it comes to
   pub leaves : disk.told → LeavesDisk disk.before disk.after (ChangesNothing meant)
-  -- what the command that the words ask for leaves in the directories, and what it comes to
-  pub directories : site.told → (command : Command) → Asks asked command → LeavesDirs command site.before site.after meant
-  pub performs : disk.told → site.told → (command : Command) → Asks asked command → Performs disk.before disk.after (called_by asked site command) meant
+  pub directories : site.told → LeavesDirs called.command called.before called.after meant
+  pub performs : disk.told → site.told → Performs disk.before disk.after called meant
 
--- where no count rises, the command that it asks for ends as the verdict on it says, unless memory runs out
-abbrev pub EndsWhole : Asked → DiskUse → SiteUse → SinkUse → Outcome → Type 0
-EndsWhole asked disk site sink result =
-    disk.told → site.told → (disk.rose → ⊥) → (site.rose → ⊥) → (sink.rose → ⊥) → (command : Command) → Asks asked command → Completes disk.before (called_by asked site command) result
+-- where no count rises it ends as the verdict on it says, unless memory runs out
+abbrev pub EndsWhole : Called → DiskUse → SiteUse → (out err : SinkUse) → Outcome → Type 0
+EndsWhole called disk site out err result =
+    disk.told → site.told → (disk.rose → ⊥) → (site.rose → ⊥) → (out.rose → ⊥) → (err.rose → ⊥) → Completes disk.before called result

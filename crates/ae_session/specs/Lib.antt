@@ -1,4 +1,5 @@
-pub mod Answers
-pub mod Replies
-pub mod Request
+pub mod Called
 pub mod Calls
+pub mod Request
+pub mod Summary
+pub mod Stopped

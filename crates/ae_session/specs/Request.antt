@@ -1,29 +1,55 @@
 -- What the words of a call ask for.
-use Rattle.std.specs.Prelude.{ℕ, ◌≡◌, List, Bool, true, false, ◌&&◌, nat_le}
-use Rattle.ae_base.specs.Limits.{last_moment}
-use Rattle.ae_base.specs.Names.{is_user}
+use Rattle.std.specs.Prelude.{ℕ, ◌≡◌, List, [], ◌∷◌, true, false}
 use Rattle.ae_words.specs.Answer.{told}
 use Rattle.ae_words.specs.Grammar.{IsCommand, IsFirstBad}
 use Rattle.ae_words.specs.declared.command.Command.{Command}
-use Rattle.ae_machine.specs.There.{is_there_yet}
+use Rattle.ae_words.specs.declared.table.Function.TheVariants as function
+use Rattle.ae_machine.specs.Legal.{is_one_command}
+use Rattle.ae_exec.specs.Said.{lists}
+use Rattle.ae_script.specs.Step.{may_give}
 
--- whether the user is one, and the moment no later than that
-abbrev pub may_ask : List ℕ → ℕ → Bool
-may_ask who now = is_user who && nat_le now last_moment
-
--- the call asks for this command
+-- the call asks for this command alone
 pub record AsksFor (words : List (List ℕ)) (who : List ℕ) (now : ℕ) (command : Command) : Type 0 where
-  pub may : may_ask who now ≡ true
+  pub may : may_give who now ≡ true
   pub said : IsCommand words command
-  pub there : is_there_yet command.function ≡ true
+  pub one : is_one_command command.function ≡ true
 
--- the place at which a call is bad: 0 for a user that is none or a moment that is too late, then that of the first bad
--- word, or of a missing one, and 1 for a command whose function isn't there yet
+-- it asks for the script that the input has
+pub record AsksForScript (words : List (List ℕ)) (who : List ℕ) (now : ℕ) : Type 0 where
+  pub may : may_give who now ≡ true
+  pub command : Command
+  pub said : IsCommand words command
+  pub is_script : command.function ≡ function.Script
+
+-- it asks for a made-up project: the number from which its texts are drawn, its changes, and the files of each
+pub record AsksForGenerate (words : List (List ℕ)) (who : List ℕ) (now start changes files : ℕ) : Type 0 where
+  pub may : may_give who now ≡ true
+  pub command : Command
+  pub said : IsCommand words command
+  pub generates : command.function ≡ function.Generate
+  pub numbers : command.numbers ≡ start ∷ changes ∷ files ∷ []
+
+-- it asks for something that is told to `out`: a script, a listing, or a made-up project
+pub data TellsToOut (words : List (List ℕ)) (who : List ℕ) (now : ℕ) : Type 0 where
+  script : AsksForScript words who now → TellsToOut words who now
+  listing : (command : Command) → AsksFor words who now command → lists command.function ≡ true → TellsToOut words who now
+  project : (start changes files : ℕ) → AsksForGenerate words who now start changes files → TellsToOut words who now
+
+-- the place at which a call is bad: 0 for a user that is none or a moment that is too late, else that of the first bad word, or
+-- of a missing one
 pub data BadAt (words : List (List ℕ)) (who : List ℕ) (now place : ℕ) : Type 0 where
-  nobody : may_ask who now ≡ false → place ≡ 0 → BadAt words who now place
-  bad_word : (first : ℕ) → may_ask who now ≡ true → IsFirstBad words first → place ≡ told first → BadAt words who now place
-  not_there : (command : Command) → may_ask who now ≡ true → IsCommand words command → is_there_yet command.function ≡ false → place ≡ 1 → BadAt words who now place
+  nobody : may_give who now ≡ false → place ≡ 0 → BadAt words who now place
+  bad_word : (first : ℕ) → may_give who now ≡ true → IsFirstBad words first → place ≡ told first → BadAt words who now place
 
--- no call is both
+-- a call that is bad asks for nothing
+pub record AsksForNothing (words : List (List ℕ)) (who : List ℕ) (now : ℕ) : Type 0 where
+  pub no_command : (command : Command) → AsksFor words who now command → ⊥
+  pub no_script : AsksForScript words who now → ⊥
+  pub no_project : (start changes files : ℕ) → AsksForGenerate words who now start changes files → ⊥
+
 abbrev pub NeverBoth : Type 0
-NeverBoth = (words : List (List ℕ)) (who : List ℕ) (now place : ℕ) (command : Command) → AsksFor words who now command → BadAt words who now place → ⊥
+NeverBoth = (words : List (List ℕ)) (who : List ℕ) (now place : ℕ) → BadAt words who now place → AsksForNothing words who now
+
+-- and is bad at one place
+abbrev pub OnePlace : Type 0
+OnePlace = (words : List (List ℕ)) (who : List ℕ) (now place other : ℕ) → BadAt words who now place → BadAt words who now other → place ≡ other

@@ -2,18 +2,17 @@
 ghost use Rattle.std.specs.Prelude.{◌≡◌, ◌≤◌, ℕ, true, map, IfOk, IsErrOf, string_bytes};
 ghost use Rattle.ae_base.specs.Limits.{last_moment};
 ghost use Rattle.ae_words.specs.Formed.{IsFormed};
-ghost use Rattle.ae_machine.specs.There.{is_there_yet};
-ghost use Rattle.ae_session.specs.Request.{AsksFor, BadAt, NeverBoth};
+ghost use Rattle.ae_words.specs.Grammar.{IsCommand};
+ghost use Rattle.ae_script.specs.Step.{may_give};
+ghost use Rattle.ae_session.specs.Request.{BadAt, NeverBoth, OnePlace};
 ghost use Rattle.ae_session.specs.declared.request.RequestError.TheVariants.{Memory};
 
 use ae_base::User;
 use ae_base::limits::LAST_MOMENT;
-use ae_machine::is_there_yet;
 use ae_words::{Command, WordsError, read_words};
 use std::alloc::{AllocError, Global};
 
-/// The last second of the year 2099.
-/// A command, given by this user.
+/// A command, given by this user; it may be a script or the generator.
 #[derive(Drop)]
 pub struct Request {
     pub command: Command,
@@ -42,9 +41,9 @@ pub fn read_request(
     who: &str,
     now: u64,
 ) -> Result<Request, RequestError>
-    ensures asks { IfOk result (λ request. AsksFor (map string_bytes words.now) who.now now request.command) }
+    ensures may { IfOk result (λ request. may_give who.now now ≡ true) }
+    ensures said { IfOk result (λ request. IsCommand (map string_bytes words.now) request.command) }
     ensures formed { IfOk result (λ request. IsFormed request.command) }
-    ensures there { IfOk result (λ request. is_there_yet request.command.function ≡ true) }
     ensures moment { IfOk result (λ request. now ≤ last_moment) }
     ensures who { IfOk result (λ request. request.who ≡ who.now) }
     ensures bad { (place : ℕ) → IsErrOf result (RequestError.Bad place) → BadAt (map string_bytes words.now) who.now now place }
@@ -55,18 +54,15 @@ pub fn read_request(
     if now > LAST_MOMENT {
         return Err(RequestError::Bad(0));
     }
-    let command = match read_words(alloc, words) {
-        Ok(command) => command,
-        Err(WordsError::Bad(place)) => return Err(RequestError::Bad(place)),
-        Err(WordsError::Memory) => return Err(RequestError::Memory),
-    };
-    if !is_there_yet(command.function) {
-        return Err(RequestError::Bad(1));
+    match read_words(alloc, words) {
+        Ok(command) => Ok(Request { command, who }),
+        Err(WordsError::Bad(place)) => Err(RequestError::Bad(place)),
+        Err(WordsError::Memory) => Err(RequestError::Memory),
     }
-    Ok(Request { command, who })
 }
 
-/// A law: no call both asks for a command and is bad.
+/// A law: a call that is bad asks for nothing, and is bad at one place.
 pub fn asks_or_is_bad()
-    ensures { NeverBoth }
+    ensures never { NeverBoth }
+    ensures place { OnePlace }
 {}

@@ -1,17 +1,13 @@
-use Rattle.std.proofs.Common.{rules, ◌≡◌, ◌∙◌, true, refl, ap, arith, map, string_bytes}
+use Rattle.std.proofs.Common.{◌≡◌, ◌∙◌, true, ap, arith, map, string_bytes}
 use Rattle.ae_base.specs.Bytes.{read_as}
 use Rattle.ae_base.specs.Names.{is_user}
-use Rattle.ae_session.specs.Request.{may_ask, bad_word, not_there}
+use Rattle.ae_script.specs.Step.{may_give}
+use Rattle.ae_session.specs.Request.{bad_word}
 use Rattle.ae_session.proofs.Asking.{same_place, bad_answer, may_is}
 use Rattle.ae_session.proofs.request.read_request.Goals as goal
 
 pub returns-in-Err-Bad-clause-bad : goal.returns-in-Err-Bad-clause-bad
 returns-in-Err-Bad-clause-bad c = λ place is.
-    let may : may_ask c.args.who.now c.args.now ≡ true = may_is c.args.who.now _ _ c.args.now (c.in_ok-who.ensures ∙ ap (read_as is_user) c.as_bytes.ensures.value) c.in-Some.is (omega (arith, c.if-now-gt-LAST_MOMENT)) in
+    let may : may_give c.args.who.now c.args.now ≡ true = may_is c.args.who.now _ _ c.args.now (c.in_ok-who.ensures ∙ ap (read_as is_user) c.as_bytes.ensures.value) c.in-Some.is (omega (arith, c.if-now-gt-LAST_MOMENT)) in
     let first = bad_answer (map string_bytes c.args.words.now) _ _ c.in-Err-Bad.field-0-is c.in-Err-Bad.ensures.answer in
     bad_word first.0 may first.1 (same_place _ _ _ is first.2)
-
-pub returns-then-not-is_there_yet-clause-bad : goal.returns-then-not-is_there_yet-clause-bad
-returns-then-not-is_there_yet-clause-bad c = λ place is.
-    let may : may_ask c.args.who.now c.args.now ≡ true = may_is c.args.who.now _ _ c.args.now (c.in_ok-who.ensures ∙ ap (read_as is_user) c.as_bytes.ensures.value) c.in-Some.is (omega (arith, c.if-now-gt-LAST_MOMENT)) in
-    not_there c.in-Ok.command may c.in-Ok.ensures.answer (search rules) (same_place _ _ _ is refl)
