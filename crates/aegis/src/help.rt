@@ -12,7 +12,7 @@ usage: aegis -FUNCTION WORD..
 
 A function, a listing and an option are spelled by their patterns: a capital must be typed; of a run of small letters a first
 part may be, or nothing; `_` may be `-` or nothing; case doesn't matter; a second `-` is ignored. So `-npr` is `--New-Project`.
-The functions; one with a * at its end isn't there yet, and is answered as a word that isn't understood:
+The functions:
 
   -New_PRoject NAME [-File PATH]
   -New_Administrator USER..
@@ -50,9 +50,9 @@ The functions; one with a * at its end isn't there yet, and is answered as a wor
   -ReMove_file -Change N PATH..
   -ReMove_file_Undo -Change N PATH..
   -Test -Change N [-BaseLine | -REGression]
-  -List LISTING [-Change N] *
-  -SCRipt *
-  -GENerate START CHANGES FILES *
+  -List LISTING [-Change N]
+  -SCRipt
+  -GENerate START CHANGES FILES
 
 The listings:
 
@@ -84,7 +84,9 @@ An option's value is the next word, or stands after `=` in the same word. The op
 
 The project is the one in the current folder, in `aegis.d`. The files of change 10 are in `aegis.d/develop.10` while it is
 developed, and `aegis.log` there has what its builds and tests write: `tail -f aegis.d/develop.10/aegis.log` follows it.
-The user is the variable AEGIS_USER, else LOGNAME, else nobody. What is said goes to standard error. The exit status:
+The user is the variable AEGIS_USER, else LOGNAME, else nobody. `-SCRipt` does the lines of standard input: `do WORDS` is a
+command, and what is said goes to standard output. Of a command alone a listing goes there, and all else to standard error.
+The exit status:
 
     0   it is done
     1   it is refused, or a run failed
@@ -156,7 +158,6 @@ impl Question {
 #[cfg(test)]
 mod tests {
     use super::*;
-    use ae_machine::is_there_yet;
     use ae_words::{Function, Listing, Row};
     use std::alloc::{AllocError, Global};
     use std::test::*;
@@ -182,8 +183,7 @@ mod tests {
     fn line_of(alloc: Global, function: Function) -> Result<String, AllocError> {
         let pattern = function.pattern();
         let words = words_of(function.row());
-        let mark = if is_there_yet(function) { "" } else { " *" };
-        format!(in alloc; "  -{pattern}{words}{mark}")
+        format!(in alloc; "  -{pattern}{words}")
     }
 
     // The line of a listing.
