@@ -1,4 +1,8 @@
-"""Runs a stored session on real files (tests/sessions/README.md says what one is), and compares all that is said and left."""
+"""Runs a stored session on real files (tests/sessions/README.md says what one is), and compares all that is said and left.
+
+It runs twice: as single commands, each a process of its own, and as one script, byte for byte.
+"""
+import calendar
 import hashlib
 import os
 import re
@@ -8,7 +12,7 @@ import tempfile
 import time
 
 SESSIONS = os.path.join(os.path.dirname(os.path.abspath(__file__)), "sessions")
-NOT_THERE = "aegis: word 1 is not understood\n"
+TIME = re.compile(r"[0-9]{4}-[0-9]{2}-[0-9]{2} [0-9]{2}:[0-9]{2}:[0-9]{2}")
 ESCAPES = {"n": "\n", "t": "\t", '"': '"', "\\": "\\"}
 
 
@@ -59,9 +63,10 @@ def place_of(directory, path):
     return path if directory == "here" else f"aegis.d/{directory}/{path}"
 
 
-def listed_evidence(listing):
-    """The rows that a listing of evidence shows."""
-    return [tuple(line.split(" ")) for line in listing.splitlines()]
+def is_time_of_now(text, began):
+    """Whether the text is a time in UTC between then and now."""
+    moment = calendar.timegm(time.strptime(text, "%Y-%m-%d %H:%M:%S"))
+    return began <= moment <= int(time.time())
 
 
 def kept_evidence(change):
@@ -88,39 +93,29 @@ def answers(transcript):
 class Session:
     """A session under way in a folder of its own. What differs is written to standard error and counted."""
 
-    def __init__(self, program, top, to_come):
-        self.program, self.top, self.to_come = program, top, to_come
+    def __init__(self, program, top):
+        self.program, self.top = program, top
         self.who, self.began = "nobody", int(time.time())
-        self.done, self.wrong, self.left_out, self.evidence = 0, 0, {}, 0
+        self.done, self.wrong = 0, 0
 
     def complain(self, text):
         self.wrong += 1
         print(text, file=sys.stderr)
 
     def do(self, words, said, status):
+        """A single command. A listing goes to standard output, where each time is one of this run."""
         found = run(self.program, self.top, self.who, words)
-        told = (found.returncode, found.stdout, found.stderr)
-        kind = self.to_come.get(words[0])
-        if kind is not None:
-            self.left_out[kind] = self.left_out.get(kind, 0) + 1
-            if words[:2] == ["-l", "ce"]:
-                self.compare_evidence(words[-1], said)
-            said, status = NOT_THERE, 2
-        else:
-            self.done += 1
-        if told != (status, "", said):
-            self.complain(f"{self.who}: {' '.join(words)}: {told}, and not {(status, '', said)}")
-
-    def compare_evidence(self, change, listing):
-        """The state file of the change has the evidence that its listing is to show."""
-        with open(os.path.join(self.top, "aegis.d", "store", f"change.{change}"), encoding="latin-1") as file:
-            found = kept_evidence(file.read())
-        self.evidence += len(found)
-        if found != listed_evidence(listing):
-            self.complain(f"change {change} has the evidence {found}, and not {listed_evidence(listing)}")
+        self.done += 1
+        told, wanted = (found.returncode, found.stdout, found.stderr), (status, "", said)
+        if words[0] == "-l" and status == 0:
+            if not all(is_time_of_now(text, self.began) for text in TIME.findall(found.stdout)):
+                self.complain(f"{' '.join(words)}: a time that isn't one of this run")
+            told, wanted = (found.returncode, TIME.sub("TIME", found.stdout), found.stderr), (0, TIME.sub("TIME", said), "")
+        if told != wanted:
+            self.complain(f"{self.who}: {' '.join(words)}: {told}, and not {wanted}")
 
     def follow(self, script, transcript):
-        """Does each line of the script, and compares what each command says with the transcript."""
+        """Does each line of the script by itself, and compares what each command says with the transcript."""
         expected = answers(transcript)
         for line in script.splitlines():
             verb, *words = tokens(line) if line and not line.startswith("#") else ["at"]
@@ -137,8 +132,19 @@ class Session:
         if next(expected, None) is not None:
             self.complain("the transcript has more commands than the script")
 
-    def compare_store(self, expected):
-        """The state files are the same but for moments, and each moment is one of this run. No file is an empty one.
+    def script(self, script, transcript):
+        """Does all of it as one script, whose output is the transcript."""
+        env = {**os.environ, "AEGIS_USER": "nobody"}
+        found = subprocess.run([self.program, "-script"], cwd=self.top, env=env, input=script, capture_output=True)
+        if (found.returncode, found.stderr) != (0, b""):
+            self.complain(f"the script ends with {found.returncode}, and says {found.stderr!r}")
+        if found.stdout != transcript:
+            pairs = zip(found.stdout.splitlines(), transcript.splitlines())
+            at = next((pair for pair in pairs if pair[0] != pair[1]), "the one is longer")
+            self.complain(f"the script's output isn't the transcript: {at}")
+
+    def compare_store(self, expected, exact):
+        """The state files are the same, but for moments where it isn't exact: then each is one of this run. No file is an empty one.
 
         `gate` and `body` are compared where the session has them.
         """
@@ -146,11 +152,11 @@ class Session:
         store = read_tree(os.path.join(self.top, "aegis.d", "store"), left_out)
         for name in sorted({*store, *expected}):
             found, wanted = store.get(name, b""), expected.get(name, b"")
-            moments = [int(moment) for moment in re.findall(rb"when = (\d+);", found)]
-            if not all(self.began <= moment <= int(time.time()) for moment in moments):
-                self.complain(f"{name}: a moment that is none of this run")
-            if name == "pack" and found == wanted:
+            if found == wanted:
                 continue
+            moments = [int(moment) for moment in re.findall(rb"when = (\d+);", found)]
+            if exact or not all(self.began <= moment <= int(time.time()) for moment in moments):
+                self.complain(f"{name}: a moment that is none of this run, or other bytes")
             if re.sub(rb"when = \d+;", b"", found) != re.sub(rb"when = \d+;", b"", wanted):
                 self.complain(f"{name}: {found!r}, and not {wanted!r}")
 
@@ -163,18 +169,20 @@ class Session:
             self.complain(f"the directories hold {found}, and not {expected.splitlines()}")
 
 
-def main(name, to_come):
-    """Runs the session of this name. `to_come` names, by its first word, each function that isn't there yet."""
-    folder = os.path.join(SESSIONS, name)
-    stored = read_tree(folder)
+def main(name):
+    """Runs the session of this name, as commands and as a script."""
+    stored = read_tree(os.path.join(SESSIONS, name))
     store = {path[len("store/") :]: text for path, text in stored.items() if path.startswith("store/")}
-    with tempfile.TemporaryDirectory() as top:
-        session = Session(os.path.abspath(sys.argv[1]), top, to_come)
-        session.follow(stored["script"].decode("latin-1"), stored["transcript"].decode("latin-1"))
-        session.compare_store(store)
-        session.compare_directories(stored["folders"].decode("latin-1"))
-    for kind, count in session.left_out.items():
-        print(f"{count} lines left out: {kind}")
-    evidence = f", {session.evidence} rows of evidence" if session.evidence else ""
-    print(f"{session.done} commands, {len(store)} files of the store{evidence}, {session.wrong} wrong")
-    sys.exit(1 if session.wrong or not session.done else 0)
+    done = wrong = 0
+    for as_script in [False, True]:
+        with tempfile.TemporaryDirectory() as top:
+            session = Session(os.path.abspath(sys.argv[1]), top)
+            if as_script:
+                session.script(stored["script"], stored["transcript"])
+            else:
+                session.follow(stored["script"].decode("latin-1"), stored["transcript"].decode("latin-1"))
+            session.compare_store(store, as_script)
+            session.compare_directories(stored["folders"].decode("latin-1"))
+            done, wrong = done + session.done, wrong + session.wrong
+    print(f"{done} commands, and as one script; {len(store)} files of the store; {wrong} wrong")
+    sys.exit(1 if wrong or not done else 0)
