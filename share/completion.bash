@@ -2,12 +2,12 @@
 #
 #     . /usr/local/share/bash-completion/completions/aegis
 #
-# What may be written is read from `aegis --help`, so nothing is offered that isn't there yet. Numbers and paths are read from the
-# project of the current folder, where it can be read.
+# What may be written is read from `aegis --help`. Numbers and paths are read from the project of the current folder, where it can
+# be read.
 
-# The lines of the help that list what is there and begin so: `-New_Change -File PATH`.
+# The lines of the help that begin so: of a function, as `-New_Change -File PATH`, or of a listing.
 _aegis_lines() {
-    aegis --help 2>/dev/null | sed -n "/ \*$/d; s/^  \($1\)/\1/p"
+    aegis --help 2>/dev/null | sed -n "s/^  \($1\)/\1/p"
 }
 
 # The names at the front of lines, each in full and by its capitals in lower case.

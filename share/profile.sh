@@ -2,11 +2,10 @@
 #
 #     . /usr/local/share/aegis/profile.sh
 #
-# The names are made of the functions that `aegis --help` lists: `ae`, and the capitals of the function in lower case. Those that
-# aren't there yet, which it marks with a `*`, get none.
+# The names are made of the functions that `aegis --help` lists: `ae`, and the capitals of the function in lower case.
 if command -v aegis >/dev/null 2>&1; then
     eval "$(aegis --help |
-        sed -n '/ \*$/d; s/^  -\([^ ]*\).*/\1/p' |
+        sed -n 's/^  -\([^ ]*\).*/\1/p' |
         sed 's/[^A-Z]//g' | tr '[:upper:]' '[:lower:]' |
         sed 's/.*/ae&() { aegis -& "$@"; }/')"
 fi
