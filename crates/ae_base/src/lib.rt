@@ -26,6 +26,3 @@ pub use text::Text;
 pub use user::User;
 pub use user_set::UserSet;
 pub use words::{Action, Cause, Ground, Kind, Phase, Role, Usage, What, Which};
-
-#[cfg(test)]
-mod tests;

@@ -5,12 +5,8 @@ pub(crate) mod disk;
 pub(crate) mod disk_files;
 pub(crate) mod disk_log;
 pub(crate) mod disk_stop;
-#[cfg(test)]
-mod disk_tests;
 pub(crate) mod sink;
 pub(crate) mod site;
 pub(crate) mod site_files;
 pub(crate) mod site_run;
 pub(crate) mod source;
-#[cfg(test)]
-mod stream_tests;

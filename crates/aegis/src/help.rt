@@ -7,7 +7,7 @@ use ae_words::matches_option;
 
 const VERSION: &str = "aegis 0.1.0\n";
 
-const HELP: &str = "\
+pub(crate) const HELP: &str = "\
 usage: aegis -FUNCTION WORD..
 
 A function, a listing and an option are spelled by their patterns: a capital must be typed; of a run of small letters a first
@@ -151,82 +151,6 @@ impl Question {
         match self {
             Question::Help => HELP,
             Question::Version => VERSION,
-        }
-    }
-}
-
-#[cfg(test)]
-mod tests {
-    use super::*;
-    use ae_words::{Function, Listing, Row};
-    use std::alloc::{AllocError, Global};
-    use std::test::*;
-
-    // What the help shows after a function's pattern.
-    fn words_of(row: Row) -> &'static str {
-        match row {
-            Row::NewProject => " NAME [-File PATH]",
-            Row::Users => " USER..",
-            Row::Attributes => " -File PATH",
-            Row::ChangeAttributes => " -Change N -File PATH",
-            Row::Change => " -Change N",
-            Row::Copy => " -Change N PATH.. [-DELta N] [-OverWriting]",
-            Row::Paths | Row::NewTest => " -Change N PATH..",
-            Row::Test => " -Change N [-BaseLine | -REGression]",
-            Row::Listing => " LISTING [-Change N]",
-            Row::Nothing => "",
-            Row::Numbers => " START CHANGES FILES",
-        }
-    }
-
-    // The line of a function.
-    fn line_of(alloc: Global, function: Function) -> Result<String, AllocError> {
-        let pattern = function.pattern();
-        let words = words_of(function.row());
-        format!(in alloc; "  -{pattern}{words}")
-    }
-
-    // The line of a listing.
-    fn line_of_listing(alloc: Global, listing: Listing) -> Result<String, AllocError> {
-        let pattern = listing.pattern();
-        let words = if listing.is_of_change() {
-            " -Change N"
-        } else {
-            ""
-        };
-        format!(in alloc; "  {pattern}{words}")
-    }
-
-    #[test]
-    fn help_lists_the_table_of_functions(rt: HostRuntime) -> Result<(), Fail> {
-        let mut lines = HELP.lines().filter(|line| line.starts_with("  -"));
-        for function in Function::ALL {
-            let line = line_of(rt.alloc(), function)?;
-            assert_eq!(rt; lines.next(), Some(line.as_str()));
-        }
-        assert_eq!(rt; lines.next(), None);
-        Ok(())
-    }
-
-    #[test]
-    fn help_lists_the_table_of_listings(rt: HostRuntime) -> Result<(), Fail> {
-        let mut lines = HELP.lines().filter(|line| line.starts_with("  ")
-            && !line.starts_with("  -")
-            && !line.starts_with("   "));
-        for listing in Listing::ALL {
-            let line = line_of_listing(rt.alloc(), listing)?;
-            assert_eq!(rt; lines.next(), Some(line.as_str()));
-        }
-        assert_eq!(rt; lines.next(), None);
-        Ok(())
-    }
-
-    // A capital of the pattern must be there, so these two hide no function.
-    #[test]
-    fn no_function_begins_as_help_or_version(rt: HostRuntime) {
-        for function in Function::ALL {
-            let first = function.pattern().as_bytes().first();
-            assert!(rt; !matches!(first, None | Some(b'H' | b'V' | b'a'..=b'z' | b'_')));
         }
     }
 }
