@@ -114,6 +114,7 @@ module _ (manner : Manner) (command : Command) (who : List ℕ) (now : ℕ) (log
     directories : LeavesDirs command site site_new r
     left : IsDone r → IsLeftAfter log call
     baseline : BaselineIsProvided log call
+    legal : Legal log_new
 
   -- where the disk didn't fail
   kept_step : (r : Outcome) (log_new : Log) (said text : List ℕ) (later : Logs) → is_fault r ≡ false → Is r log_new said text
@@ -123,7 +124,7 @@ module _ (manner : Manner) (command : Command) (who : List ℕ) (now : ℕ) (log
     is_line = refl;
     is_outcome = refl;
     is_text = refl;
-    does = record { said = said; ends = is.ends; to = refl; directories = is.directories; left = is.left; baseline = is.baseline; text = is.text_is };
+    does = record { said = said; ends = is.ends; to = refl; directories = is.directories; left = is.left; baseline = is.baseline; legal = is.legal; text = is.text_is };
     to = refl;
     refined = refined_all base disk held later log (after r log_new text ∷ []) kept holds.holds.holds;
     holds = holds_so_far base disk held later log log_new (after r log_new text ∷ []) kept holds;
@@ -218,7 +219,7 @@ module _ (manner : Manner) (command : Command) (who : List ℕ) (now : ℕ) (log
     is_line = refl;
     is_outcome = refl;
     is_text = refl;
-    does = record { said = said; ends = is.ends; to = refl; directories = is.directories; left = is.left; baseline = is.baseline; text = is.text_is };
+    does = record { said = said; ends = is.ends; to = refl; directories = is.directories; left = is.left; baseline = is.baseline; legal = is.legal; text = is.text_is };
     to = refl;
     refined = fault_along text left;
     holds = record {
@@ -265,41 +266,41 @@ module _ (manner : Manner) (command : Command) (who : List ℕ) (now : ℕ) (log
     left_so : IsDone r → IsLeftAfter log call
     left_so done = performs.left done (observation log) (version_bytes log) (log-shown (reads base) log was.holds.stands)
 
-    is_so : (log_new : Log) (said : List ℕ) → CommandEnds log call disk_rose site_rose r log_new said → w ≡ said ++ status_line (tells_status manner) r → Is r log_new said (line_text manner r w)
-    is_so log_new said ends says = record { ends = ends; text_is = ap (line_text manner r) says; directories = dirs; left = left_so; baseline = carried.baseline }
+    is_so : (log_new : Log) → Legal log_new → (said : List ℕ) → CommandEnds log call disk_rose site_rose r log_new said → w ≡ said ++ status_line (tells_status manner) r → Is r log_new said (line_text manner r w)
+    is_so log_new legal said ends says = record { ends = ends; text_is = ap (line_text manner r) says; directories = dirs; left = left_so; baseline = carried.baseline; legal = legal }
 
   by_end : (r : Outcome) (w : List ℕ) → performed.MayEnd disk_rose site_rose r → (performs : Performs base disk call r) → Ends (reads base) call r → LeavesDirs command site site_new r → LeavesDisk base disk (ChangesNothing r)
       → (IsDone r → IsReply base call (tells_status manner) w) → ((IsDone r → ⊥) → w ≡ command_text (tells_status manner) [] r) → Stepped r (line_text manner r w)
   by_end _ w (performed.done may_end) performs ends dirs leaves reply message =
       let is = answered_so Done (performed.done tt) ends (λ same. let both : Done ≡ Memory = same in cc) in
       done_step (answer_text log call) (line_text manner Done w)
-      (is_so Done w performs dirs leaves reply message next (answer_text log call) (answered_as Done is) (reply_so Done w is (reply tt)))
+      (is_so Done w performs dirs leaves reply message next ((performs.carried may held log was).next tt) (answer_text log call) (answered_as Done is) (reply_so Done w is (reply tt)))
       (performs.refined held log was.holds) (performs.carried may held log was)
   by_end _ w (performed.run_failed may_end) performs ends dirs leaves reply message =
       let is = answered_so RunFailed (performed.run_failed tt) ends (λ same. let both : RunFailed ≡ Memory = same in cc) in
       failed_step (answer_text log call) (line_text manner RunFailed w)
-      (is_so RunFailed w performs dirs leaves reply message next (answer_text log call) (answered_as RunFailed is) (reply_so RunFailed w is (reply tt)))
+      (is_so RunFailed w performs dirs leaves reply message next ((performs.carried may held log was).next tt) (answer_text log call) (answered_as RunFailed is) (reply_so RunFailed w is (reply tt)))
       (performs.refined held log was.holds) (performs.carried may held log was)
   by_end _ w (performed.refused refusal may_end) performs ends dirs leaves reply message =
       let is = answered_so (Refused refusal) (performed.refused refusal tt) ends (λ same. let both : Refused refusal ≡ Memory = same in cc) in
       let refuses = is_refusal answer refusal is in
       refused_step refusal (answer_text log call) (line_text manner (Refused refusal) w)
-      (is_so (Refused refusal) w performs dirs leaves reply message log (answer_text log call)
+      (is_so (Refused refusal) w performs dirs leaves reply message log was.holds.legal (answer_text log call)
       (subst (λ (l : Log). CommandEnds log call disk_rose site_rose (Refused refusal) l (answer_text log call)) (stays refusal refuses) (answered_as (Refused refusal) is))
       (message (λ done. done) ∙ ap (λ (t : List ℕ). t ++ status_line (tells_status manner) (Refused refusal)) (sym (refused_said refusal refuses))))
       (performs.refined held log was.holds) (performs.carried may held log was)
   by_end _ w (performed.damaged name may_end) performs ends dirs leaves reply message = absurd (performs.undamaged held log was.holds name refl)
   by_end _ w (performed.disk_fault rose) performs ends dirs leaves reply message =
       fault_step disk_fault_text (line_text manner DiskFault w)
-      (is_so DiskFault w performs dirs leaves reply message next disk_fault_text (disk_fault rose) (message (λ done. done)))
+      (is_so DiskFault w performs dirs leaves reply message next ((performs.carried may held log was).next tt) disk_fault_text (disk_fault rose) (message (λ done. done)))
       (performs.refined held log was.holds) (performs.carried may held log was)
   by_end _ w (performed.site_fault rose) performs ends dirs leaves reply message =
       site_step site_fault_text (line_text manner SiteFault w)
-      (is_so SiteFault w performs dirs leaves reply message log site_fault_text (site_fault rose) (message (λ done. done)))
+      (is_so SiteFault w performs dirs leaves reply message log was.holds.legal site_fault_text (site_fault rose) (message (λ done. done)))
       (performs.refined held log was.holds) (performs.carried may held log was)
   by_end _ w performed.memory performs ends dirs leaves reply message =
       memory_step memory_text (line_text manner Memory w)
-      (is_so Memory w performs dirs leaves reply message log memory_text memory (message (λ done. done)))
+      (is_so Memory w performs dirs leaves reply message log was.holds.legal memory_text memory (message (λ done. done)))
       (leaves.unchanged tt) (performs.refined held log was.holds) (performs.carried may held log was)
 
   pub command_step : (r : Outcome) (w : List ℕ) → performed.MayEnd disk_rose site_rose r → Performs base disk call r → LeavesDirs command site site_new r → LeavesDisk base disk (ChangesNothing r)

@@ -54,6 +54,7 @@ module _ (manner : Manner) (disk_rose site_rose disk_later site_later : Type 0) 
     directories = does.directories;
     left = does.left;
     baseline = does.baseline;
+    legal = does.legal;
     text = does.text;
   }
   does_on (Put dir path text) from d does = does_edit_on from dir path _ d does
@@ -103,7 +104,7 @@ module _ (manner : Manner) (disk_rose site_rose : Type 0) where
   -- ---- the log that is read
 
   -- any line but a command leaves the log
-  log_after : (line : Line) (from : Point) (d : LineDone) → DoesLine manner disk_rose site_rose line from d → last_log from.log (reached_by line d) ≡ d.to.log
+  pub log_after : (line : Line) (from : Point) (d : LineDone) → DoesLine manner disk_rose site_rose line from d → last_log from.log (reached_by line d) ≡ d.to.log
   log_after Nothing from d does = ap (λ (p : Point). p.log) (sym does.to)
   log_after (As user) from d does = ap (λ (p : Point). p.log) (sym does.to)
   log_after (At moment) from d does = ap (λ (p : Point). p.log) (sym does.to)

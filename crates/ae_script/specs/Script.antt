@@ -12,6 +12,7 @@ use Rattle.ae_log.specs.Log.{Log}
 use Rattle.ae_log.specs.Observed.{observation}
 use Rattle.ae_words.specs.declared.command.Command.{Command}
 use Rattle.ae_machine.specs.Called.{Called, called, answer_after}
+use Rattle.ae_machine.specs.Legal.{Legal}
 use Rattle.ae_machine.specs.Real.{IsLeftAfter}
 use Rattle.ae_exec.specs.Directories.{IsDone, LeavesDirs}
 use Rattle.ae_exec.specs.Holding.{BaselineIsProvided}
@@ -90,6 +91,8 @@ module _ (manner : Manner) (disk_rose site_rose : Type 0) where
     pub left : IsDone done.outcome → IsLeftAfter from.log (called_from from command done.to)
     -- the baseline that an integration makes has the candidate's bytes, which were built, tested and reviewed as required
     pub baseline : BaselineIsProvided from.log (called_from from command done.to)
+    -- the log after it is legal
+    pub legal : Legal done.to.log
     pub text : done.text ≡ line_text manner done.outcome (said ++ status_line (tells_status manner) done.outcome)
 
   -- the user, the moment and the log stay

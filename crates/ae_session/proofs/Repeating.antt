@@ -1,234 +1,240 @@
--- What is left where commands are stopped one after another.
-use Rattle.std.specs.Prelude.{◌≡◌, ◌≢◌, ◌⊎◌, ℕ, ◌≤◌, List, [], ◌∷◌, Contains}
-use Rattle.std.proofs.Common.{refl, sym, subst, inl, inr, arith}
+-- What is left where calls are stopped one after another.
+use Rattle.std.specs.Prelude.{◌≡◌, ◌⊎◌, ◌++◌, ℕ, ◌≤◌, Bool, true, false, List, [], ◌∷◌, Contains}
+use Rattle.std.proofs.Common.{refl, sym, subst, ap, inl, inr, arith}
 use Rattle.std.proofs.lemmas.Bool.{cases_lt}
-use Rattle.ae_base.specs.declared.outcome.Outcome.{Outcome}
-use Rattle.ae_base.specs.declared.outcome.Outcome.TheVariants.{Done, RunFailed, Refused, BadWords, BadScript, DiskFault, SiteFault, SinkFault, SourceFault, Damaged, Memory}
+use Rattle.ae_outside.specs.Causes.{HasRisen}
 use Rattle.ae_outside.specs.Image.{Image}
 use Rattle.ae_outside.specs.State.{DiskState}
+use Rattle.ae_vault.specs.Kept.{StandsForOne, stopped_holds}
+use Rattle.ae_lines.specs.declared.line.Line.{Line}
+use Rattle.ae_lines.specs.declared.line.Line.TheVariants.{Nothing, As, At, Do, Put, Fill, Remove}
 use Rattle.ae_types.proofs.Members.{In}
-use Rattle.ae_vault.specs.Kept.{Kept, stopped_holds}
 use Rattle.ae_log.specs.Log.{Log}
-use Rattle.ae_machine.specs.Called.{Called}
 use Rattle.ae_machine.specs.Legal.{Legal}
 use Rattle.ae_machine.proofs.LegalRightly.{legal-provided}
-use Rattle.ae_exec.specs.Holding.{HoldsLegal, IsCarriedTo}
-use Rattle.ae_exec.specs.Refined.{KeptBy, MayBeUnsynced, Refined, held_by, synced, unsynced}
+use Rattle.ae_exec.specs.Holding.{HoldsLegal}
 use Rattle.ae_exec.specs.Stands.{StandsForLog}
-use Rattle.ae_exec.specs.Step.{step}
-use Rattle.ae_session.specs.Stopped.{Attempt, ComesBy, HoldsReached, IsFound, IsStopped, StopsRepeat, last_found}
 use Rattle.ae_exec.proofs.Shown.{in-list}
+use Rattle.ae_script.specs.Along.{KeptAlong, held_along, is_fault}
+use Rattle.ae_script.specs.Refined.{NoneSynced, RefinedAlong, synced, unsynced}
+use Rattle.ae_script.specs.Script.{Point, point, LineDone, DoesLine, Runs, stop, reached, reached_by}
+use Rattle.ae_script.specs.declared.manner.Manner.{Manner}
+use Rattle.ae_script.proofs.Along.{last_log}
+use Rattle.ae_script.proofs.Runs.{log_after}
+use Rattle.ae_session.specs.Stopped.{AreStopped, Attempt, ComesBy, Did, Disks, HoldsReached, IsFound, IsLeftBy, IsStopped, Sites, StopsRepeat, Streams, last, more}
 
--- the image stands for a log that was held, or for that with the events of the command
-record LeftOne (held : List Log) (called : Called) (image : Image) : Type 0 where
-  start : Log
-  among : Contains held start
-  log : Log
-  is : (log ≡ start) ⊎ (log ≡ step start called)
-  legal : Legal log
-  stands : StandsForLog image log
+-- ---- the first of some lines
 
--- ---- which logs are legal
+-- so it is with the log after the first of the lines, and that log is legal
+record AfterSome (P : Log → Type 0) (from : Point) (done : List LineDone) : Type 0 where
+  first : List LineDone
+  rest : List LineDone
+  are : done ≡ first ++ rest
+  legal : Legal (stop from first).log
+  holds : P (stop from first).log
 
--- the outcomes of a command that was committed
-abbrev IsCommitted : Outcome → Type 0
-IsCommitted Done = Unit {0}
-IsCommitted RunFailed = Unit {0}
-IsCommitted SinkFault = Unit {0}
-IsCommitted _ = ⊥
+module _ (manner : Manner) (disk_rose site_rose : Type 0) (P : Log → Type 0) where
+  after_none : (from : Point) (done : List LineDone) → Legal from.log → P from.log → AfterSome P from done
+  after_none from done legal holds = record { first = []; rest = done; are = refl; legal = legal; holds = holds }
 
--- the next log is, where the outcome may leave it
-next-legal : (disk : DiskState) (held : List Log) (log : Log) (called : Called) (outcome : Outcome) → (outcome ≢ DiskFault) → IsCommitted outcome → IsCarriedTo disk held log called outcome → Legal (step log called)
-next-legal disk held log called outcome other leaves c = go outcome other leaves c.are
-  where
-    of_next : (c.logs ≡ step log called ∷ []) → Legal (step log called)
-    of_next is = c.holds.all (step log called) (subst (λ (logs : List Log). Contains logs (step log called)) (sym is) (0, omega arith, refl))
+  after_one : (from : Point) (d : LineDone) (done : List LineDone) → Legal d.to.log → P d.to.log → AfterSome P from (d ∷ done)
+  after_one from d done legal holds = record { first = d ∷ []; rest = done; are = refl; legal = legal; holds = holds }
 
-    go : (o : Outcome) → (o ≢ DiskFault) → IsCommitted o → (MayBeUnsynced o × (c.logs ≡ held)) ⊎ (c.logs ≡ held_by StandsForLog log (step log called) o) → Legal (step log called)
-    go Done other leaves (inr is) = of_next is
-    go RunFailed other leaves (inr is) = of_next is
-    go SinkFault other leaves (inr is) = of_next is
-    go Done other leaves (inl early) = absurd early.0
-    go RunFailed other leaves (inl early) = absurd early.0
-    go SinkFault other leaves (inl early) = absurd early.0
-    go DiskFault other leaves are = absurd leaves
-    go (Refused refusal) other leaves are = absurd leaves
-    go (BadWords place) other leaves are = absurd leaves
-    go (BadScript line) other leaves are = absurd leaves
-    go SiteFault other leaves are = absurd leaves
-    go SourceFault other leaves are = absurd leaves
-    go (Damaged name) other leaves are = absurd leaves
-    go Memory other leaves are = absurd leaves
+  -- after a line, and some of those behind it
+  after_line : (from : Point) (d : LineDone) (done : List LineDone) → AfterSome P d.to done → AfterSome P from (d ∷ done)
+  after_line from d done some = record { first = d ∷ some.first; rest = some.rest; are = ap (λ (ds : List LineDone). d ∷ ds) some.are; legal = some.legal; holds = some.holds }
 
--- ---- after the sync of the gate
+  -- a line leads to a legal log
+  leads_legal : (line : Line) (from : Point) (d : LineDone) → DoesLine manner disk_rose site_rose line from d → Legal from.log → Legal d.to.log
+  leads_legal Nothing from d does legal = subst Legal (log_after manner disk_rose site_rose Nothing from d does) legal
+  leads_legal (As user) from d does legal = subst Legal (log_after manner disk_rose site_rose (As user) from d does) legal
+  leads_legal (At moment) from d does legal = subst Legal (log_after manner disk_rose site_rose (At moment) from d does) legal
+  leads_legal (Do command) from d does legal = does.legal
+  leads_legal (Put dir path text) from d does legal = subst Legal (log_after manner disk_rose site_rose (Put dir path text) from d does) legal
+  leads_legal (Fill dir path count byte) from d does legal = subst Legal (log_after manner disk_rose site_rose (Fill dir path count byte) from d does) legal
+  leads_legal (Remove dir path) from d does legal = subst Legal (log_after manner disk_rose site_rose (Remove dir path) from d does) legal
 
-module _ (disk : DiskState) (log next : Log) (s u : ℕ) (f : Image) (from : s ≤ u) (till : u ≤ disk.moment) (is : disk.image_at u f) where
-  alone : (outcome : Outcome) → Kept StandsForLog disk s log [] → StandsForLog f log ⊎ (IsCommitted outcome × StandsForLog f next)
-  alone outcome kept = inl (kept.1 u f from till is)
+  -- ---- the logs that lines may leave
 
-  both : (outcome : Outcome) → IsCommitted outcome → Kept StandsForLog disk s log (next ∷ []) → StandsForLog f log ⊎ (IsCommitted outcome × StandsForLog f next)
-  both outcome leaves kept = elim (cases_lt u kept.0) [
-    | inl before ↦ elim (kept.2 u f from (omega (arith, before)) is) [ inl old ↦ inl old | inr new ↦ inr (leaves, new) ]
-    | inr after ↦ inr (leaves, kept.3.1 u f after till is)
-  ]
+  among : (from : Point) (done : List LineDone) → Legal from.log → Runs manner disk_rose site_rose from done → (l : Log) → In (held_along from.log (reached done)) l
+      → ((x : Log) → x ≡ l → P x) → AfterSome P from done
+  among from [] legal runs l (inl is) holds = after_none from [] legal (holds from.log is)
+  among from [] legal runs l (inr none) holds = absurd none
+  among from (d ∷ done) legal runs l there holds =
+      line (λ right is. among d.to done right runs.1 l is holds) d.line (leads_legal d.line from d runs.0 legal) (log_after manner disk_rose site_rose d.line from d runs.0) there
+    where
+      behind : (Legal d.to.log → In (held_along d.to.log (reached done)) l → AfterSome P d.to done) → (log : Log) → log ≡ d.to.log → Legal d.to.log → In (held_along log (reached done)) l → AfterSome P from (d ∷ done)
+      behind rest log same right is = after_line from d done (rest right (subst (λ (x : Log). In (held_along x (reached done)) l) same is))
 
-  one-of-two : (outcome : Outcome) → (outcome ≢ DiskFault) → KeptBy StandsForLog disk log next outcome s → StandsForLog f log ⊎ (IsCommitted outcome × StandsForLog f next)
-  one-of-two Done other kept = both Done tt kept
-  one-of-two SinkFault other kept = both SinkFault tt kept
-  one-of-two RunFailed other kept = both RunFailed tt kept
-  one-of-two DiskFault other kept = absurd (other refl)
-  one-of-two (Refused refusal) other kept = alone (Refused refusal) kept
-  one-of-two (BadWords place) other kept = alone (BadWords place) kept
-  one-of-two (BadScript line) other kept = alone (BadScript line) kept
-  one-of-two SiteFault other kept = alone SiteFault kept
-  one-of-two SourceFault other kept = alone SourceFault kept
-  one-of-two (Damaged name) other kept = alone (Damaged name) kept
-  one-of-two Memory other kept = alone Memory kept
+      command : (Legal d.to.log → In (held_along d.to.log (reached done)) l → AfterSome P d.to done) → (fault : Bool) → Legal d.to.log → In (held_along from.log ((fault, d.to.log) ∷ reached done)) l → AfterSome P from (d ∷ done)
+      command rest true right (inl is) = after_none from (d ∷ done) legal (holds from.log is)
+      command rest true right (inr (inl is)) = after_one from d done right (holds d.to.log is)
+      command rest true right (inr (inr none)) = absurd none
+      command rest false right is = behind rest d.to.log refl right is
+
+      line : (Legal d.to.log → In (held_along d.to.log (reached done)) l → AfterSome P d.to done) → (says : Line) → Legal d.to.log → last_log from.log (reached_by says d) ≡ d.to.log → In (held_along from.log (reached_by says d ++ reached done)) l → AfterSome P from (d ∷ done)
+      line rest Nothing right same is = behind rest from.log same right is
+      line rest (As user) right same is = behind rest from.log same right is
+      line rest (At moment) right same is = behind rest from.log same right is
+      line rest (Do said) right same is = command rest (is_fault d.outcome) right is
+      line rest (Put dir path text) right same is = behind rest from.log same right is
+      line rest (Fill dir path count byte) right same is = behind rest from.log same right is
+      line rest (Remove dir path) right same is = behind rest from.log same right is
+
+-- ---- an image of a moment since the gate was synced
+
+module _ (manner : Manner) (disk_rose site_rose : Type 0) (disk : DiskState) (u : ℕ) (image : Image) (till : u ≤ disk.moment) (at : disk.image_at u image) where
+  abbrev Stands : Log → Type 0
+  Stands l = StandsForLog image l
+
+  abbrev Some : Point → List LineDone → Type 0
+  Some from done = AfterSome Stands from done
+
+  since-sync : (t : ℕ) → t ≤ u → (from : Point) (done : List LineDone) → Legal from.log → Runs manner disk_rose site_rose from done → KeptAlong StandsForLog disk t from.log (reached done) → Some from done
+  since-sync t started from [] legal runs kept = after_none manner disk_rose site_rose Stands from [] legal (kept.1 u image started till at)
+  since-sync t started from (d ∷ done) legal runs kept =
+      line (λ s begun right is. since-sync s begun d.to done right runs.1 is) d.line (leads_legal manner disk_rose site_rose Stands d.line from d runs.0 legal)
+      (log_after manner disk_rose site_rose d.line from d runs.0) kept
+    where
+      before : Stands from.log → Some from (d ∷ done)
+      before stands = after_none manner disk_rose site_rose Stands from (d ∷ done) legal stands
+
+      after : Legal d.to.log → Stands d.to.log → Some from (d ∷ done)
+      after right stands = after_one manner disk_rose site_rose Stands from d done right stands
+
+      behind : ((s : ℕ) → s ≤ u → Legal d.to.log → KeptAlong StandsForLog disk s d.to.log (reached done) → Some d.to done) → (s : ℕ) → s ≤ u → (log : Log) → log ≡ d.to.log → Legal d.to.log → KeptAlong StandsForLog disk s log (reached done) → Some from (d ∷ done)
+      behind rest s begun log same right is = after_line manner disk_rose site_rose Stands from d done (rest s begun right (subst (λ (x : Log). KeptAlong StandsForLog disk s x (reached done)) same is))
+
+      failed : Legal d.to.log → StandsForOne StandsForLog (from.log ∷ d.to.log ∷ []) image → Some from (d ∷ done)
+      failed right one = go (in-list (from.log ∷ d.to.log ∷ []) one.0 one.1)
+        where
+          go : In (from.log ∷ d.to.log ∷ []) one.0 → Some from (d ∷ done)
+          go (inl is) = before (subst Stands (sym is) one.2)
+          go (inr (inl is)) = after right (subst Stands (sym is) one.2)
+          go (inr (inr none)) = absurd none
+
+      command : ((s : ℕ) → s ≤ u → Legal d.to.log → KeptAlong StandsForLog disk s d.to.log (reached done) → Some d.to done) → (fault : Bool) → Legal d.to.log → KeptAlong StandsForLog disk t from.log ((fault, d.to.log) ∷ reached done) → Some from (d ∷ done)
+      command rest true right is = failed right (is.1 u image started till at)
+      command rest false right is = elim (cases_lt u is.0) [
+        | inl early ↦ elim (is.2 u image started (omega (arith, early)) at) [ inl old ↦ before old | inr new ↦ after right new ]
+        | inr late ↦ behind rest is.0 late d.to.log refl right is.3
+      ]
+
+      line : ((s : ℕ) → s ≤ u → Legal d.to.log → KeptAlong StandsForLog disk s d.to.log (reached done) → Some d.to done) → (says : Line) → Legal d.to.log → last_log from.log (reached_by says d) ≡ d.to.log → KeptAlong StandsForLog disk t from.log (reached_by says d ++ reached done) → Some from (d ∷ done)
+      line rest Nothing right same is = behind rest t started from.log same right is
+      line rest (As user) right same is = behind rest t started from.log same right is
+      line rest (At moment) right same is = behind rest t started from.log same right is
+      line rest (Do said) right same is = command rest (is_fault d.outcome) right is
+      line rest (Put dir path text) right same is = behind rest t started from.log same right is
+      line rest (Fill dir path count byte) right same is = behind rest t started from.log same right is
+      line rest (Remove dir path) right same is = behind rest t started from.log same right is
 
 -- ---- one stop
 
-module _ (base : DiskState) (held : List Log) (log : Log) (was : HoldsLegal base held log) (reads : Contains held log) (called : Called) (image : Image) where
-  of_held : (l : Log) → Contains held l → StandsForLog image l → LeftOne held called image
-  of_held l there stands = record { start = l; among = there; log = l; is = inl refl; legal = was.all l there; stands = stands }
+module _ (d : Disks) (s : Sites) (i o e : Streams) where
+  abbrev Call : Type 0
+  Call = Attempt d s i o e
 
-  of_next : Legal (step log called) → StandsForLog image (step log called) → LeftOne held called image
-  of_next legal stands = record { start = log; among = reads; log = step log called; is = inr refl; legal = legal; stands = stands }
+  -- what the stop of a call left
+  record LeftOne (held : List Log) (log : Log) (a : Call) : Type 0 where
+    left : Log
+    by : IsLeftBy d s i o e a held log left
+    legal : Legal left
+    stands : StandsForLog a.image left
 
-  -- of a command that the disk didn't fail, at any moment
-  within : (disk : DiskState) (outcome : Outcome) → (outcome ≢ DiskFault) → IsCarriedTo disk held log called outcome → Refined StandsForLog base disk held log (step log called) outcome
-      → (u : ℕ) → base.moment ≤ u → u ≤ disk.moment → disk.image_at u image → LeftOne held called image
-  within disk outcome other c (unsynced early left) u from till is = let one = left.stops u image from till is in of_held one.0 one.1 one.2
-  within disk outcome other c (synced since holds) u from till is = elim (cases_lt u since.synced) [
-    | inl before ↦ let one = since.until u image from (omega (arith, before)) is in of_held one.0 one.1 one.2
-    | inr after ↦ elim (one-of-two disk log (step log called) since.synced u image after till is outcome other since.since) [
-      | inl old ↦ of_held log reads old
-      | inr new ↦ of_next (next-legal disk held log called outcome other new.0 c) new.1
+  module _ (held : List Log) (log : Log) (a : Call) (stopped : IsStopped d s i o e a) (was : HoldsLegal (d.state a.disk) held log) where
+    abbrev disk_rose : Type 0
+    disk_rose = HasRisen (d.faults a.disk) (d.faults a.disk_after)
+
+    abbrev site_rose : Type 0
+    site_rose = HasRisen (s.faults a.site) (s.faults a.site_after)
+
+    abbrev call : Did d s i o e a held log
+    call = stopped.did held log was
+
+    abbrev from : Point
+    from = point a.asked.who a.asked.now log (s.state a.site)
+
+    abbrev IsHeldAtEnd : Log → Type 0
+    IsHeldAtEnd l = a.moment ≡ (d.state a.disk_after).moment → Contains call.did.holds.logs l
+
+    abbrev Stays : Log → Type 0
+    Stays l = StandsForLog a.image l × IsHeldAtEnd l
+
+    of_held : (l : Log) → Contains held l → StandsForLog a.image l → IsHeldAtEnd l → LeftOne held log a
+    of_held l there stands ended = record {
+      left = l;
+      by = record { call = call; first = []; rest = call.done; are = refl; is = inl there; ended = ended };
+      legal = was.all l there;
+      stands = stands;
+    }
+
+    of_some : AfterSome Stays from call.done → LeftOne held log a
+    of_some some = record {
+      left = (stop from some.first).log;
+      by = record { call = call; first = some.first; rest = some.rest; are = some.are; is = inr refl; ended = some.holds.1 };
+      legal = some.legal;
+      stands = some.holds.0;
+    }
+
+    -- while it went on
+    within : (a.moment ≡ (d.state a.disk_after).moment → ⊥) → LeftOne held log a
+    within on = go call.did.refined
+      where
+        one_of : StandsForOne StandsForLog held a.image → LeftOne held log a
+        one_of one = of_held one.0 one.1 one.2 (λ ended. absurd (on ended))
+
+        some_of : AfterSome (λ (l : Log). StandsForLog a.image l) from call.done → LeftOne held log a
+        some_of some = of_some (record { first = some.first; rest = some.rest; are = some.are; legal = some.legal; holds = (some.holds, λ ended. absurd (on ended)) })
+
+        go : RefinedAlong (d.state a.disk) (d.state a.disk_after) held log call.done → LeftOne held log a
+        go (unsynced early left) = one_of (left.stops a.moment a.image stopped.since stopped.until stopped.left)
+        go (synced since holds) = elim (cases_lt a.moment since.synced) [
+          | inl before ↦ one_of (since.until a.moment a.image stopped.since (omega (arith, before)) stopped.left)
+          | inr after ↦ some_of (since-sync call.manner disk_rose site_rose (d.state a.disk_after) a.moment a.image stopped.until stopped.left since.synced after from call.done was.holds.legal call.did.runs since.since)
+        ]
+
+    -- once it had ended
+    at_end : a.moment ≡ (d.state a.disk_after).moment → LeftOne held log a
+    at_end same = go call.did.holds.are
+      where
+        one : StandsForOne StandsForLog call.did.holds.logs a.image
+        one = call.did.holds.holds.holds.holds.each a.image (subst (λ (u : ℕ). (d.state a.disk_after).image_at u a.image) same stopped.left)
+
+        both : (x : Log) → x ≡ one.0 → Stays x
+        both x is = (subst (λ (l : Log). StandsForLog a.image l) (sym is) one.2, λ ended. subst (λ (l : Log). Contains call.did.holds.logs l) (sym is) one.1)
+
+        go : (NoneSynced call.done × (call.did.holds.logs ≡ held)) ⊎ ((l : Log) → Contains call.did.holds.logs l → Contains (held_along log (reached call.done)) l) → LeftOne held log a
+        go (inl early) = of_held one.0 (subst (λ (logs : List Log). Contains logs one.0) early.1 one.1) one.2 (λ ended. one.1)
+        go (inr some) = of_some (among call.manner disk_rose site_rose Stays from call.done was.holds.legal call.did.runs one.0 (in-list (held_along log (reached call.done)) one.0 (some one.0 one.1)) both)
+
+    left-one : LeftOne held log a
+    left-one = elim (cases_lt a.moment (d.state a.disk_after).moment) [
+      | inl less ↦ within (λ same. absurd (omega (arith, less, same)))
+      | inr late ↦ at_end (omega (arith, late, stopped.until))
     ]
-  ]
 
-  -- at the end of any command
-  at-end : (disk : DiskState) (outcome : Outcome) → IsCarriedTo disk held log called outcome → disk.image_at disk.moment image → LeftOne held called image
-  at-end disk outcome c is = go c.are
-    where
-      one : (l : Log) × Contains c.logs l × StandsForLog image l
-      one = c.holds.holds.holds.each image is
+  -- ---- any number of them
 
-      legal : Legal one.0
-      legal = c.holds.all one.0 one.1
+  from-first : (x y : Log) → Contains (x ∷ []) y → y ≡ x
+  from-first x y there = elim (in-list (x ∷ []) y there) [ inl same ↦ sym same | inr none ↦ absurd none ]
 
-      of_two : (l : Log) → In (held_by StandsForLog log (step log called) outcome) l → Legal l → StandsForLog image l → LeftOne held called image
-      of_two l there right stands = two outcome l there right stands
-        where
-          first : (l : Log) → log ≡ l → StandsForLog image l → LeftOne held called image
-          first l same stands = of_held log reads (subst (λ (x : Log). StandsForLog image x) (sym same) stands)
+  -- a disk that reads what was left holds the log for which it stands
+  found-holds : (disk : DiskState) (held : List Log) (log : Log) (a : Call) (l : LeftOne held log a) → IsFound disk a.image → HoldsLegal disk (l.left ∷ []) l.left
+  found-holds disk held log a l found = record {
+    holds = record {
+      holds = stopped_holds StandsForLog disk a.image l.left found.read found.only l.stands (0, omega arith, refl);
+      stands = subst (λ (f : Image). StandsForLog f l.left) (sym found.read) l.stands;
+      legal = l.legal;
+    };
+    all = λ x there. subst Legal (sym (from-first l.left x there)) l.legal;
+  }
 
-          second : (l : Log) → step log called ≡ l → Legal l → StandsForLog image l → LeftOne held called image
-          second l same right stands = of_next (subst Legal (sym same) right) (subst (λ (x : Log). StandsForLog image x) (sym same) stands)
-
-          two : (o : Outcome) (l : Log) → In (held_by StandsForLog log (step log called) o) l → Legal l → StandsForLog image l → LeftOne held called image
-          two Done l (inl same) right stands = second l same right stands
-          two SinkFault l (inl same) right stands = second l same right stands
-          two RunFailed l (inl same) right stands = second l same right stands
-          two DiskFault l (inl same) right stands = first l same stands
-          two DiskFault l (inr (inl same)) right stands = second l same right stands
-          two (Refused refusal) l (inl same) right stands = first l same stands
-          two (BadWords place) l (inl same) right stands = first l same stands
-          two (BadScript line) l (inl same) right stands = first l same stands
-          two SiteFault l (inl same) right stands = first l same stands
-          two SourceFault l (inl same) right stands = first l same stands
-          two (Damaged name) l (inl same) right stands = first l same stands
-          two Memory l (inl same) right stands = first l same stands
-          two Done l (inr none) right stands = absurd none
-          two SinkFault l (inr none) right stands = absurd none
-          two RunFailed l (inr none) right stands = absurd none
-          two DiskFault l (inr (inr none)) right stands = absurd none
-          two (Refused refusal) l (inr none) right stands = absurd none
-          two (BadWords place) l (inr none) right stands = absurd none
-          two (BadScript line) l (inr none) right stands = absurd none
-          two SiteFault l (inr none) right stands = absurd none
-          two SourceFault l (inr none) right stands = absurd none
-          two (Damaged name) l (inr none) right stands = absurd none
-          two Memory l (inr none) right stands = absurd none
-
-      go : (MayBeUnsynced outcome × (c.logs ≡ held)) ⊎ (c.logs ≡ held_by StandsForLog log (step log called) outcome) → LeftOne held called image
-      go (inl early) = of_held one.0 (subst (λ (logs : List Log). Contains logs one.0) early.1 one.1) one.2
-      go (inr is) = of_two one.0 (subst (λ (logs : List Log). In logs one.0) is (in-list c.logs one.0 one.1)) legal one.2
-
--- what a stop of a command left
-left-one : (base disk : DiskState) (held : List Log) (log : Log) → HoldsLegal base held log → Contains held log → (a : Attempt) → IsStopped base disk a → LeftOne held a.called a.image
-left-one base disk held log was reads a s = go a.outcome refl
-  where
-    c : IsCarriedTo disk held log a.called a.outcome
-    c = s.performs.carried s.given held log was
-
-    inside : (a.outcome ≢ DiskFault) → LeftOne held a.called a.image
-    inside other = within base held log was reads a.called a.image disk a.outcome other c (s.performs.refined held log was.holds) a.moment s.since s.until s.left
-
-    go : (o : Outcome) → a.outcome ≡ o → LeftOne held a.called a.image
-    go DiskFault same = at-end base held log was reads a.called a.image disk a.outcome c (subst (λ (u : ℕ). disk.image_at u a.image) (s.ended same) s.left)
-    go Done same = inside (λ fault. cc)
-    go RunFailed same = inside (λ fault. cc)
-    go (Refused refusal) same = inside (λ fault. cc)
-    go (BadWords place) same = inside (λ fault. cc)
-    go (BadScript line) same = inside (λ fault. cc)
-    go SiteFault same = inside (λ fault. cc)
-    go SinkFault same = inside (λ fault. cc)
-    go SourceFault same = inside (λ fault. cc)
-    go (Damaged name) same = inside (λ fault. cc)
-    go Memory same = inside (λ fault. cc)
-
--- ---- any number of them
-
-from-first : (x y : Log) → Contains (x ∷ []) y → y ≡ x
-from-first x y there = elim (in-list (x ∷ []) y there) [ inl same ↦ sym same | inr none ↦ absurd none ]
-
--- a disk that reads what was left holds the log for which it stands
-found-holds : (disk : DiskState) (held : List Log) (called : Called) (image : Image) (l : LeftOne held called image) → IsFound disk image → HoldsLegal disk (l.log ∷ []) l.log
-found-holds disk held called image l found = record {
-  holds = record {
-    holds = stopped_holds StandsForLog disk image l.log found.read found.only l.stands (0, omega arith, refl);
-    stands = subst (λ (f : Image). StandsForLog f l.log) (sym found.read) l.stands;
-    legal = l.legal;
-  };
-  all = λ x there. subst Legal (sym (from-first l.log x there)) l.legal;
-}
-
-comes-on : (start log : Log) (a : Attempt) (more : List Attempt) (reached : Log) → (log ≡ start) ⊎ (log ≡ step start a.called) → ComesBy log more reached → ComesBy start (a ∷ more) reached
-comes-on start log a more reached (inl same) comes = inl (subst (λ (x : Log). ComesBy x more reached) same comes)
-comes-on start log a more reached (inr same) comes = inr (subst (λ (x : Log). ComesBy x more reached) same comes)
-
--- after the last stop
-after-one : (disk : DiskState) (held : List Log) (a : Attempt) → LeftOne held a.called a.image → IsFound disk a.image → HoldsReached disk held (a ∷ [])
-after-one disk held a l found = record {
-  start = l.start;
-  among = l.among;
-  reached = l.log;
-  comes = comes-on l.start l.log a [] l.log l.is refl;
-  holds = found-holds disk held a.called a.image l found;
-  provided = legal-provided l.log l.legal;
-}
-
--- after one, and more of them
-after-more : (disk : DiskState) (held : List Log) (a : Attempt) (more : List Attempt) (l : LeftOne held a.called a.image) → HoldsReached disk (l.log ∷ []) more → HoldsReached disk held (a ∷ more)
-after-more disk held a more l r = record {
-  start = l.start;
-  among = l.among;
-  reached = r.reached;
-  comes = comes-on l.start l.log a more r.reached l.is (subst (λ (x : Log). ComesBy x more r.reached) (from-first l.log r.start r.among) r.comes);
-  holds = r.holds;
-  provided = r.provided;
-}
-
-module _ {Disk : Type 0} (state : Disk → DiskState) where
-  pub stops-repeat : (base : Disk) (went found : List Disk) → StopsRepeat state base went found
-  stops-repeat base [] [] held log first more was reads stopped = absurd stopped
-  stops-repeat base [] (next ∷ found) held log first more was reads stopped = absurd stopped
-  stops-repeat base (disk ∷ went) [] held log first more was reads stopped = absurd stopped
-  stops-repeat base (disk ∷ []) (next ∷ []) held log first [] was reads (stopped, left, rest) = after-one (state next) held first (left-one (state base) (state disk) held log was reads first stopped) left
-  stops-repeat base (disk ∷ []) (next ∷ other ∷ found) held log first [] was reads (stopped, left, rest) = absurd rest
-  stops-repeat base (disk ∷ other ∷ went) (next ∷ []) held log first [] was reads (stopped, left, rest) = absurd rest
-  stops-repeat base (disk ∷ other ∷ went) (next ∷ another ∷ found) held log first [] was reads (stopped, left, rest) = absurd rest
-  stops-repeat base (disk ∷ went) (next ∷ found) held log first (second ∷ more) was reads (stopped, left, rest) =
-      let l = left-one (state base) (state disk) held log was reads first stopped in
-      after-more (state (last_found state next found)) held first (second ∷ more) l
-      (stops-repeat next went found (l.log ∷ []) l.log second more (found-holds (state next) held first.called first.image l left) (0, omega arith, refl) rest)
+  pub stops-repeat : StopsRepeat d s i o e
+  stops-repeat held log first [] found was (stopped, reads) =
+      let l = left-one held log first stopped was in
+      record { reached = l.left; comes = last held log l.left first l.by; holds = found-holds (d.state found) held log first l reads; provided = legal-provided l.left l.legal }
+  stops-repeat held log first (next ∷ after) found was (stopped, reads, rest) =
+      let l = left-one held log first stopped was in
+      let r = stops-repeat (l.left ∷ []) l.left next after found (found-holds (d.state next.disk) held log first l reads) rest in
+      record { reached = r.reached; comes = more held log l.left r.reached first next after l.by r.comes; holds = r.holds; provided = r.provided }

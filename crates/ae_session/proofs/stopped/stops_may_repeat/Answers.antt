@@ -1,5 +1,6 @@
 use Rattle.ae_session.proofs.Repeating.{stops-repeat}
+use Rattle.ae_session.specs.Stopped.{disks, sites, streams}
 use Rattle.ae_session.proofs.stopped.stops_may_repeat.Goals as goal
 
 pub returns : goal.returns
-returns g c = λ tells. stops-repeat g.D.Disk.state c.args._base.now c.args._went.now c.args._found.now
+returns g c = stops-repeat _ _ _ _ _
