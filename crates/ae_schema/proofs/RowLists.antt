@@ -1,5 +1,5 @@
 -- Lists whose elements are spelled one by one.
-use Rattle.std.proofs.Common.{◌≡◌, ℕ, zero, suc, ◌+◌, ◌<◌, List, [], ◌∷◌, ◌++◌, length, map, take, get_or, All, refl, ap, ◌∙◌, arith}
+use Rattle.std.proofs.Common.{◌≡◌, ℕ, zero, suc, ◌+◌, ◌<◌, List, [], ◌∷◌, ◌++◌, length, map, take, get_or, All, refl, ap, ◌∙◌, append_assoc, subst, arith}
 use Rattle.std.proofs.lemmas.List.{take_more, map-append}
 use Rattle.std.proofs.lemmas.List.Elements.{All-nil, All-cons, All-head, All-tail, All-append}
 use Rattle.ae_text.specs.Tree.{Node, list}
@@ -33,6 +33,9 @@ grown spelled g rows row ys i y is less so_far one =
 pub grown_fits : {A : Type 0} (Fits : A → Type 0) (rows : List A) (row : A) → All Fits rows → Fits row → All Fits (rows ++ row ∷ [])
 grown_fits Fits rows row all one = All-append Fits rows (row ∷ []) all (All-cons Fits row [] one (All-nil Fits))
 
+pub taken_fits : {A : Type 0} (Fits : A → Type 0) (ys : List A) (i : ℕ) (y : A) → y ≡ get_or ys i y → i < length ys → All Fits (take i ys) → Fits y → All Fits (take (i + 1) ys)
+taken_fits Fits ys i y is less all one = rw (take_more ys i y less) (grown_fits Fits (take i ys) (get_or ys i y) all (subst Fits is one))
+
 -- lists of values that are the same in a list are the same
 pub same_items : (ns ms : List Node) → items_of ns ≡ items_of ms → ns ≡ ms
 same_items [] [] e = refl
@@ -64,3 +67,7 @@ same_list n ns ms e f = let all : list (items_of ns) ≡ list (items_of ms) = e 
 -- the fields of one structure
 pub same_structure : (n : Node) (ns ms : List Named) → structure ns ≡ n → n ≡ structure ms → ns ≡ ms
 same_structure n ns ms e f = let all : structure ns ≡ structure ms = e ∙ f in let inside : members_of ns ≡ members_of ms = cc (all) in same_members ns ms inside
+
+-- what is put after what was put before
+pub joined : {A : Type 0} (before between after one more : List A) → between ≡ before ++ one → after ≡ between ++ more → after ≡ before ++ (one ++ more)
+joined before between after one more first second = second ∙ ap (λ l. l ++ more) first ∙ append_assoc before one more

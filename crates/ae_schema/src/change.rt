@@ -13,7 +13,7 @@ use crate::ascending::Ascending;
 use crate::fields::{End, Then};
 use crate::record::read_record;
 use crate::structure::structure_of;
-use crate::value::field;
+use crate::value::put_field;
 use ae_base::{Cause, ChangeNo, Phase, Text, User};
 use ae_text::{Field, print_tree};
 use ae_types::{Change, ChangeAttributes, ChangeFile, Evidence, HistoryList};
@@ -151,65 +151,73 @@ pub fn read_change(alloc: Global, bytes: &[u8]) -> Result<Change, SchemaError>
 }
 
 // What the change is about.
-fn subject(alloc: Global, change: &Change) -> Result<Vec<Field>, AllocError>
-    ensures fields { IfOk result (λ fields. map named_node fields.items ≡ subject_fields change.now) }
+fn put_subject(fields: &mut Vec<Field>, alloc: Global, change: &Change) -> Result<(), AllocError>
+    ensures fields { OnOk result (map named_node fields.new.items ≡ map named_node fields.old.items ++ subject_fields change.now) }
     ensures fits { OnOk result (IsChangeNo change.now.number) }
 {
-    let fields = vec![in alloc;
-        field(alloc, b"number", &change.number)?,
-        field(alloc, b"brief_description", &change.attributes.brief)?,
-        field(alloc, b"description", &change.attributes.description)?,
-        field(alloc, b"cause", &change.attributes.cause)?,
-    ]?;
-    Ok(fields)
+    put_field(fields, alloc, b"number", &change.number)?;
+    put_field(
+        fields,
+        alloc,
+        b"brief_description",
+        &change.attributes.brief,
+    )?;
+    put_field(
+        fields,
+        alloc,
+        b"description",
+        &change.attributes.description,
+    )?;
+    put_field(fields, alloc, b"cause", &change.attributes.cause)?;
+    Ok(())
 }
 
 // Which tests it needn't pass.
-fn exemptions(alloc: Global, settings: &ChangeAttributes) -> Result<Vec<Field>, AllocError>
-    ensures { IfOk result (λ fields. map named_node fields.items ≡ exemption_fields settings.now) }
+fn put_exemptions(
+    fields: &mut Vec<Field>,
+    alloc: Global,
+    settings: &ChangeAttributes,
+) -> Result<(), AllocError>
+    ensures { OnOk result (map named_node fields.new.items ≡ map named_node fields.old.items ++ exemption_fields settings.now) }
 {
-    let fields = vec![in alloc;
-        field(alloc, b"test_exempt", &settings.test_exempt)?,
-        field(
-            alloc,
-            b"test_baseline_exempt",
-            &settings.test_baseline_exempt
-        )?,
-        field(
-            alloc,
-            b"regression_test_exempt",
-            &settings.regression_test_exempt
-        )?,
-    ]?;
-    Ok(fields)
+    put_field(fields, alloc, b"test_exempt", &settings.test_exempt)?;
+    put_field(
+        fields,
+        alloc,
+        b"test_baseline_exempt",
+        &settings.test_baseline_exempt,
+    )?;
+    put_field(
+        fields,
+        alloc,
+        b"regression_test_exempt",
+        &settings.regression_test_exempt,
+    )?;
+    Ok(())
 }
 
 // Where it stands, and who works at it.
-fn people(alloc: Global, change: &Change) -> Result<Vec<Field>, AllocError>
-    ensures fields { IfOk result (λ fields. map named_node fields.items ≡ people_fields change.now) }
+fn put_people(fields: &mut Vec<Field>, alloc: Global, change: &Change) -> Result<(), AllocError>
+    ensures fields { OnOk result (map named_node fields.new.items ≡ map named_node fields.old.items ++ people_fields change.now) }
     ensures fits { OnOk result (HoldsPeople change.now) }
 {
-    let fields = vec![in alloc;
-        field(alloc, b"phase", &change.phase)?,
-        field(alloc, b"developer", &change.developer)?,
-        field(alloc, b"reviewing", &change.reviewing)?,
-        field(alloc, b"reviewer", &change.reviewer)?,
-        field(alloc, b"integrator", &change.integrator)?,
-    ]?;
-    Ok(fields)
+    put_field(fields, alloc, b"phase", &change.phase)?;
+    put_field(fields, alloc, b"developer", &change.developer)?;
+    put_field(fields, alloc, b"reviewing", &change.reviewing)?;
+    put_field(fields, alloc, b"reviewer", &change.reviewer)?;
+    put_field(fields, alloc, b"integrator", &change.integrator)?;
+    Ok(())
 }
 
 // Its files, its runs and its history.
-fn rows(alloc: Global, change: &Change) -> Result<Vec<Field>, AllocError>
-    ensures fields { IfOk result (λ fields. map named_node fields.items ≡ row_fields change.now) }
+fn put_rows(fields: &mut Vec<Field>, alloc: Global, change: &Change) -> Result<(), AllocError>
+    ensures fields { OnOk result (map named_node fields.new.items ≡ map named_node fields.old.items ++ row_fields change.now) }
     ensures fits { OnOk result (HoldsRows change.now) }
 {
-    let fields = vec![in alloc;
-        field(alloc, b"files", &change.files)?,
-        field(alloc, b"evidence", &change.evidence)?,
-        field(alloc, b"history", &change.history)?,
-    ]?;
-    Ok(fields)
+    put_field(fields, alloc, b"files", &change.files)?;
+    put_field(fields, alloc, b"evidence", &change.evidence)?;
+    put_field(fields, alloc, b"history", &change.history)?;
+    Ok(())
 }
 
 // The fields of the change's file.
@@ -217,10 +225,11 @@ fn fields_of(alloc: Global, change: &Change) -> Result<Vec<Field>, AllocError>
     ensures fields { IfOk result (λ fields. map named_node fields.items ≡ change_fields change.now) }
     ensures fits { OnOk result (HoldsChange change.now) }
 {
-    let mut fields = subject(alloc, change)?;
-    fields.append(&mut exemptions(alloc, &change.attributes)?)?;
-    fields.append(&mut people(alloc, change)?)?;
-    fields.append(&mut rows(alloc, change)?)?;
+    let mut fields = Vec::new(alloc);
+    put_subject(&mut fields, alloc, change)?;
+    put_exemptions(&mut fields, alloc, &change.attributes)?;
+    put_people(&mut fields, alloc, change)?;
+    put_rows(&mut fields, alloc, change)?;
     Ok(fields)
 }
 

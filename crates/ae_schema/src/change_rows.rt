@@ -1,5 +1,5 @@
 // How the rows of a change are spelled: its files, its runs and its history.
-ghost use Rattle.std.specs.Prelude.{◌≡◌, IfOk, OnOk, map};
+ghost use Rattle.std.specs.Prelude.{◌≡◌, ◌++◌, OnOk, map};
 ghost use Rattle.ae_schema.specs.Fits.{FitsRun, FitsOutcome};
 ghost use Rattle.ae_text.specs.View.{named_node};
 ghost use Rattle.ae_schema.specs.Spelled.{run_fields, outcome_fields};
@@ -7,7 +7,7 @@ ghost use Rattle.ae_schema.specs.Shapes.{evidence_from};
 
 use crate::fields::{End, Then};
 use crate::structure::{read_structure, structure_of};
-use crate::value::{Value, field};
+use crate::value::{Value, put_field};
 use ae_base::{Action, Ground, Kind, Path, Usage, User, What};
 use ae_text::{Field, Tree};
 use ae_types::{ChangeFile, Evidence, HistoryRow, VersionRef};
@@ -58,13 +58,12 @@ impl Value for ChangeFile {
     }
 
     fn to_tree(&self, alloc: Global) -> Result<Tree, AllocError> {
-        let fields = vec![in alloc;
-            field(alloc, b"path", &self.path)?,
-            field(alloc, b"action", &self.action)?,
-            field(alloc, b"usage", &self.usage)?,
-            field(alloc, b"origin", &self.origin)?,
-            field(alloc, b"version", &self.frozen)?,
-        ]?;
+        let mut fields = Vec::new(alloc);
+        put_field(&mut fields, alloc, b"path", &self.path)?;
+        put_field(&mut fields, alloc, b"action", &self.action)?;
+        put_field(&mut fields, alloc, b"usage", &self.usage)?;
+        put_field(&mut fields, alloc, b"origin", &self.origin)?;
+        put_field(&mut fields, alloc, b"version", &self.frozen)?;
         Ok(structure_of(fields))
     }
 
@@ -111,31 +110,27 @@ fn evidence_of(fields: EvidenceFields) -> Evidence
 }
 
 // Which run it was, and how it ended.
-fn run(alloc: Global, run: &Evidence) -> Result<Vec<Field>, AllocError>
-    ensures fields { IfOk result (λ fields. map named_node fields.items ≡ run_fields run.now) }
+fn put_run(fields: &mut Vec<Field>, alloc: Global, run: &Evidence) -> Result<(), AllocError>
+    ensures fields { OnOk result (map named_node fields.new.items ≡ map named_node fields.old.items ++ run_fields run.now) }
     ensures fits { OnOk result (FitsRun run.now) }
 {
-    let fields = vec![in alloc;
-        field(alloc, b"ground", &run.during)?,
-        field(alloc, b"kind", &run.kind)?,
-        field(alloc, b"path", &run.path)?,
-        field(alloc, b"status", &run.status)?,
-    ]?;
-    Ok(fields)
+    put_field(fields, alloc, b"ground", &run.during)?;
+    put_field(fields, alloc, b"kind", &run.kind)?;
+    put_field(fields, alloc, b"path", &run.path)?;
+    put_field(fields, alloc, b"status", &run.status)?;
+    Ok(())
 }
 
 // What was tried, by whom and when.
-fn outcome(alloc: Global, run: &Evidence) -> Result<Vec<Field>, AllocError>
-    ensures fields { IfOk result (λ fields. map named_node fields.items ≡ outcome_fields run.now) }
+fn put_outcome(fields: &mut Vec<Field>, alloc: Global, run: &Evidence) -> Result<(), AllocError>
+    ensures fields { OnOk result (map named_node fields.new.items ≡ map named_node fields.old.items ++ outcome_fields run.now) }
     ensures fits { OnOk result (FitsOutcome run.now) }
 {
-    let fields = vec![in alloc;
-        field(alloc, b"clean", &run.clean)?,
-        field(alloc, b"subject", &run.subject)?,
-        field(alloc, b"when", &run.when)?,
-        field(alloc, b"who", &run.who)?,
-    ]?;
-    Ok(fields)
+    put_field(fields, alloc, b"clean", &run.clean)?;
+    put_field(fields, alloc, b"subject", &run.subject)?;
+    put_field(fields, alloc, b"when", &run.when)?;
+    put_field(fields, alloc, b"who", &run.who)?;
+    Ok(())
 }
 
 impl Value for Evidence {
@@ -158,8 +153,9 @@ impl Value for Evidence {
     }
 
     fn to_tree(&self, alloc: Global) -> Result<Tree, AllocError> {
-        let mut fields = run(alloc, self)?;
-        fields.append(&mut outcome(alloc, self)?)?;
+        let mut fields = Vec::new(alloc);
+        put_run(&mut fields, alloc, self)?;
+        put_outcome(&mut fields, alloc, self)?;
         Ok(structure_of(fields))
     }
 
@@ -194,11 +190,10 @@ impl Value for HistoryRow {
     }
 
     fn to_tree(&self, alloc: Global) -> Result<Tree, AllocError> {
-        let fields = vec![in alloc;
-            field(alloc, b"what", &self.what)?,
-            field(alloc, b"who", &self.who)?,
-            field(alloc, b"when", &self.when)?,
-        ]?;
+        let mut fields = Vec::new(alloc);
+        put_field(&mut fields, alloc, b"what", &self.what)?;
+        put_field(&mut fields, alloc, b"who", &self.who)?;
+        put_field(&mut fields, alloc, b"when", &self.when)?;
         Ok(structure_of(fields))
     }
 

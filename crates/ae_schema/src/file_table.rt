@@ -12,10 +12,10 @@ ghost use Rattle.ae_schema.specs.Shapes.{row_from, files_from};
 use crate::SchemaError;
 use crate::ascending::Ascending;
 use crate::fields::{End, Then};
-use crate::lists::list_field;
+use crate::lists::put_list;
 use crate::record::read_record;
 use crate::structure::{read_structure, structure_of};
-use crate::value::{Value, field};
+use crate::value::{Value, put_field};
 use ae_base::{ChangeNo, Delta, Path, Usage};
 use ae_text::{Field, Tree, print_tree};
 use ae_types::{FileRow, FileRows, FileVersion, FileVersionList, Lock, LockList, VersionRef};
@@ -53,11 +53,10 @@ impl Value for FileVersion {
     }
 
     fn to_tree(&self, alloc: Global) -> Result<Tree, AllocError> {
-        let fields = vec![in alloc;
-            field(alloc, b"delta", &self.delta)?,
-            field(alloc, b"usage", &self.usage)?,
-            field(alloc, b"version", &self.version)?,
-        ]?;
+        let mut fields = Vec::new(alloc);
+        put_field(&mut fields, alloc, b"delta", &self.delta)?;
+        put_field(&mut fields, alloc, b"usage", &self.usage)?;
+        put_field(&mut fields, alloc, b"version", &self.version)?;
         Ok(structure_of(fields))
     }
 
@@ -103,11 +102,10 @@ impl Value for FileRow {
 
     fn to_tree(&self, alloc: Global) -> Result<Tree, AllocError> {
         let edit = self.past.len() as u64;
-        let fields = vec![in alloc;
-            field(alloc, b"path", &self.path)?,
-            field(alloc, b"edit", &edit)?,
-            field(alloc, b"past", &self.past)?,
-        ]?;
+        let mut fields = Vec::new(alloc);
+        put_field(&mut fields, alloc, b"path", &self.path)?;
+        put_field(&mut fields, alloc, b"edit", &edit)?;
+        put_field(&mut fields, alloc, b"past", &self.past)?;
         Ok(structure_of(fields))
     }
 
@@ -141,10 +139,9 @@ impl Value for Lock {
     }
 
     fn to_tree(&self, alloc: Global) -> Result<Tree, AllocError> {
-        let fields = vec![in alloc;
-            field(alloc, b"path", &self.path)?,
-            field(alloc, b"change", &self.change)?,
-        ]?;
+        let mut fields = Vec::new(alloc);
+        put_field(&mut fields, alloc, b"path", &self.path)?;
+        put_field(&mut fields, alloc, b"change", &self.change)?;
         Ok(structure_of(fields))
     }
 
@@ -189,10 +186,9 @@ fn fields_of(alloc: Global, files: &[FileRow], locks: &[Lock]) -> Result<Vec<Fie
     ensures fields { IfOk result (λ fields. map named_node fields.items ≡ files_fields (files.now, locks.now)) }
     ensures fits { OnOk result (HoldsFiles (files.now, locks.now)) }
 {
-    let fields = vec![in alloc;
-        list_field(alloc, b"files", files)?,
-        list_field(alloc, b"locks", locks)?,
-    ]?;
+    let mut fields = Vec::new(alloc);
+    put_list(&mut fields, alloc, b"files", files)?;
+    put_list(&mut fields, alloc, b"locks", locks)?;
     Ok(fields)
 }
 

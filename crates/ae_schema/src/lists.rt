@@ -1,5 +1,5 @@
 // How lists of rows are spelled, and the users of a role.
-ghost use Rattle.std.specs.Prelude.{◌≡◌, List, ℕ, Some, IfOk, IfSome, IsSomeAnd, OnOk, All, map};
+ghost use Rattle.std.specs.Prelude.{◌≡◌, ◌++◌, ◌∷◌, [], List, ℕ, Some, IfOk, IfSome, IsSomeAnd, OnOk, All, map};
 ghost use Rattle.ae_text.specs.View.{node, named_node};
 ghost use Rattle.ae_schema.specs.Spelled.{list_of};
 ghost use Rattle.ae_base.specs.Users.{AllDiffer};
@@ -38,12 +38,8 @@ fn row_trees<T: Value>(alloc: Global, rows: &[T]) -> Result<Vec<Tree>, AllocErro
     Ok(trees)
 }
 
-/// The field of this name and list.
-pub(crate) fn list_field<T: Value>(
-    alloc: Global,
-    name: &[u8],
-    rows: &[T],
-) -> Result<Field, AllocError>
+// The field of this name and list.
+fn list_field<T: Value>(alloc: Global, name: &[u8], rows: &[T]) -> Result<Field, AllocError>
     ensures field { IfOk result (λ field. named_node field ≡ (name.now, list_of T.spelled rows.now)) }
     ensures fits { OnOk result (All T.Fits rows.now) }
 {
@@ -52,6 +48,20 @@ pub(crate) fn list_field<T: Value>(
         name,
         Tree::List(TreeList::of(row_trees(alloc, rows)?)),
     )
+}
+
+/// Puts the field of this name and list after those that stand there.
+pub(crate) fn put_list<T: Value>(
+    fields: &mut Vec<Field>,
+    alloc: Global,
+    name: &[u8],
+    rows: &[T],
+) -> Result<(), AllocError>
+    ensures fields { OnOk result (map named_node fields.new.items ≡ map named_node fields.old.items ++ (name.now, list_of T.spelled rows.now) ∷ []) }
+    ensures fits { OnOk result (All T.Fits rows.now) }
+{
+    fields.push(list_field(alloc, name, rows)?)?;
+    Ok(())
 }
 
 impl<T: Value> Value for Rows<T> {

@@ -12,10 +12,10 @@ ghost use Rattle.ae_schema.specs.Shapes.{attributes_from, project_from};
 use crate::SchemaError;
 use crate::ascending::Ascending;
 use crate::fields::{End, Then};
-use crate::lists::list_field;
+use crate::lists::put_list;
 use crate::record::read_record;
 use crate::structure::{read_structure, structure_of};
-use crate::value::{Value, field};
+use crate::value::{Value, put_field};
 use ae_base::{ChangeNo, Delta, ProjectName, Text, User, UserSet};
 use ae_text::{Field, Tree, print_tree};
 use ae_types::{Attributes, DeltaList, DeltaRow, EndAction, NumberList, Project};
@@ -109,12 +109,11 @@ impl Value for DeltaRow {
     }
 
     fn to_tree(&self, alloc: Global) -> Result<Tree, AllocError> {
-        let fields = vec![in alloc;
-            field(alloc, b"delta", &self.delta)?,
-            field(alloc, b"change", &self.change)?,
-            field(alloc, b"when", &self.when)?,
-            field(alloc, b"who", &self.who)?,
-        ]?;
+        let mut fields = Vec::new(alloc);
+        put_field(&mut fields, alloc, b"delta", &self.delta)?;
+        put_field(&mut fields, alloc, b"change", &self.change)?;
+        put_field(&mut fields, alloc, b"when", &self.when)?;
+        put_field(&mut fields, alloc, b"who", &self.who)?;
         Ok(structure_of(fields))
     }
 
@@ -263,88 +262,106 @@ pub fn read_project(alloc: Global, bytes: &[u8]) -> Result<(Project, NumberList)
 }
 
 // Which format it is, and which project.
-fn identity(alloc: Global, project: &Project) -> Result<Vec<Field>, AllocError>
-    ensures fields { IfOk result (λ fields. map named_node fields.items ≡ identity_fields project.now) }
+fn put_identity(fields: &mut Vec<Field>, alloc: Global, project: &Project) -> Result<(), AllocError>
+    ensures fields { OnOk result (map named_node fields.new.items ≡ map named_node fields.old.items ++ identity_fields project.now) }
     ensures fits { OnOk result (IsProjectName project.now.name) }
 {
-    let fields = vec![in alloc;
-        field(alloc, b"format", &Format)?,
-        field(alloc, b"store", &Packed)?,
-        field(alloc, b"name", &project.name)?,
-        field(alloc, b"description", &project.attributes.description)?,
-    ]?;
-    Ok(fields)
+    put_field(fields, alloc, b"format", &Format)?;
+    put_field(fields, alloc, b"store", &Packed)?;
+    put_field(fields, alloc, b"name", &project.name)?;
+    put_field(
+        fields,
+        alloc,
+        b"description",
+        &project.attributes.description,
+    )?;
+    Ok(())
 }
 
 // Who may do what.
-fn permissions(alloc: Global, settings: &Attributes) -> Result<Vec<Field>, AllocError>
-    ensures { IfOk result (λ fields. map named_node fields.items ≡ permission_fields settings.now) }
+fn put_permissions(
+    fields: &mut Vec<Field>,
+    alloc: Global,
+    settings: &Attributes,
+) -> Result<(), AllocError>
+    ensures { OnOk result (map named_node fields.new.items ≡ map named_node fields.old.items ++ permission_fields settings.now) }
 {
-    let fields = vec![in alloc;
-        field(
-            alloc,
-            b"developer_may_review",
-            &settings.developer_may_review
-        )?,
-        field(
-            alloc,
-            b"developer_may_integrate",
-            &settings.developer_may_integrate
-        )?,
-        field(
-            alloc,
-            b"reviewer_may_integrate",
-            &settings.reviewer_may_integrate
-        )?,
-        field(
-            alloc,
-            b"developers_may_create_changes",
-            &settings.developers_may_create_changes
-        )?,
-    ]?;
-    Ok(fields)
+    put_field(
+        fields,
+        alloc,
+        b"developer_may_review",
+        &settings.developer_may_review,
+    )?;
+    put_field(
+        fields,
+        alloc,
+        b"developer_may_integrate",
+        &settings.developer_may_integrate,
+    )?;
+    put_field(
+        fields,
+        alloc,
+        b"reviewer_may_integrate",
+        &settings.reviewer_may_integrate,
+    )?;
+    put_field(
+        fields,
+        alloc,
+        b"developers_may_create_changes",
+        &settings.developers_may_create_changes,
+    )?;
+    Ok(())
 }
 
 // How development ends, and what a new change begins with.
-fn defaults(alloc: Global, settings: &Attributes) -> Result<Vec<Field>, AllocError>
-    ensures { IfOk result (λ fields. map named_node fields.items ≡ default_fields settings.now) }
+fn put_defaults(
+    fields: &mut Vec<Field>,
+    alloc: Global,
+    settings: &Attributes,
+) -> Result<(), AllocError>
+    ensures { OnOk result (map named_node fields.new.items ≡ map named_node fields.old.items ++ default_fields settings.now) }
 {
-    let fields = vec![in alloc;
-        field(alloc, b"develop_end_action", &settings.develop_end_action)?,
-        field(
-            alloc,
-            b"default_test_exemption",
-            &settings.default_test_exemption
-        )?,
-    ]?;
-    Ok(fields)
+    put_field(
+        fields,
+        alloc,
+        b"develop_end_action",
+        &settings.develop_end_action,
+    )?;
+    put_field(
+        fields,
+        alloc,
+        b"default_test_exemption",
+        &settings.default_test_exemption,
+    )?;
+    Ok(())
 }
 
 // The users of each role.
-fn roles(alloc: Global, project: &Project) -> Result<Vec<Field>, AllocError>
-    ensures fields { IfOk result (λ fields. map named_node fields.items ≡ role_fields project.now) }
+fn put_roles(fields: &mut Vec<Field>, alloc: Global, project: &Project) -> Result<(), AllocError>
+    ensures fields { OnOk result (map named_node fields.new.items ≡ map named_node fields.old.items ++ role_fields project.now) }
     ensures fits { OnOk result (HoldsRoles project.now) }
 {
-    let fields = vec![in alloc;
-        field(alloc, b"administrators", &project.administrators)?,
-        field(alloc, b"developers", &project.developers)?,
-        field(alloc, b"reviewers", &project.reviewers)?,
-        field(alloc, b"integrators", &project.integrators)?,
-    ]?;
-    Ok(fields)
+    put_field(fields, alloc, b"administrators", &project.administrators)?;
+    put_field(fields, alloc, b"developers", &project.developers)?;
+    put_field(fields, alloc, b"reviewers", &project.reviewers)?;
+    put_field(fields, alloc, b"integrators", &project.integrators)?;
+    Ok(())
 }
 
 // The number of the next version, and the changes and deltas.
-fn counted(alloc: Global, project: &Project, numbers: &[ChangeNo]) -> Result<Vec<Field>, AllocError>
-    ensures fields { IfOk result (λ fields. map named_node fields.items ≡ counted_fields project.now numbers.now) }
+fn put_counted(
+    fields: &mut Vec<Field>,
+    alloc: Global,
+    project: &Project,
+    numbers: &[ChangeNo],
+) -> Result<(), AllocError>
+    ensures fields { OnOk result (map named_node fields.new.items ≡ map named_node fields.old.items ++ counted_fields project.now numbers.now) }
     ensures fits { OnOk result (HoldsCounted project.now numbers.now) }
 {
-    let fields = vec![in alloc;
-        field(alloc, b"next_version", &project.next_version)?,
-        list_field(alloc, b"changes", numbers)?,
-        field(alloc, b"deltas", &project.deltas)?,
-    ]?;
-    Ok(fields)
+    put_field(fields, alloc, b"next_version", &project.next_version)?;
+    put_list(fields, alloc, b"changes", numbers)?;
+    put_field(fields, alloc, b"deltas", &project.deltas)?;
+    Ok(())
 }
 
 // The fields of the project's file.
@@ -356,11 +373,12 @@ fn fields_of(
     ensures fields { IfOk result (λ fields. map named_node fields.items ≡ project_fields (project.now, numbers.now)) }
     ensures fits { OnOk result (HoldsProject (project.now, numbers.now)) }
 {
-    let mut fields = identity(alloc, project)?;
-    fields.append(&mut permissions(alloc, &project.attributes)?)?;
-    fields.append(&mut defaults(alloc, &project.attributes)?)?;
-    fields.append(&mut roles(alloc, project)?)?;
-    fields.append(&mut counted(alloc, project, numbers)?)?;
+    let mut fields = Vec::new(alloc);
+    put_identity(&mut fields, alloc, project)?;
+    put_permissions(&mut fields, alloc, &project.attributes)?;
+    put_defaults(&mut fields, alloc, &project.attributes)?;
+    put_roles(&mut fields, alloc, project)?;
+    put_counted(&mut fields, alloc, project, numbers)?;
     Ok(fields)
 }
 

@@ -1,5 +1,5 @@
 // What is spelled as one value of a text: texts, flags and numbers.
-ghost use Rattle.std.specs.Prelude.{◌≡◌, Bool, IfOk, IfSome, OnOk, Some};
+ghost use Rattle.std.specs.Prelude.{◌≡◌, ◌++◌, ◌∷◌, [], Bool, IfOk, IfSome, OnOk, Some, map};
 ghost use Rattle.ae_text.specs.Tree.{Node, word};
 ghost use Rattle.ae_text.specs.View.{node, named_node};
 ghost use Rattle.ae_schema.specs.Spelled.{flag};
@@ -35,6 +35,20 @@ pub(crate) fn field<T: Value>(alloc: Global, name: &[u8], value: &T) -> Result<F
     ensures fits { OnOk result (T.Fits value.now) }
 {
     Field::of(alloc, name, value.to_tree(alloc)?)
+}
+
+/// Puts the field of this name and value after those that stand there.
+pub(crate) fn put_field<T: Value>(
+    fields: &mut Vec<Field>,
+    alloc: Global,
+    name: &[u8],
+    value: &T,
+) -> Result<(), AllocError>
+    ensures fields { OnOk result (map named_node fields.new.items ≡ map named_node fields.old.items ++ (name.now, T.spelled value.now) ∷ []) }
+    ensures fits { OnOk result (T.Fits value.now) }
+{
+    fields.push(field(alloc, name, value)?)?;
+    Ok(())
 }
 
 impl Value for Text {
