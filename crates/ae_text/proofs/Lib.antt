@@ -15,3 +15,4 @@ pub mod EveryText
 pub mod GoodWords
 pub mod Again
 pub mod Deep
+mod Printed

@@ -1,0 +1,63 @@
+-- What a printer has put, where the rest is still to come.
+use Rattle.std.proofs.Common.{◌≡◌, ℕ, ◌+◌, ◌<◌, List, [], ◌∷◌, ◌++◌, length, drop, get_or, ap, sym, subst, ◌∙◌, append_assoc}
+use Rattle.std.proofs.lemmas.List.{at_drop_more}
+use Rattle.ae_text.specs.Tree.{Node, Items, item, Members, member}
+use Rattle.ae_text.specs.View.{node, named_node, items_seen, members_seen, node_step, field_step, members_step, items_step}
+use Rattle.ae_text.specs.Canonical.{value_text, items_text, field_text, spaced_fields_text, fields_text}
+use Rattle.ae_text.specs.Printing.{FitsTypes, ItemsFitTypes, MembersFitTypes}
+use Rattle.ae_text.specs.declared.tree.Field.{Field}
+use Rattle.ae_text.specs.declared.tree.Tree.{Tree}
+use Rattle.ae_text.specs.declared.tree.Tree.TheFolds.{fold_out-Field}
+
+-- two pieces put, and the rest
+two_more : (out one two rest between after : List ℕ) → between ≡ out ++ one → after ≡ between ++ two → after ++ rest ≡ out ++ (one ++ (two ++ rest))
+two_more out one two rest between after first second =
+    ap (λ (l : List ℕ). l ++ rest) (second ∙ ap (λ (l : List ℕ). l ++ two) first) ∙ (append_assoc (out ++ one) two rest ∙ append_assoc out one (two ++ rest))
+
+-- the next value of a list
+next_item : (trees : List Tree) (i : ℕ) (tree : Tree) → tree ≡ get_or trees i tree → i < length trees
+    → items_seen (drop i trees) ≡ item (node tree) (items_seen (drop (i + 1) trees))
+next_item trees i tree is less = at_drop_more items_seen trees i tree less ∙ ap (λ (t : Tree). item (node t) (items_seen (drop (i + 1) trees))) (sym is)
+
+-- a field is its name and its value
+named : (field : Field) → named_node field ≡ (field.name, node field.value)
+named field = fold_out-Field Node (List ℕ × Node) Members Items node_step field_step members_step items_step field
+
+-- the next field of a structure
+next_member : (fields : List Field) (i : ℕ) (field : Field) → field ≡ get_or fields i field → i < length fields
+    → members_seen (drop i fields) ≡ member field.name (node field.value) (members_seen (drop (i + 1) fields))
+next_member fields i field is less =
+    let one : named_node (get_or fields i field) ≡ (field.name, node field.value) = ap named_node (sym is) ∙ named field in
+    at_drop_more members_seen fields i field less ∙ ap (λ (m : List ℕ × Node). member m.0 m.1 (members_seen (drop (i + 1) fields))) one
+
+-- a value put in a list
+pub put_item : (trees : List Tree) (i : ℕ) (tree : Tree) → tree ≡ get_or trees i tree → i < length trees
+    → (before out between after whole : List ℕ) → between ≡ out ++ before → after ≡ between ++ value_text (node tree)
+    → out ++ items_text before (items_seen (drop i trees)) ≡ whole → after ++ items_text (44 ∷ 32 ∷ []) (items_seen (drop (i + 1) trees)) ≡ whole
+put_item trees i tree is less before out between after whole first second so_far =
+    two_more out before (value_text (node tree)) (items_text (44 ∷ 32 ∷ []) (items_seen (drop (i + 1) trees))) between after first second
+    ∙ (ap (λ (js : Items). out ++ items_text before js) (sym (next_item trees i tree is less)) ∙ so_far)
+
+pub item_fits : (trees : List Tree) (i : ℕ) (tree : Tree) → tree ≡ get_or trees i tree → i < length trees → FitsTypes (node tree)
+    → ItemsFitTypes (items_seen (drop (i + 1) trees)) → ItemsFitTypes (items_seen (drop i trees))
+item_fits trees i tree is less one rest = subst (λ (js : Items). ItemsFitTypes js) (sym (next_item trees i tree is less)) (one, rest)
+
+-- a field put in a structure
+pub put_spaced : (fields : List Field) (i : ℕ) (field : Field) → field ≡ get_or fields i field → i < length fields
+    → (out between after whole : List ℕ) → between ≡ out ++ 32 ∷ [] → after ≡ between ++ field_text field.name (value_text (node field.value))
+    → out ++ spaced_fields_text (members_seen (drop i fields)) ≡ whole → after ++ spaced_fields_text (members_seen (drop (i + 1) fields)) ≡ whole
+put_spaced fields i field is less out between after whole first second so_far =
+    two_more out (32 ∷ []) (field_text field.name (value_text (node field.value))) (spaced_fields_text (members_seen (drop (i + 1) fields))) between after first second
+    ∙ (ap (λ (ms : Members). out ++ spaced_fields_text ms) (sym (next_member fields i field is less)) ∙ so_far)
+
+-- a field put on a line of its own
+pub put_line : (fields : List Field) (i : ℕ) (field : Field) → field ≡ get_or fields i field → i < length fields
+    → (out between after whole : List ℕ) → between ≡ out ++ field_text field.name (value_text (node field.value)) → after ≡ between ++ 10 ∷ []
+    → out ++ fields_text (members_seen (drop i fields)) ≡ whole → after ++ fields_text (members_seen (drop (i + 1) fields)) ≡ whole
+put_line fields i field is less out between after whole first second so_far =
+    two_more out (field_text field.name (value_text (node field.value))) (10 ∷ []) (fields_text (members_seen (drop (i + 1) fields))) between after first second
+    ∙ (ap (λ (ms : Members). out ++ fields_text ms) (sym (next_member fields i field is less)) ∙ so_far)
+
+pub member_fits : (fields : List Field) (i : ℕ) (field : Field) → field ≡ get_or fields i field → i < length fields → FitsTypes (node field.value)
+    → MembersFitTypes (members_seen (drop (i + 1) fields)) → MembersFitTypes (members_seen (drop i fields))
+member_fits fields i field is less one rest = subst (λ (ms : Members). MembersFitTypes ms) (sym (next_member fields i field is less)) (one, rest)
