@@ -1,5 +1,5 @@
 // The file table, in the order of its paths, after an event: an integration enters the files of its change.
-ghost use Rattle.std.specs.Prelude.{◌≡◌, ◌+◌, ◌<◌, IfOk, OnOk};
+ghost use Rattle.std.specs.Prelude.{◌≡◌, ◌+◌, ◌<◌, OnOk};
 ghost use Rattle.ae_base.specs.Limits.{most_deltas};
 ghost use Rattle.ae_base.specs.Rows.{text_cmp};
 ghost use Rattle.ae_types.specs.Found.{row_path};
@@ -55,24 +55,22 @@ fn enter_files(
     Ok(())
 }
 
-/// The file table after an event of a change that had these files, where there were so many deltas.
-pub(crate) fn next_rows(
+/// Makes the file table that after an event of a change that had these files, where there were so many deltas.
+pub(crate) fn alter_rows(
     alloc: Global,
-    rows: FileRows,
+    table: &mut FileRows,
     what: &EventKind,
     deltas: usize,
     files: &[ChangeFile],
-) -> Result<FileRows, AllocError>
-    requires ascend { Ascends text_cmp row_path rows }
+) -> Result<(), AllocError>
+    requires ascend { Ascends text_cmp row_path table.old }
     requires room { what.now ≡ EventKind.IPass → deltas < most_deltas }
-    ensures { IfOk result (λ next. next ≡ rows_after what.now (deltas + 1) files.now rows) }
+    ensures { OnOk result (table.new ≡ rows_after what.now (deltas + 1) files.now table.old) }
 {
-    match what {
-        EventKind::IPass => {
-            let mut rows = rows.into_vec();
-            enter_files(alloc, &mut rows, Delta::of((deltas + 1) as u16), files)?;
-            Ok(FileRows::of(rows))
-        }
-        _ => Ok(rows),
+    if matches!(what, EventKind::IPass) {
+        let mut rows = std::mem::replace(table, FileRows::new(alloc)).into_vec();
+        enter_files(alloc, &mut rows, Delta::of((deltas + 1) as u16), files)?;
+        *table = FileRows::of(rows);
     }
+    Ok(())
 }

@@ -1,5 +1,5 @@
 // The locks, in the order of their paths, after an event: a change takes those of its files, or gives back its own.
-ghost use Rattle.std.specs.Prelude.{◌≡◌, IfOk, OnOk};
+ghost use Rattle.std.specs.Prelude.{◌≡◌, OnOk};
 ghost use Rattle.ae_base.specs.Rows.{text_cmp};
 ghost use Rattle.ae_types.specs.Found.{lock_path};
 ghost use Rattle.ae_types.specs.Ordered.{Ascends, put_by};
@@ -48,18 +48,18 @@ fn unlock(locks: &mut Vec<Lock>, number: ChangeNo)
     locks.retain(|lock| number.number() != lock.change.number());
 }
 
-/// The locks after an event of the change of this number, which had these files.
-pub(crate) fn next_locks(
+/// Makes the locks those after an event of the change of this number, which had these files.
+pub(crate) fn alter_locks(
     alloc: Global,
-    locks: LockList,
+    list: &mut LockList,
     what: &EventKind,
     number: ChangeNo,
     files: &[ChangeFile],
-) -> Result<LockList, AllocError>
-    requires { Ascends text_cmp lock_path locks }
-    ensures { IfOk result (λ next. next ≡ locks_after what.now number files.now locks) }
+) -> Result<(), AllocError>
+    requires { Ascends text_cmp lock_path list.old }
+    ensures { OnOk result (list.new ≡ locks_after what.now number files.now list.old) }
 {
-    let mut locks = locks.into_vec();
+    let mut locks = std::mem::replace(list, LockList::new(alloc)).into_vec();
     match what {
         EventKind::End(..) => lock_files(alloc, &mut locks, number, files)?,
         EventKind::EndUndo | EventKind::Fail | EventKind::IPass | EventKind::IFail => {
@@ -67,5 +67,6 @@ pub(crate) fn next_locks(
         }
         _ => {}
     }
-    Ok(LockList::of(locks))
+    *list = LockList::of(locks);
+    Ok(())
 }

@@ -1,5 +1,5 @@
 // The record of the project after an event.
-ghost use Rattle.std.specs.Prelude.{◌≡◌, ◌≤◌, ◌<◌, length, IfOk, OnOk};
+ghost use Rattle.std.specs.Prelude.{◌≡◌, ◌≤◌, ◌<◌, length, OnOk};
 ghost use Rattle.ae_base.specs.Limits.{most_deltas, most_next_version};
 ghost use Rattle.ae_base.specs.Users.{AllDiffer};
 ghost use Rattle.ae_types.specs.Roles.{users_of};
@@ -40,27 +40,26 @@ fn add_delta(alloc: Global, deltas: &mut DeltaList, event: &Event) -> Result<(),
     })
 }
 
-/// The record of the project after an event.
-pub(crate) fn next_project(
+/// Makes the record of the project that after an event.
+pub(crate) fn alter_project(
     alloc: Global,
-    project: Project,
+    project: &mut Project,
     event: &Event,
-) -> Result<Project, AllocError>
-    requires differ { (role : _) → AllDiffer (users_of role (project_after event.now event.now.what project)) }
-    requires versions { (project_after event.now event.now.what project).next_version ≤ most_next_version }
-    requires room { event.now.what ≡ EventKind.IPass → length project.deltas < most_deltas }
-    ensures { IfOk result (λ next. next ≡ project_after event.now event.now.what project) }
+) -> Result<(), AllocError>
+    requires differ { (role : _) → AllDiffer (users_of role (project_after event.now event.now.what project.old)) }
+    requires versions { (project_after event.now event.now.what project.old).next_version ≤ most_next_version }
+    requires room { event.now.what ≡ EventKind.IPass → length project.old.deltas < most_deltas }
+    ensures { OnOk result (project.new ≡ project_after event.now event.now.what project.old) }
 {
-    let mut project = project;
     match &event.what {
         EventKind::Attributes(attributes) => project.attributes = attributes.copy(alloc)?,
-        EventKind::RoleAdd(role, user) => add_user(&mut project, *role, user.copy(alloc)?)?,
-        EventKind::RoleDrop(role, user) => drop_user(&mut project, *role, user),
+        EventKind::RoleAdd(role, user) => add_user(project, *role, user.copy(alloc)?)?,
+        EventKind::RoleDrop(role, user) => drop_user(project, *role, user),
         EventKind::End(tree, _, _) => {
             project.next_version += present_count(tree.as_slice()) as u64;
         }
         EventKind::IPass => add_delta(alloc, &mut project.deltas, event)?,
         _ => {}
     }
-    Ok(project)
+    Ok(())
 }
