@@ -6,10 +6,11 @@ ghost use Rattle.ae_types.specs.Found.{change_at};
 ghost use Rattle.ae_types.specs.Runs.{Needed};
 ghost use Rattle.ae_machine.specs.declared.jobs.Job.{Job};
 ghost use Rattle.ae_machine.specs.declared.verdict.Verdict.TheVariants.{Accept};
-ghost use Rattle.ae_machine.specs.Call.{Placing, given_of};
+ghost use Rattle.ae_machine.specs.Call.{Placing, given_in, given_of};
 ghost use Rattle.ae_machine.specs.Commands.{AnswersRun, AnswersRuns, GivesCommands, command_told, run_told};
 ghost use Rattle.ae_machine.specs.Jobs.{AnswersJobs, IsCommand};
 ghost use Rattle.ae_machine.specs.Fits.{makes_runs};
+ghost use Rattle.ae_machine.specs.Runs.{needed_of};
 ghost use Rattle.ae_machine.specs.Verdict.{event_of, events_of};
 ghost use Rattle.ae_machine.specs.Versions.{ShowsVersions};
 
@@ -18,7 +19,7 @@ use crate::events::event;
 use crate::reading::{config_seen, subject};
 use crate::runs::{delta_of_run, group, part_of, values_of};
 use crate::{RunRow, Verdict, View};
-use ae_base::{ChangeNo, Delta, Kind, Path, ProjectName, Refusal, Text, User};
+use ae_base::{ChangeNo, Delta, Kind, Path, ProjectName, Refusal, Snapshot, Text, User};
 use ae_evidence::RunKey;
 use ae_log::{EventKind, EventList, RunEvent};
 use ae_types::{Change, Rows, State};
@@ -160,6 +161,40 @@ pub fn jobs_asked(
     }
 }
 
+// The command with which a run was made, empty where none is given for it.
+fn command_run(
+    alloc: Global,
+    project: &ProjectName,
+    change: &Change,
+    delta: Delta,
+    read: &ConfigRead,
+    run: &RunRow,
+) -> Result<Text, AllocError>
+    requires { GivesCommands read.now }
+    ensures { IfOk result (λ command. command ≡ given_in (command_told project.now change.now delta read.now (needed_of run.now)) []) }
+{
+    match command_told(
+        alloc,
+        project,
+        change,
+        delta,
+        read,
+        run.kind,
+        run.path.as_ref(),
+    )? {
+        Ok(command) => Ok(command),
+        Err(_) => Ok(Text::of(Vec::new(alloc))),
+    }
+}
+
+// The tracked files before and after a run.
+fn trees_of(alloc: Global, run: &RunRow) -> Result<(Snapshot, Snapshot), AllocError>
+    ensures { IfOk result (λ trees. trees ≡ (run.now.before, run.now.after)) }
+{
+    let before = run.before.copy(alloc)?;
+    Ok((before, run.after.copy(alloc)?))
+}
+
 // The run as it is recorded.
 fn run_event(
     alloc: Global,
@@ -173,19 +208,17 @@ fn run_event(
     requires { GivesCommands read.now }
     ensures { IfOk result (λ event. event ≡ run_told project.now change.now delta read.now subject run.now) }
 {
-    let path = run.path.as_ref();
-    let command = match command_told(alloc, project, change, delta, read, run.kind, path)? {
-        Ok(command) => command,
-        Err(_) => Text::of(Vec::new(alloc)),
-    };
+    let command = command_run(alloc, project, change, delta, read, run)?;
+    let path = path_copy(alloc, run.path.as_ref())?;
+    let (before, after) = trees_of(alloc, run)?;
     Ok(RunEvent {
         during: part_of(change.phase),
         kind: run.kind,
-        path: path_copy(alloc, path)?,
+        path,
         command,
         exit: run.exit,
-        before: run.before.copy(alloc)?,
-        after: run.after.copy(alloc)?,
+        before,
+        after,
         subject,
     })
 }

@@ -62,6 +62,44 @@ pub(crate) fn making_refused(project: &Project, who: &User) -> Option<Refusal>
     }
 }
 
+// Adds the users to the role, one after another, up to the first who is refused.
+fn add_users(
+    alloc: Global,
+    project: &mut Project,
+    role: Role,
+    users: &[User],
+) -> Result<Option<Refusal>, AllocError>
+    ensures { IfOk result (λ refusal. refusal ≡ all_added users.now (users_of role project.old)) }
+{
+    for user in users {
+        match add_user(project, role, user.copy(alloc)?) {
+            Ok(()) => {}
+            Err(PolicyError::Refused(refusal)) => return Ok(Some(refusal)),
+            Err(PolicyError::Memory) => return Err(AllocError),
+        }
+    }
+    Ok(None)
+}
+
+// Drops the users from the role, one after another, up to the first who is refused.
+fn drop_users(
+    alloc: Global,
+    project: &mut Project,
+    role: Role,
+    users: &[User],
+) -> Result<Option<Refusal>, AllocError>
+    ensures { IfOk result (λ refusal. refusal ≡ all_dropped role users.now (users_of role project.old)) }
+{
+    for user in users {
+        match drop_user(alloc, project, role, user) {
+            Ok(()) => {}
+            Err(PolicyError::Refused(refusal)) => return Ok(Some(refusal)),
+            Err(PolicyError::Memory) => return Err(AllocError),
+        }
+    }
+    Ok(None)
+}
+
 /// Why not all of the users may be added to the role, each as if those before him were.
 pub(crate) fn adding_refused(
     alloc: Global,
@@ -72,14 +110,7 @@ pub(crate) fn adding_refused(
     ensures { IfOk result (λ refusal. refusal ≡ all_added users.now (users_of role project.now)) }
 {
     let mut after = project.copy(alloc)?;
-    for user in users.as_slice() {
-        match add_user(&mut after, role, user.copy(alloc)?) {
-            Ok(()) => {}
-            Err(PolicyError::Refused(refusal)) => return Ok(Some(refusal)),
-            Err(PolicyError::Memory) => return Err(AllocError),
-        }
-    }
-    Ok(None)
+    add_users(alloc, &mut after, role, users.as_slice())
 }
 
 /// Why not all of the users may be dropped from the role, each as if those before him were.
@@ -92,12 +123,5 @@ pub(crate) fn dropping_refused(
     ensures { IfOk result (λ refusal. refusal ≡ all_dropped role users.now (users_of role project.now)) }
 {
     let mut after = project.copy(alloc)?;
-    for user in users.as_slice() {
-        match drop_user(alloc, &mut after, role, user) {
-            Ok(()) => {}
-            Err(PolicyError::Refused(refusal)) => return Ok(Some(refusal)),
-            Err(PolicyError::Memory) => return Err(AllocError),
-        }
-    }
-    Ok(None)
+    drop_users(alloc, &mut after, role, users.as_slice())
 }
