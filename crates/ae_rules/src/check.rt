@@ -130,14 +130,32 @@ pub fn blamed(alloc: Global, parts: &Parts) -> Result<Option<Blame>, AllocError>
     }
 }
 
+// The error names the state file that breaks a rule first.
+fn check(alloc: Global, parts: &Parts) -> Result<(), CheckError>
+    ensures ok { OnOk result (blamed parts.now ≡ None) }
+    ensures err { IfErr result (λ error. Names error (blamed parts.now)) }
+{
+    match blamed(alloc, parts)? {
+        Some(file) => Err(CheckError::Blamed(file)),
+        None => Ok(()),
+    }
+}
+
+// The records, where they keep the rules.
+fn checked(alloc: Global, parts: Parts) -> Result<Parts, CheckError>
+    ensures parts { IfOk result (λ kept. kept ≡ parts) }
+    ensures ok { OnOk result (blamed parts ≡ None) }
+    ensures err { IfErr result (λ error. Names error (blamed parts)) }
+{
+    check(alloc, &parts).and(Ok(parts))
+}
+
 /// The state of these records, where they keep the rules, and else the state file that breaks one first.
 pub fn state_of(alloc: Global, parts: Parts) -> Result<State, CheckError>
     ensures state { IfOk result (λ state. state ≡ parts) }
     ensures ok { OnOk result (blamed parts ≡ None) }
     ensures err { IfErr result (λ error. Names error (blamed parts)) }
 {
-    match blamed(alloc, &parts)? {
-        Some(file) => Err(CheckError::Blamed(file)),
-        None => Ok(State::of(parts)),
-    }
+    let parts = checked(alloc, parts)?;
+    Ok(State::of(parts))
 }
