@@ -1,6 +1,7 @@
 // A change: its settings, phase, people, files, runs and history.
 ghost use Rattle.std.specs.Prelude.{◌≡◌, IfOk, option_copied};
 
+use crate::copies::copy_three;
 use crate::{Rows, TryCopy, VersionRef};
 use ae_base::{Action, Cause, ChangeNo, Ground, Kind, Path, Phase, Text, Usage, User, What};
 use std::alloc::{AllocError, Global};
@@ -87,6 +88,20 @@ fn copy_user(alloc: Global, user: Option<&User>) -> Result<Option<User>, AllocEr
     }
 }
 
+// Equal users, or nobody.
+fn copy_users(
+    alloc: Global,
+    first: Option<&User>,
+    second: Option<&User>,
+) -> Result<(Option<User>, Option<User>), AllocError>
+    ensures first { IfOk result (λ copies. copies.0 ≡ option_copied first.entry) }
+    ensures second { IfOk result (λ copies. copies.1 ≡ option_copied second.entry) }
+{
+    let first = copy_user(alloc, first)?;
+    let second = copy_user(alloc, second)?;
+    Ok((first, second))
+}
+
 // An equal path, or none.
 fn copy_path(alloc: Global, path: Option<&Path>) -> Result<Option<Path>, AllocError>
     ensures { IfOk result (λ copy. copy ≡ option_copied path.entry) }
@@ -149,17 +164,34 @@ impl TryCopy for ChangeAttributes {
 
 impl TryCopy for Change {
     fn copy(&self, alloc: Global) -> Result<Change, AllocError> {
+        let attributes = self.attributes.copy(alloc)?;
+        let (developer, reviewing) = copy_users(
+            alloc,
+            self.developer.as_ref(),
+            self.reviewing.as_ref(),
+        )?;
+        let (reviewer, integrator) = copy_users(
+            alloc,
+            self.reviewer.as_ref(),
+            self.integrator.as_ref(),
+        )?;
+        let (files, evidence, history) = copy_three(
+            alloc,
+            &self.files,
+            &self.evidence,
+            &self.history,
+        )?;
         Ok(Change {
             number: self.number,
-            attributes: self.attributes.copy(alloc)?,
+            attributes,
             phase: self.phase,
-            developer: copy_user(alloc, self.developer.as_ref())?,
-            reviewing: copy_user(alloc, self.reviewing.as_ref())?,
-            reviewer: copy_user(alloc, self.reviewer.as_ref())?,
-            integrator: copy_user(alloc, self.integrator.as_ref())?,
-            files: self.files.copy(alloc)?,
-            evidence: self.evidence.copy(alloc)?,
-            history: self.history.copy(alloc)?,
+            developer,
+            reviewing,
+            reviewer,
+            integrator,
+            files,
+            evidence,
+            history,
         })
     }
 }

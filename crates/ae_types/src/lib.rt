@@ -3,6 +3,7 @@
 
 mod blame;
 mod change;
+mod copies;
 mod file_table;
 mod laws;
 mod lookup;

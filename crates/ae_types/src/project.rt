@@ -1,6 +1,7 @@
 // A project: its settings, the users of its roles, and its deltas.
 ghost use Rattle.std.specs.Prelude.{◌≡◌, IfOk};
 
+use crate::copies::copy_both;
 use crate::{Rows, TryCopy};
 use ae_base::{ChangeNo, Delta, ProjectName, Text, User, UserSet};
 use std::alloc::{AllocError, Global};
@@ -52,6 +53,20 @@ pub struct Project {
     pub deltas: DeltaList,
 }
 
+// Equal sets of users.
+fn copy_sets(
+    alloc: Global,
+    first: &UserSet,
+    second: &UserSet,
+) -> Result<(UserSet, UserSet), AllocError>
+    ensures first { IfOk result (λ copies. copies.0 ≡ first.now) }
+    ensures second { IfOk result (λ copies. copies.1 ≡ second.now) }
+{
+    let first = first.copy(alloc)?;
+    let second = second.copy(alloc)?;
+    Ok((first, second))
+}
+
 impl TryCopy for Attributes {
     fn copy(&self, alloc: Global) -> Result<Attributes, AllocError> {
         Ok(Attributes {
@@ -85,15 +100,23 @@ impl TryCopy for DeltaRow {
 
 impl TryCopy for Project {
     fn copy(&self, alloc: Global) -> Result<Project, AllocError> {
+        let name = self.name.copy(alloc)?;
+        let (attributes, deltas) = copy_both(alloc, &self.attributes, &self.deltas)?;
+        let (administrators, developers) = copy_sets(
+            alloc,
+            &self.administrators,
+            &self.developers,
+        )?;
+        let (reviewers, integrators) = copy_sets(alloc, &self.reviewers, &self.integrators)?;
         Ok(Project {
-            name: self.name.copy(alloc)?,
-            attributes: self.attributes.copy(alloc)?,
-            administrators: self.administrators.copy(alloc)?,
-            developers: self.developers.copy(alloc)?,
-            reviewers: self.reviewers.copy(alloc)?,
-            integrators: self.integrators.copy(alloc)?,
+            name,
+            attributes,
+            administrators,
+            developers,
+            reviewers,
+            integrators,
             next_version: self.next_version,
-            deltas: self.deltas.copy(alloc)?,
+            deltas,
         })
     }
 }

@@ -4,6 +4,7 @@ ghost use Rattle.ae_types.specs.Observation.{Observation};
 ghost use Rattle.ae_types.specs.Sound.{Sound};
 ghost use Rattle.ae_types.specs.Found.{row_in, lock_in, change_at, has_number};
 
+use crate::copies::{copy_both, copy_three};
 use crate::lookup::{change_in, has_number, lock_in, row_in};
 use crate::{Change, ChangeList, FileRow, FileRows, Lock, LockList, NumberList, Project, TryCopy};
 use ae_base::{ChangeNo, Path};
@@ -154,12 +155,14 @@ impl State {
     pub fn copy(&self, alloc: Global) -> Result<State, AllocError>
         ensures { IfOk result (λ copy. copy ≡ self.now) }
     {
+        let (project, numbers) = copy_both(alloc, &self.project, &self.numbers)?;
+        let (files, locks, changes) = copy_three(alloc, &self.files, &self.locks, &self.changes)?;
         Ok(State {
-            project: self.project.copy(alloc)?,
-            numbers: self.numbers.copy(alloc)?,
-            files: self.files.copy(alloc)?,
-            locks: self.locks.copy(alloc)?,
-            changes: self.changes.copy(alloc)?,
+            project,
+            numbers,
+            files,
+            locks,
+            changes,
         })
     }
 }

@@ -1,0 +1,35 @@
+// Copies of values side by side.
+ghost use Rattle.std.specs.Prelude.{◌≡◌, IfOk};
+
+use crate::TryCopy;
+use std::alloc::{AllocError, Global};
+
+/// Equal ones of both.
+pub(crate) fn copy_both<A: TryCopy + Drop, B: TryCopy + Drop>(
+    alloc: Global,
+    first: &A,
+    second: &B,
+) -> Result<(A, B), AllocError>
+    ensures first { IfOk result (λ copies. copies.0 ≡ first.now) }
+    ensures second { IfOk result (λ copies. copies.1 ≡ second.now) }
+{
+    let first = first.copy(alloc)?;
+    let second = second.copy(alloc)?;
+    Ok((first, second))
+}
+
+/// Equal ones of the three.
+pub(crate) fn copy_three<A: TryCopy + Drop, B: TryCopy + Drop, C: TryCopy + Drop>(
+    alloc: Global,
+    first: &A,
+    second: &B,
+    third: &C,
+) -> Result<(A, B, C), AllocError>
+    ensures first { IfOk result (λ copies. copies.0 ≡ first.now) }
+    ensures second { IfOk result (λ copies. copies.1 ≡ second.now) }
+    ensures third { IfOk result (λ copies. copies.2 ≡ third.now) }
+{
+    let (first, second) = copy_both(alloc, first, second)?;
+    let third = third.copy(alloc)?;
+    Ok((first, second, third))
+}
