@@ -33,3 +33,29 @@ pub(crate) fn copy_three<A: TryCopy + Drop, B: TryCopy + Drop, C: TryCopy + Drop
     let third = third.copy(alloc)?;
     Ok((first, second, third))
 }
+
+/// Equal ones of the five.
+pub(crate) fn copy_five<
+    A: TryCopy + Drop,
+    B: TryCopy + Drop,
+    C: TryCopy + Drop,
+    D: TryCopy + Drop,
+    E: TryCopy + Drop,
+>(
+    alloc: Global,
+    first: &A,
+    second: &B,
+    third: &C,
+    fourth: &D,
+    fifth: &E,
+) -> Result<(A, B, C, D, E), AllocError>
+    ensures first { IfOk result (λ copies. copies.0 ≡ first.now) }
+    ensures second { IfOk result (λ copies. copies.1 ≡ second.now) }
+    ensures third { IfOk result (λ copies. copies.2 ≡ third.now) }
+    ensures fourth { IfOk result (λ copies. copies.3 ≡ fourth.now) }
+    ensures fifth { IfOk result (λ copies. copies.4 ≡ fifth.now) }
+{
+    let (first, second) = copy_both(alloc, first, second)?;
+    let (third, fourth, fifth) = copy_three(alloc, third, fourth, fifth)?;
+    Ok((first, second, third, fourth, fifth))
+}

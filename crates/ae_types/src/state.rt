@@ -4,7 +4,7 @@ ghost use Rattle.ae_types.specs.Observation.{Observation};
 ghost use Rattle.ae_types.specs.Sound.{Sound};
 ghost use Rattle.ae_types.specs.Found.{row_in, lock_in, change_at, has_number};
 
-use crate::copies::{copy_both, copy_three};
+use crate::copies::copy_five;
 use crate::lookup::{change_in, has_number, lock_in, row_in};
 use crate::{Change, ChangeList, FileRow, FileRows, Lock, LockList, NumberList, Project, TryCopy};
 use ae_base::{ChangeNo, Path};
@@ -155,8 +155,14 @@ impl State {
     pub fn copy(&self, alloc: Global) -> Result<State, AllocError>
         ensures { IfOk result (λ copy. copy ≡ self.now) }
     {
-        let (project, numbers) = copy_both(alloc, &self.project, &self.numbers)?;
-        let (files, locks, changes) = copy_three(alloc, &self.files, &self.locks, &self.changes)?;
+        let (project, numbers, files, locks, changes) = copy_five(
+            alloc,
+            &self.project,
+            &self.numbers,
+            &self.files,
+            &self.locks,
+            &self.changes,
+        )?;
         Ok(State {
             project,
             numbers,
