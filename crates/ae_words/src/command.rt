@@ -1,10 +1,11 @@
 // A command, and how its words make it.
-ghost use Rattle.std.specs.Prelude.{◌≡◌, ◌<◌, IfOk, Ok, length, map, string_bytes, false};
-ghost use Rattle.ae_words.specs.Meaning.{blank, next_number, with_plain, with_name, with_user, with_path, with_test, with_listing, with_number, with_value, with_flag, is_free, may_come, step, or_bad, has_plain, is_whole};
+ghost use Rattle.std.specs.Prelude.{◌≡◌, ◌<◌, IfOk, IfErr, Ok, Err, Some, None, if◌then◌else◌, length, map, string_bytes, true, false};
+ghost use Rattle.ae_words.specs.Meaning.{blank, next_number, with_plain, with_name, with_user, with_path, with_test, with_listing, with_number, with_value, with_flag, is_free, may_come, step, has_plain, is_whole};
 ghost use Rattle.ae_words.specs.Items.{items_from, listing};
 ghost use Rattle.ae_words.specs.Grammar.{reads};
 ghost use Rattle.ae_words.specs.Table.{row};
 ghost use Rattle.ae_words.specs.Seen.{item_seen, Gives};
+ghost use Rattle.ae_words.specs.declared.command.Stop.TheVariants as stop;
 
 use crate::items::{Item, named_listing, next_item};
 use crate::numbers::NumberList;
@@ -51,8 +52,6 @@ pub(crate) enum Stop {
 }
 
 impl From<AllocError> for Stop {
-    ghost use Rattle.ae_words.specs.declared.command.Stop.TheVariants as stop;
-
     ghost from_gives = { λ _ e. e ≡ stop.Memory };
 
     fn from(_: AllocError) -> Stop {
@@ -85,88 +84,90 @@ fn blank(alloc: Global, function: Function) -> Command
 }
 
 impl Command {
-    fn with_name(mut self, alloc: Global, word: &[u8]) -> Result<Option<Command>, AllocError>
-        ensures { IfOk result (λ o. o ≡ with_name self word.now) }
+    /// Takes the word as the name of the project; tells whether it is one, and the first.
+    fn take_name(&mut self, alloc: Global, word: &[u8]) -> Result<bool, AllocError>
+        ensures { IfOk result (λ taken. (if taken then Some self.new else None) ≡ with_name self.old word.now) }
     {
         if self.name.is_some() {
-            return Ok(None);
+            return Ok(false);
         }
-        let Some(name) = ProjectName::read(alloc, word)? else {
-            return Ok(None);
-        };
-        self.name = Some(name);
-        Ok(Some(self))
+        self.name = ProjectName::read(alloc, word)?;
+        Ok(self.name.is_some())
     }
 
-    fn with_user(mut self, alloc: Global, word: &[u8]) -> Result<Option<Command>, AllocError>
-        ensures { IfOk result (λ o. o ≡ with_user self word.now) }
+    /// Takes the word as one user more; tells whether it is one, and not too many.
+    fn take_user(&mut self, alloc: Global, word: &[u8]) -> Result<bool, AllocError>
+        ensures { IfOk result (λ taken. (if taken then Some self.new else None) ≡ with_user self.old word.now) }
     {
         if MOST <= self.users.len() {
-            return Ok(None);
+            return Ok(false);
         }
         let Some(user) = User::read(alloc, word)? else {
-            return Ok(None);
+            return Ok(false);
         };
         self.users.push(user)?;
-        Ok(Some(self))
+        Ok(true)
     }
 
-    fn with_path(mut self, alloc: Global, word: &[u8]) -> Result<Option<Command>, AllocError>
-        ensures { IfOk result (λ o. o ≡ with_path self word.now) }
+    /// Takes the word as one path more; tells whether it is one, and not too many.
+    fn take_path(&mut self, alloc: Global, word: &[u8]) -> Result<bool, AllocError>
+        ensures { IfOk result (λ taken. (if taken then Some self.new else None) ≡ with_path self.old word.now) }
     {
         if MOST <= self.paths.len() {
-            return Ok(None);
+            return Ok(false);
         }
         let Some(path) = Path::read(alloc, word)? else {
-            return Ok(None);
+            return Ok(false);
         };
         self.paths.push(path)?;
-        Ok(Some(self))
+        Ok(true)
     }
 
-    fn with_test(self, alloc: Global, word: &[u8]) -> Result<Option<Command>, AllocError>
-        ensures { IfOk result (λ o. o ≡ with_test self word.now) }
+    /// Takes the word as one path more that may be a test's; tells whether it is one, and not too many.
+    fn take_test(&mut self, alloc: Global, word: &[u8]) -> Result<bool, AllocError>
+        ensures { IfOk result (λ taken. (if taken then Some self.new else None) ≡ with_test self.old word.now) }
     {
         if word == b"aegis.conf".as_slice() {
-            return Ok(None);
+            return Ok(false);
         }
-        self.with_path(alloc, word)
+        self.take_path(alloc, word)
     }
 
-    fn with_listing(mut self, word: &[u8]) -> Option<Command>
-        ensures { result ≡ with_listing self word.now }
+    /// Takes the word as the listing's; tells whether it is one, and the first.
+    fn take_listing(&mut self, word: &[u8]) -> bool
+        ensures { (if result then Some self.new else None) ≡ with_listing self.old word.now }
     {
         if self.listing.is_some() {
-            return None;
+            return false;
         }
-        let listing = Listing::find(word)?;
-        self.listing = Some(listing);
-        Some(self)
+        self.listing = Listing::find(word);
+        self.listing.is_some()
     }
 
-    fn with_number(mut self, word: &[u8]) -> Result<Option<Command>, AllocError>
-        ensures { IfOk result (λ o. o ≡ with_number self word.now) }
+    /// Takes the word as the next number; tells whether it is one.
+    fn take_number(&mut self, word: &[u8]) -> Result<bool, AllocError>
+        ensures { IfOk result (λ taken. (if taken then Some self.new else None) ≡ with_number self.old word.now) }
     {
         let Some(number) = next_number(self.numbers.len(), word) else {
-            return Ok(None);
+            return Ok(false);
         };
         self.numbers.push(number)?;
-        Ok(Some(self))
+        Ok(true)
     }
 
-    /// The command with a plain word more, if that is of its kind and not too many.
-    fn with_plain(self, alloc: Global, word: &[u8]) -> Result<Option<Command>, AllocError>
-        ensures { IfOk result (λ o. o ≡ with_plain (row self.function) self word.now) }
+    /// Takes a plain word more; tells whether it is of its kind, and not too many.
+    fn take_plain(&mut self, alloc: Global, word: &[u8]) -> Result<bool, AllocError>
+        ensures { IfOk result (λ taken. (if taken then Some self.new else None) ≡ with_plain (row self.old.function) self.old word.now) }
     {
         match self.function.row() {
-            Row::NewProject => self.with_name(alloc, word),
-            Row::Users => self.with_user(alloc, word),
-            Row::Copy | Row::Paths => self.with_path(alloc, word),
-            Row::NewTest => self.with_test(alloc, word),
-            Row::Listing => Ok(self.with_listing(word)),
-            Row::Numbers => self.with_number(word),
+            Row::NewProject => self.take_name(alloc, word),
+            Row::Users => self.take_user(alloc, word),
+            Row::Copy | Row::Paths => self.take_path(alloc, word),
+            Row::NewTest => self.take_test(alloc, word),
+            Row::Listing => Ok(self.take_listing(word)),
+            Row::Numbers => self.take_number(word),
             Row::Attributes | Row::ChangeAttributes | Row::Change | Row::Test | Row::Nothing => {
-                Ok(None)
+                Ok(false)
             }
         }
     }
@@ -185,62 +186,39 @@ impl Command {
         }
     }
 
-    fn with_project(mut self, alloc: Global, value: &[u8]) -> Result<Option<Command>, AllocError>
-        ensures { IfOk result (λ o. o ≡ with_value Setting.Project self value.now) }
-    {
-        let Some(project) = ProjectName::read(alloc, value)? else {
-            return Ok(None);
-        };
-        self.project = Some(project);
-        Ok(Some(self))
-    }
-
-    fn with_attributes(mut self, alloc: Global, value: &[u8]) -> Result<Option<Command>, AllocError>
-        ensures { IfOk result (λ o. o ≡ with_value Setting.File self value.now) }
-    {
-        let Some(path) = Path::read(alloc, value)? else {
-            return Ok(None);
-        };
-        self.attributes = Some(path);
-        Ok(Some(self))
-    }
-
-    fn with_change(mut self, value: &[u8]) -> Option<Command>
-        ensures { result ≡ with_value Setting.Change self value.now }
-    {
-        let change = ChangeNo::read(value)?;
-        self.change = Some(change);
-        Some(self)
-    }
-
-    fn with_delta(mut self, value: &[u8]) -> Option<Command>
-        ensures { result ≡ with_value Setting.Delta self value.now }
-    {
-        let delta = Delta::read(value)?;
-        self.delta = Some(delta);
-        Some(self)
-    }
-
-    /// The command with an option's value more, if that is of its kind.
-    fn with_value(
-        self,
+    /// Takes an option's value; tells whether it is of its kind.
+    fn take_value(
+        &mut self,
         alloc: Global,
         option: Setting,
         value: &[u8],
-    ) -> Result<Option<Command>, AllocError>
-        ensures { IfOk result (λ o. o ≡ with_value option self value.now) }
+    ) -> Result<bool, AllocError>
+        ensures { IfOk result (λ taken. (if taken then Some self.new else None) ≡ with_value option self.old value.now) }
     {
         match option {
-            Setting::Project => self.with_project(alloc, value),
-            Setting::File => self.with_attributes(alloc, value),
-            Setting::Change => Ok(self.with_change(value)),
-            Setting::Delta => Ok(self.with_delta(value)),
-            Setting::Overwriting | Setting::Baseline | Setting::Regression => Ok(None),
+            Setting::Project => {
+                self.project = ProjectName::read(alloc, value)?;
+                Ok(self.project.is_some())
+            }
+            Setting::File => {
+                self.attributes = Path::read(alloc, value)?;
+                Ok(self.attributes.is_some())
+            }
+            Setting::Change => {
+                self.change = ChangeNo::read(value);
+                Ok(self.change.is_some())
+            }
+            Setting::Delta => {
+                self.delta = Delta::read(value);
+                Ok(self.delta.is_some())
+            }
+            Setting::Overwriting | Setting::Baseline | Setting::Regression => Ok(false),
         }
     }
 
-    fn with_flag(mut self, option: Setting) -> Command
-        ensures { result ≡ with_flag option self }
+    /// Takes a flag.
+    fn take_flag(&mut self, option: Setting)
+        ensures { self.new ≡ with_flag option self.old }
     {
         match option {
             Setting::Overwriting => self.overwriting = true,
@@ -248,7 +226,6 @@ impl Command {
             Setting::Regression => self.regression = true,
             Setting::Project | Setting::File | Setting::Change | Setting::Delta => {}
         }
-        self
     }
 
     fn may_come(&self, listing: Option<Listing>, option: Setting) -> bool
@@ -257,30 +234,32 @@ impl Command {
         self.function.allows(listing, option) && self.is_free(option)
     }
 
-    /// The command with an item more.
+    /// Takes an item more, or stops at its bad word.
     #[tactic(auto, unfolding(crate::specs::Meaning::step))]
-    pub(crate) fn with_item(
-        self,
+    pub(crate) fn take_item(
+        &mut self,
         alloc: Global,
         listing: Option<Listing>,
         at: usize,
         item: Item<'_>,
-    ) -> Result<Command, Stop>
-        ensures { Gives result (step listing self (item_seen at item.entry)) }
+    ) -> Result<(), Stop>
+        ensures taken { IfOk result (λ _. step listing self.old (item_seen at item.entry) ≡ Ok self.new) }
+        ensures stops { IfErr result (λ e. Gives (Err e) (step listing self.old (item_seen at item.entry))) }
     {
         match item {
-            Item::Plain(word) => or_bad(at, self.with_plain(alloc, word)?),
+            Item::Plain(word) => bad_unless(self.take_plain(alloc, word)?, at),
             Item::Flag(option) => {
                 if !self.may_come(listing, option) {
                     return Err(Stop::Bad(at));
                 }
-                Ok(self.with_flag(option))
+                self.take_flag(option);
+                Ok(())
             }
             Item::Valued(option, value_at, value) => {
                 if !self.may_come(listing, option) {
                     return Err(Stop::Bad(at));
                 }
-                or_bad(value_at, self.with_value(alloc, option, value)?)
+                bad_unless(self.take_value(alloc, option, value)?, value_at)
             }
             Item::Wrong => Err(Stop::Bad(at)),
         }
@@ -312,13 +291,13 @@ impl Command {
     }
 }
 
-fn or_bad(at: usize, made: Option<Command>) -> Result<Command, Stop>
-    ensures { Gives result (or_bad at made) }
+/// Stops at the word at this place, unless it was taken.
+fn bad_unless(taken: bool, at: usize) -> Result<(), Stop>
+    ensures taken { IfOk result (λ _. taken ≡ true) }
+    ensures left { IfErr result (λ _. taken ≡ false) }
+    ensures stops { IfErr result (λ e. e ≡ stop.Bad at) }
 {
-    match made {
-        Some(command) => Ok(command),
-        None => Err(Stop::Bad(at)),
-    }
+    if taken { Ok(()) } else { Err(Stop::Bad(at)) }
 }
 
 fn next_number(before: usize, word: &[u8]) -> Option<u64>
@@ -342,8 +321,8 @@ pub(crate) fn said(alloc: Global, function: Function, words: &[String]) -> Resul
     let mut at = 2;
     let mut rest = words;
     while let Some((item, behind_at, behind)) = next_item(at, rest) {
-        match command.with_item(alloc, listing, at, item) {
-            Ok(more) => command = more,
+        match command.take_item(alloc, listing, at, item) {
+            Ok(()) => {}
             Err(stop) => return Err(stop),
         }
         at = behind_at;

@@ -1,8 +1,8 @@
 use Rattle.std.proofs.Common.{◌<◌, ℕ, sym, subst, ◌∙◌}
 use Rattle.ae_words.proofs.PathMore.{with_path-read}
-use Rattle.ae_words.proofs.command.Command.with_path.Goals as goal
+use Rattle.ae_words.proofs.command.Command.take_path.Goals as goal
 
 pub returns : goal.returns
 returns c =
     let room = subst (λ (n : ℕ). n < 1000) c.len.ensures c.if-len-ge-MOST.false in
-    with_path-read c.args.self c.args.word.now c.in-Some.path c.push.new.self room (sym c.in-Some.is ∙ c.in_ok-path.ensures) c.in_ok-push.ensures.ok
+    with_path-read c.args.self.now c.args.word.now c.in-Some.path c.push.new.self room (sym c.in-Some.is ∙ c.in_ok-path.ensures) c.in_ok-push.ensures.ok
