@@ -1,10 +1,11 @@
--- A path more.
-use Rattle.std.proofs.Common.{◌≡◌, ◌<◌, ℕ, Bool, true, false, cond, not, ◌&&◌, nat_le, List, [], ◌∷◌, ◌++◌, Some, None, sym, ap, ◌∙◌, length, arith}
+-- A path more, and the path of the file with attributes.
+use Rattle.std.proofs.Common.{◌≡◌, ◌<◌, ℕ, Bool, Option, is_some, refl, true, false, cond, not, ◌&&◌, nat_le, List, [], ◌∷◌, ◌++◌, Some, None, sym, ap, ◌∙◌, length, arith}
 use Rattle.std.proofs.lemmas.Bool.Decides.{nat_tests}
 use Rattle.ae_base.specs.Names.{is_path}
 use Rattle.ae_base.specs.Bytes.{read_as}
-use Rattle.ae_words.specs.Meaning.{with_path, most}
+use Rattle.ae_words.specs.Meaning.{with_path, with_value, most}
 use Rattle.ae_words.specs.declared.command.Command.{Command}
+use Rattle.ae_words.specs.declared.table.Setting.TheVariants as setting
 
 not_full : (n : ℕ) → n < most → nat_le most n ≡ false
 not_full n h = grind (arith, nat_tests)
@@ -17,3 +18,10 @@ with_path-read c w p ps room read more = one (nat_le most (length c.paths)) (is_
     one true is r e = absurd cc
     one false true r e = let same : w ≡ p = cc in ap (λ (x : List (List ℕ)). Some (record c { paths = x })) (more ∙ ap (λ (x : List ℕ). c.paths ++ x ∷ []) (sym same))
     one false false r e = absurd cc
+
+pub with_attributes-read : (c : Command) (w : List ℕ) (o : Option (List ℕ)) → o ≡ read_as is_path w → cond (is_some o) (Some (record c { attributes = o })) None ≡ with_value setting.File c w
+with_attributes-read c w o read = one (is_path w) read
+  where
+    one : (is : Bool) → o ≡ cond is (Some w) None → cond (is_some o) (Some (record c { attributes = o })) None ≡ cond is (Some (record c { attributes = Some w })) None
+    one true e = rw e refl
+    one false e = rw e refl

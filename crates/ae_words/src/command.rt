@@ -186,6 +186,14 @@ impl Command {
         }
     }
 
+    /// Takes the word as the path of the file with attributes; tells whether it is one.
+    fn take_attributes(&mut self, alloc: Global, value: &[u8]) -> Result<bool, AllocError>
+        ensures { IfOk result (λ taken. (if taken then Some self.new else None) ≡ with_value Setting.File self.old value.now) }
+    {
+        self.attributes = Path::read(alloc, value)?;
+        Ok(self.attributes.is_some())
+    }
+
     /// Takes an option's value; tells whether it is of its kind.
     fn take_value(
         &mut self,
@@ -200,10 +208,7 @@ impl Command {
                 self.project = ProjectName::read(alloc, value)?;
                 Ok(self.project.is_some())
             }
-            Setting::File => {
-                self.attributes = Path::read(alloc, value)?;
-                Ok(self.attributes.is_some())
-            }
+            Setting::File => self.take_attributes(alloc, value),
             Setting::Change => {
                 self.change = ChangeNo::read(value);
                 Ok(self.change.is_some())
