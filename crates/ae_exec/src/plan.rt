@@ -235,7 +235,7 @@ pub(crate) fn make_plan<D: Disk, S: Site>(
     ensures site_later { S.faults site.old ≤ S.faults site.new }
 {
     let state = load_state(alloc, disk)?;
-    plan_on(
+    let plan = plan_on(
         alloc,
         state.as_ref(),
         disk,
@@ -244,5 +244,7 @@ pub(crate) fn make_plan<D: Disk, S: Site>(
         who,
         now,
         status_line,
-    )
+    );
+    drop(state);
+    plan
 }
