@@ -2,6 +2,8 @@
 use Rattle.std.specs.Prelude.{ℕ, List, [], ◌∷◌, ◌++◌, codes, Option, Some, None}
 use Rattle.std.specs.Fmt.{decimal}
 use Rattle.ae_base.specs.Words.{phase_word, which_word}
+use Rattle.ae_base.specs.declared.refusal.Subject.{Subject}
+use Rattle.ae_base.specs.declared.refusal.Subject.TheVariants as named
 use Rattle.ae_base.specs.declared.refusal.Refusal.{Refusal}
 use Rattle.ae_base.specs.declared.refusal.Refusal.TheVariants.{NoProject, ProjectExists, WrongProject, NoSuchChange, WrongPhase, NotAdministrator, NotDeveloper, NotReviewer, NotIntegrator, NotThisDeveloper, NotThisReviewer, NotThisIntegrator, DeveloperMayNotReview, DeveloperMayNotIntegrate, ReviewerMayNotIntegrate, UserThere, UserNotThere, LastAdministrator, FileInChange, FileNotInChange, FileNotInProject, FileInProject, FileLocked, OutOfDate, NoFiles, FileMissing, NoTest, BuildNeeded, TestNeeded, BaselineTestNeeded, RegressionNeeded, IntegrationInProgress, Differs, NoCommand, BadConfig, BadAttributes, Limit, NoSuchDelta, SpaceFull, NoAttributes, PathClash}
 
@@ -103,6 +105,19 @@ text_of NoSuchDelta = codes "there is no such delta"
 text_of SpaceFull = codes "the version space is full"
 text_of (NoAttributes path) = codes "there is no file \"" ++ path ++ codes "\""
 text_of (PathClash path) = file_text path ++ codes " clashes with a folder"
+
+-- what a refusal names
+abbrev pub subject_text : Subject → List ℕ
+subject_text named.Nothing = []
+subject_text (named.User user) = user.now
+subject_text (named.Path path) = path.now
+subject_text (named.File path) = file_text path.now
+subject_text (named.Lock path change) = file_text path.now ++ (codes " is locked by change " ++ decimal change.now)
+subject_text (named.Edits path origin edit) = file_text path.now ++ edits_text origin edit
+subject_text (named.Phase phase) = phase_word phase
+subject_text (named.Change change) = decimal change.now
+subject_text (named.Line line) = decimal line
+subject_text (named.Limit which number) = which_word which ++ codes " is " ++ decimal number
 
 -- `aegis: `, the number, `: `, the text and a line end
 abbrev pub message_of : Refusal → List ℕ

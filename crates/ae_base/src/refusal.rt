@@ -1,13 +1,13 @@
 // Why a command is refused.
-ghost use Rattle.std.specs.Prelude.{◌≡◌, IfOk, Some};
-ghost use Rattle.ae_base.specs.Refusals.{number_of, text_of, message_of, user_or_dash, file_text, edits_text};
+ghost use Rattle.std.specs.Prelude.{◌≡◌, ◌++◌, IfOk, Some};
+ghost use Rattle.ae_base.specs.Refusals.{number_of, text_of, message_of, file_text, subject_text};
 
 use crate::{ChangeNo, Path, Phase, User, Which};
 use std::alloc::{AllocError, Global};
 use std::fmt;
 
 /// Why a command is refused. Each has a number, and a message for the user.
-#[derive(Debug, Drop)]
+#[derive(Drop)]
 pub enum Refusal {
     NoProject,
     ProjectExists,
@@ -102,6 +102,84 @@ impl Refusal {
         }
     }
 
+    // What it says: a text, what it names, and a text after that.
+    fn wording(&self) -> (&'static str, Subject<'_>, &'static str)
+        ensures { result.0.now ++ subject_text result.1 ++ result.2.now ≡ text_of self.now }
+    {
+        match self {
+            Refusal::NoProject => ("there is no project", Subject::Nothing, ""),
+            Refusal::ProjectExists => ("the project is there already", Subject::Nothing, ""),
+            Refusal::WrongProject => ("that is not this project", Subject::Nothing, ""),
+            Refusal::NoSuchChange => ("there is no such change", Subject::Nothing, ""),
+            Refusal::WrongPhase(phase) => ("the change is ", Subject::Phase(*phase), ""),
+            Refusal::NotAdministrator => ("you are not an administrator", Subject::Nothing, ""),
+            Refusal::NotDeveloper => ("you are not a developer", Subject::Nothing, ""),
+            Refusal::NotReviewer => ("you are not a reviewer", Subject::Nothing, ""),
+            Refusal::NotIntegrator => ("you are not an integrator", Subject::Nothing, ""),
+            Refusal::NotThisDeveloper(user) => ("the developer is ", Subject::User(user), ""),
+            Refusal::NotThisReviewer(Some(user)) => ("the reviewer is ", Subject::User(user), ""),
+            Refusal::NotThisReviewer(None) => ("the reviewer is -", Subject::Nothing, ""),
+            Refusal::NotThisIntegrator(user) => ("the integrator is ", Subject::User(user), ""),
+            Refusal::DeveloperMayNotReview => (
+                "the developer may not review",
+                Subject::Nothing,
+                "",
+            ),
+            Refusal::DeveloperMayNotIntegrate => (
+                "the developer may not integrate",
+                Subject::Nothing,
+                "",
+            ),
+            Refusal::ReviewerMayNotIntegrate => (
+                "the reviewer may not integrate",
+                Subject::Nothing,
+                "",
+            ),
+            Refusal::UserThere(user) => ("user ", Subject::User(user), " has that role"),
+            Refusal::UserNotThere(user) => ("user ", Subject::User(user), " has not that role"),
+            Refusal::LastAdministrator => ("the last administrator stays", Subject::Nothing, ""),
+            Refusal::FileInChange(path) => ("", Subject::File(path), " is in the change"),
+            Refusal::FileNotInChange(path) => ("", Subject::File(path), " is not in the change so"),
+            Refusal::FileNotInProject(path) => ("", Subject::File(path), " is not in the project"),
+            Refusal::FileInProject(path) => ("", Subject::File(path), " is in the project"),
+            Refusal::FileLocked(path, change) => ("", Subject::Lock(path, change), ""),
+            Refusal::OutOfDate(path, origin, edit) => (
+                "",
+                Subject::Edits(path, *origin, *edit),
+                "",
+            ),
+            Refusal::NoFiles => ("the change has no files", Subject::Nothing, ""),
+            Refusal::FileMissing(path) => ("", Subject::File(path), " is missing"),
+            Refusal::NoTest => ("there is no test", Subject::Nothing, ""),
+            Refusal::BuildNeeded => ("a build of these files is needed", Subject::Nothing, ""),
+            Refusal::TestNeeded(path) => ("test \"", Subject::Path(path), "\" is needed"),
+            Refusal::BaselineTestNeeded(path) => (
+                "baseline test \"",
+                Subject::Path(path),
+                "\" is needed",
+            ),
+            Refusal::RegressionNeeded(path) => (
+                "regression test \"",
+                Subject::Path(path),
+                "\" is needed",
+            ),
+            Refusal::IntegrationInProgress(change) => (
+                "change ",
+                Subject::Change(change),
+                " is being integrated",
+            ),
+            Refusal::Differs(path) => ("", Subject::File(path), " differs from the candidate"),
+            Refusal::NoCommand => ("aegis.conf gives no such command", Subject::Nothing, ""),
+            Refusal::BadConfig(line) => ("aegis.conf, line ", Subject::Line(*line), ""),
+            Refusal::BadAttributes(line) => ("attributes, line ", Subject::Line(*line), ""),
+            Refusal::Limit(which, number) => ("the limit ", Subject::Limit(*which, *number), ""),
+            Refusal::NoSuchDelta => ("there is no such delta", Subject::Nothing, ""),
+            Refusal::SpaceFull => ("the version space is full", Subject::Nothing, ""),
+            Refusal::NoAttributes(path) => ("there is no file \"", Subject::Path(path), "\""),
+            Refusal::PathClash(path) => ("", Subject::File(path), " clashes with a folder"),
+        }
+    }
+
     /// `aegis: `, the number, `: `, the text and a line end.
     pub fn message(&self, alloc: Global) -> Result<Vec<u8>, AllocError>
         ensures { IfOk result (λ message. message.items ≡ message_of self.now) }
@@ -109,21 +187,6 @@ impl Refusal {
         let number = self.number();
         let message = format!(in alloc; "aegis: {number}: {self}\n")?;
         Ok(message.into_bytes())
-    }
-}
-
-// A user, or `-` where there is none.
-#[derive(Drop)]
-struct UserOrDash<'a>(&'a Option<User>);
-
-impl fmt::Display for UserOrDash<'_> {
-    ghost output = { λ it. Some (user_or_dash it.0.now) };
-
-    fn fmt<W: fmt::Write>(&self, f: &mut fmt::Formatter<W>) -> fmt::Result {
-        match self.0 {
-            Some(user) => write!(f, "{user}"),
-            None => f.write_str("-"),
-        }
     }
 }
 
@@ -140,17 +203,44 @@ impl fmt::Display for File<'_> {
     }
 }
 
-// A change's edit of a file, and the project's.
+// What a refusal names.
 #[derive(Drop)]
-struct Edits(u32, u32);
+enum Subject<'a> {
+    Nothing,
+    User(&'a User),
+    Path(&'a Path),
+    // A file, which is called so, with its path in quotes.
+    File(&'a Path),
+    // A file, and the change that holds its lock.
+    Lock(&'a Path, &'a ChangeNo),
+    // A file, a change's edit of it, and the project's.
+    Edits(&'a Path, u32, u32),
+    Phase(Phase),
+    Change(&'a ChangeNo),
+    Line(u32),
+    Limit(Which, u64),
+}
 
-impl fmt::Display for Edits {
-    ghost output = { λ it. Some (edits_text it.0 it.1) };
+impl fmt::Display for Subject<'_> {
+    ghost output = { λ subject. Some (subject_text subject) };
 
     fn fmt<W: fmt::Write>(&self, f: &mut fmt::Formatter<W>) -> fmt::Result {
-        let origin = self.0;
-        let edit = self.1;
-        write!(f, " is of edit {origin}, the project has edit {edit}")
+        match self {
+            Subject::Nothing => Ok(()),
+            Subject::User(user) => write!(f, "{user}"),
+            Subject::Path(path) => write!(f, "{path}"),
+            Subject::File(path) => write!(f, "{}", File(path)),
+            Subject::Lock(path, change) => write!(f, "{} is locked by change {change}", File(path)),
+            Subject::Edits(path, origin, edit) => write!(
+                f,
+                "{} is of edit {origin}, the project has edit {edit}",
+                File(path)
+            ),
+            Subject::Phase(phase) => f.write_str(phase.word()),
+            Subject::Change(change) => write!(f, "{change}"),
+            Subject::Line(line) => write!(f, "{line}"),
+            Subject::Limit(which, number) => write!(f, "{} is {number}", which.word()),
+        }
     }
 }
 
@@ -158,57 +248,14 @@ impl fmt::Display for Refusal {
     ghost output = { λ refusal. Some (text_of refusal) };
 
     fn fmt<W: fmt::Write>(&self, f: &mut fmt::Formatter<W>) -> fmt::Result {
-        match self {
-            Refusal::NoProject => f.write_str("there is no project"),
-            Refusal::ProjectExists => f.write_str("the project is there already"),
-            Refusal::WrongProject => f.write_str("that is not this project"),
-            Refusal::NoSuchChange => f.write_str("there is no such change"),
-            Refusal::WrongPhase(phase) => write!(f, "the change is {}", phase.word()),
-            Refusal::NotAdministrator => f.write_str("you are not an administrator"),
-            Refusal::NotDeveloper => f.write_str("you are not a developer"),
-            Refusal::NotReviewer => f.write_str("you are not a reviewer"),
-            Refusal::NotIntegrator => f.write_str("you are not an integrator"),
-            Refusal::NotThisDeveloper(user) => write!(f, "the developer is {user}"),
-            Refusal::NotThisReviewer(user) => write!(f, "the reviewer is {}", UserOrDash(user)),
-            Refusal::NotThisIntegrator(user) => write!(f, "the integrator is {user}"),
-            Refusal::DeveloperMayNotReview => f.write_str("the developer may not review"),
-            Refusal::DeveloperMayNotIntegrate => f.write_str("the developer may not integrate"),
-            Refusal::ReviewerMayNotIntegrate => f.write_str("the reviewer may not integrate"),
-            Refusal::UserThere(user) => write!(f, "user {user} has that role"),
-            Refusal::UserNotThere(user) => write!(f, "user {user} has not that role"),
-            Refusal::LastAdministrator => f.write_str("the last administrator stays"),
-            Refusal::FileInChange(path) => write!(f, "{} is in the change", File(path)),
-            Refusal::FileNotInChange(path) => write!(f, "{} is not in the change so", File(path)),
-            Refusal::FileNotInProject(path) => write!(f, "{} is not in the project", File(path)),
-            Refusal::FileInProject(path) => write!(f, "{} is in the project", File(path)),
-            Refusal::FileLocked(path, change) => write!(
-                f,
-                "{} is locked by change {change}",
-                File(path)
-            ),
-            Refusal::OutOfDate(path, origin, edit) => {
-                write!(f, "{}{}", File(path), Edits(*origin, *edit))
-            }
-            Refusal::NoFiles => f.write_str("the change has no files"),
-            Refusal::FileMissing(path) => write!(f, "{} is missing", File(path)),
-            Refusal::NoTest => f.write_str("there is no test"),
-            Refusal::BuildNeeded => f.write_str("a build of these files is needed"),
-            Refusal::TestNeeded(path) => write!(f, "test \"{path}\" is needed"),
-            Refusal::BaselineTestNeeded(path) => write!(f, "baseline test \"{path}\" is needed"),
-            Refusal::RegressionNeeded(path) => write!(f, "regression test \"{path}\" is needed"),
-            Refusal::IntegrationInProgress(change) => write!(
-                f,
-                "change {change} is being integrated"
-            ),
-            Refusal::Differs(path) => write!(f, "{} differs from the candidate", File(path)),
-            Refusal::NoCommand => f.write_str("aegis.conf gives no such command"),
-            Refusal::BadConfig(line) => write!(f, "aegis.conf, line {line}"),
-            Refusal::BadAttributes(line) => write!(f, "attributes, line {line}"),
-            Refusal::Limit(which, number) => write!(f, "the limit {} is {number}", which.word()),
-            Refusal::NoSuchDelta => f.write_str("there is no such delta"),
-            Refusal::SpaceFull => f.write_str("the version space is full"),
-            Refusal::NoAttributes(path) => write!(f, "there is no file \"{path}\""),
-            Refusal::PathClash(path) => write!(f, "{} clashes with a folder", File(path)),
-        }
+        let (before, subject, after) = self.wording();
+        write!(f, "{before}{subject}{after}")
+    }
+}
+
+// The same text, since nothing looks for the names of the variants.
+impl fmt::Debug for Refusal {
+    fn fmt<W: fmt::Write>(&self, f: &mut fmt::Formatter<W>) -> fmt::Result {
+        write!(f, "{self}")
     }
 }

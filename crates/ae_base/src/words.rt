@@ -1,10 +1,28 @@
 // The words of the records: each is read and written in one way.
-ghost use Rattle.std.specs.Prelude.{◌≡◌, ◌↔◌, Some, find};
+ghost use Rattle.std.specs.Prelude.{◌≡◌, ◌↔◌, ℕ, List, Some, find};
 ghost use Rattle.std.specs.Str.{bytes_eq};
 ghost use Rattle.ae_base.specs.Limits.{most_of};
 ghost use Rattle.ae_base.specs.Words.{phase_word, phases, role_word, roles, action_word, actions, usage_word, usages, cause_word, causes, ground_word, grounds, kind_word, kinds, what_word, events_of_history, which_word, limits};
 
 use crate::limits;
+
+// What is written as one word.
+trait Word: Copy {
+    ghost written: { Self → List ℕ };
+
+    fn text(self) -> &'static str
+        ensures { result.now ≡ written self };
+}
+
+// The first of the table whose word this text is.
+fn find_word<T: Word>(table: &[T], text: &[u8]) -> Option<T>
+    ensures { result ≡ find (λ item. bytes_eq (T.written item) text.now) table.now }
+{
+    table
+        .iter()
+        .copied()
+        .find(|item| item.text().as_bytes() == text)
+}
 
 /// The phase of a change.
 #[derive(Clone, Copy, Debug, PartialEq, Eq)]
@@ -48,16 +66,15 @@ impl Phase {
     pub fn read(text: &[u8]) -> Option<Phase>
         ensures { (phase : _) → (result ≡ Some phase) ↔ (text.now ≡ phase_word phase) }
     {
-        Self::find(text)
+        find_word(&Self::ALL, text)
     }
+}
 
-    fn find(text: &[u8]) -> Option<Phase>
-        ensures { result ≡ find (λ phase. bytes_eq (phase_word phase) text.now) phases }
-    {
-        Self::ALL
-            .iter()
-            .copied()
-            .find(|phase| phase.word().as_bytes() == text)
+impl Word for Phase {
+    ghost written = { phase_word };
+
+    fn text(self) -> &'static str {
+        self.word()
     }
 }
 
@@ -94,16 +111,15 @@ impl Role {
     pub fn read(text: &[u8]) -> Option<Role>
         ensures { (role : _) → (result ≡ Some role) ↔ (text.now ≡ role_word role) }
     {
-        Self::find(text)
+        find_word(&Self::ALL, text)
     }
+}
 
-    fn find(text: &[u8]) -> Option<Role>
-        ensures { result ≡ find (λ role. bytes_eq (role_word role) text.now) roles }
-    {
-        Self::ALL
-            .iter()
-            .copied()
-            .find(|role| role.word().as_bytes() == text)
+impl Word for Role {
+    ghost written = { role_word };
+
+    fn text(self) -> &'static str {
+        self.word()
     }
 }
 
@@ -133,16 +149,15 @@ impl Action {
     pub fn read(text: &[u8]) -> Option<Action>
         ensures { (action : _) → (result ≡ Some action) ↔ (text.now ≡ action_word action) }
     {
-        Self::find(text)
+        find_word(&Self::ALL, text)
     }
+}
 
-    fn find(text: &[u8]) -> Option<Action>
-        ensures { result ≡ find (λ action. bytes_eq (action_word action) text.now) actions }
-    {
-        Self::ALL
-            .iter()
-            .copied()
-            .find(|action| action.word().as_bytes() == text)
+impl Word for Action {
+    ghost written = { action_word };
+
+    fn text(self) -> &'static str {
+        self.word()
     }
 }
 
@@ -172,16 +187,15 @@ impl Usage {
     pub fn read(text: &[u8]) -> Option<Usage>
         ensures { (usage : _) → (result ≡ Some usage) ↔ (text.now ≡ usage_word usage) }
     {
-        Self::find(text)
+        find_word(&Self::ALL, text)
     }
+}
 
-    fn find(text: &[u8]) -> Option<Usage>
-        ensures { result ≡ find (λ usage. bytes_eq (usage_word usage) text.now) usages }
-    {
-        Self::ALL
-            .iter()
-            .copied()
-            .find(|usage| usage.word().as_bytes() == text)
+impl Word for Usage {
+    ghost written = { usage_word };
+
+    fn text(self) -> &'static str {
+        self.word()
     }
 }
 
@@ -227,16 +241,15 @@ impl Cause {
     pub fn read(text: &[u8]) -> Option<Cause>
         ensures { (cause : _) → (result ≡ Some cause) ↔ (text.now ≡ cause_word cause) }
     {
-        Self::find(text)
+        find_word(&Self::ALL, text)
     }
+}
 
-    fn find(text: &[u8]) -> Option<Cause>
-        ensures { result ≡ find (λ cause. bytes_eq (cause_word cause) text.now) causes }
-    {
-        Self::ALL
-            .iter()
-            .copied()
-            .find(|cause| cause.word().as_bytes() == text)
+impl Word for Cause {
+    ghost written = { cause_word };
+
+    fn text(self) -> &'static str {
+        self.word()
     }
 }
 
@@ -264,16 +277,15 @@ impl Ground {
     pub fn read(text: &[u8]) -> Option<Ground>
         ensures { (during : _) → (result ≡ Some during) ↔ (text.now ≡ ground_word during) }
     {
-        Self::find(text)
+        find_word(&Self::ALL, text)
     }
+}
 
-    fn find(text: &[u8]) -> Option<Ground>
-        ensures { result ≡ find (λ during. bytes_eq (ground_word during) text.now) grounds }
-    {
-        Self::ALL
-            .iter()
-            .copied()
-            .find(|during| during.word().as_bytes() == text)
+impl Word for Ground {
+    ghost written = { ground_word };
+
+    fn text(self) -> &'static str {
+        self.word()
     }
 }
 
@@ -310,16 +322,15 @@ impl Kind {
     pub fn read(text: &[u8]) -> Option<Kind>
         ensures { (kind : _) → (result ≡ Some kind) ↔ (text.now ≡ kind_word kind) }
     {
-        Self::find(text)
+        find_word(&Self::ALL, text)
     }
+}
 
-    fn find(text: &[u8]) -> Option<Kind>
-        ensures { result ≡ find (λ kind. bytes_eq (kind_word kind) text.now) kinds }
-    {
-        Self::ALL
-            .iter()
-            .copied()
-            .find(|kind| kind.word().as_bytes() == text)
+impl Word for Kind {
+    ghost written = { kind_word };
+
+    fn text(self) -> &'static str {
+        self.word()
     }
 }
 
@@ -386,16 +397,15 @@ impl What {
     pub fn read(text: &[u8]) -> Option<What>
         ensures { (what : _) → (result ≡ Some what) ↔ (text.now ≡ what_word what) }
     {
-        Self::find(text)
+        find_word(&Self::ALL, text)
     }
+}
 
-    fn find(text: &[u8]) -> Option<What>
-        ensures { result ≡ find (λ what. bytes_eq (what_word what) text.now) events_of_history }
-    {
-        Self::ALL
-            .iter()
-            .copied()
-            .find(|what| what.word().as_bytes() == text)
+impl Word for What {
+    ghost written = { what_word };
+
+    fn text(self) -> &'static str {
+        self.word()
     }
 }
 
@@ -472,15 +482,14 @@ impl Which {
     pub fn read(text: &[u8]) -> Option<Which>
         ensures { (which : _) → (result ≡ Some which) ↔ (text.now ≡ which_word which) }
     {
-        Self::find(text)
+        find_word(&Self::ALL, text)
     }
+}
 
-    fn find(text: &[u8]) -> Option<Which>
-        ensures { result ≡ find (λ which. bytes_eq (which_word which) text.now) limits }
-    {
-        Self::ALL
-            .iter()
-            .copied()
-            .find(|which| which.word().as_bytes() == text)
+impl Word for Which {
+    ghost written = { which_word };
+
+    fn text(self) -> &'static str {
+        self.word()
     }
 }
