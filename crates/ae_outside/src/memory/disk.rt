@@ -1,11 +1,12 @@
 // A disk in memory.
-ghost use Rattle.std.specs.Prelude.{◌≡◌, ◌≤◌, ◌<◌, ◌+◌, ◌^◌, [], ◌∷◌, ◌++◌, length, take, drop, Contains, IsTrue, IsErr, IsErrOf, IsOkAnd, IfOk, OnOk, OnErr, ◌↔◌, if◌then◌else◌};
+ghost use Rattle.std.specs.Prelude.{◌≡◌, ◌≤◌, ◌<◌, ◌+◌, ◌^◌, [], ◌∷◌, ◌++◌, length, take, drop, Contains, IsTrue, IsErr, IsErrOf, IsOkAnd, IfOk, OnOk, OnErr, ◌↔◌, if◌then◌else◌, vec_len, vec_capacity};
 ghost use Rattle.ae_outside.specs.Calls.{IsCall, IsFed};
 ghost use Rattle.ae_outside.specs.Causes.{Counted, HasCause, next};
 ghost use Rattle.ae_outside.specs.DiskNames.{IsDiskName};
 ghost use Rattle.ae_outside.specs.Image.{Image, IsSame, WriteBegun, CutBegun, Overwritten};
 ghost use Rattle.ae_outside.specs.State.{DiskState, reads, MayLeave, GoesOn, IsStable};
 ghost use Rattle.ae_outside.specs.DiskFiles.{bytes_of};
+ghost use Rattle.ae_outside.specs.DiskLog.{applied};
 ghost use Rattle.ae_outside.specs.MemDisk.{state_of, moment_behind, picked_behind, new_disk, with_change, with_starved, Logs, OnlyCounts};
 ghost use Rattle.ae_outside.specs.declared.memory.disk_log.Change.TheVariants.{Write, Cut, Sync};
 ghost use Rattle.ae_outside.specs.declared.memory.disk_stop.Pick.TheVariants.{New};
@@ -48,6 +49,22 @@ fn part(bytes: &[u8], at: usize, len: usize) -> &[u8]
     }
     let rest = &bytes[at..];
     if len < rest.len() { &rest[..len] } else { rest }
+}
+
+// The change into the files, and room for one more into the log.
+fn apply_with_room(
+    alloc: Global,
+    files: &mut Files,
+    log: &mut Vec<Logged>,
+    change: &Change,
+) -> Result<(), AllocError>
+    ensures ok { OnOk result (bytes_of files.new ≡ applied change.now (bytes_of files.old)) }
+    ensures err { OnErr result (files.new ≡ files.old) }
+    ensures log { log.new.items ≡ log.old.items }
+    ensures room { OnOk result (vec_len log.new < vec_capacity log.new) }
+{
+    log.reserve(1)?;
+    files.apply(alloc, change)
 }
 
 impl MemDisk {
@@ -125,16 +142,21 @@ impl MemDisk {
     }
 
     // The change into the log and the files, or neither.
-    fn log_change(&mut self, change: Result<Change, AllocError>) -> Result<(), AllocError>
-        ensures ok { OnOk result (IsOkAnd change (λ change. self.new ≡ with_change change self.old)) }
+    fn log_change(&mut self, change: Change) -> Result<(), AllocError>
+        ensures ok { OnOk result (self.new ≡ with_change change self.old) }
         ensures err { OnErr result (self.new ≡ self.old) }
     {
-        let change = change?;
         let number = self.calls.calls();
-        self.log.reserve(1)?;
-        self.files.apply(self.alloc, &change)?;
-        self.log.push_reserved(Logged { number, change });
-        Ok(())
+        match apply_with_room(self.alloc, &mut self.files, &mut self.log, &change) {
+            Ok(()) => {
+                self.log.push_reserved(Logged { number, change });
+                Ok(())
+            }
+            Err(error) => {
+                drop(change);
+                Err(error)
+            }
+        }
     }
 
     // The change, where there is memory for it.
@@ -143,7 +165,11 @@ impl MemDisk {
         ensures err { OnErr result (self.new ≡ with_starved self.old) }
         ensures later { self.old.counts.failed ≤ self.new.counts.failed }
     {
-        match self.log_change(change) {
+        let logged = match change {
+            Ok(change) => self.log_change(change),
+            Err(error) => Err(error),
+        };
+        match logged {
             Ok(()) => Ok(()),
             Err(_) => {
                 self.calls.starves();

@@ -6,13 +6,13 @@ use Rattle.ae_outside.proofs.DiskCalls.{behind_push}
 use Rattle.ae_outside.proofs.DiskReplay.{replay_push}
 use Rattle.ae_outside.proofs.memory.disk.MemDisk.log_change.Goals as goal
 
-pub invariant_of-self-2 : goal.invariant_of-self-2
-invariant_of-self-2 c =
+pub invariant_of-self : goal.invariant_of-self
+invariant_of-self c =
     let start = bytes_of c.self.inside.initial in
-    let entry : Logged = record { number = c.calls-number.result; change = c.in_ok-change.change } in
-    let log_is : c.self.inside.log.items ++ entry ∷ [] ≡ c.push_reserved.new.self.items = ap (λ (log : List Logged). log ++ entry ∷ []) (sym c.in_ok-reserve.ensures.items) ∙ sym c.push_reserved.ensures.items in
+    let entry : Logged = record { number = c.calls-number.result; change = c.args.change } in
+    let log_is : c.self.inside.log.items ++ entry ∷ [] ≡ c.push_reserved.new.self.items = ap (λ (log : List Logged). log ++ entry ∷ []) (sym c.apply_with_room.ensures.log) ∙ sym c.push_reserved.ensures.items in
     record {
-      replayed = c.in_ok-apply.ensures.ok ∙ ap (applied c.in_ok-change.change) c.self.invariant.replayed ∙ sym (replay_push start c.self.inside.log.items entry) ∙ ap (replay start) log_is;
+      replayed = c.in-Ok.ensures.ok ∙ ap (applied c.args.change) c.self.invariant.replayed ∙ sym (replay_push start c.self.inside.log.items entry) ∙ ap (replay start) log_is;
       numbered = subst (λ (log : List Logged). changes_behind c.self.inside.calls.calls log ≡ length log) log_is (behind_push c.self.inside.calls.calls c.self.inside.log.items entry c.calls-number.ensures c.self.invariant.numbered);
       counted = c.self.invariant.counted;
     }
