@@ -12,7 +12,7 @@ use std::collections::BTreeSet;
 
 /// Fields of which no two have one name, and their names in order, so that a name is found in
 /// logarithmic time.
-#[derive(Drop, Debug)]
+#[derive(Drop)]
 pub(crate) struct OpenFields {
     fields: Vec<Field>,
     names: BTreeSet<Text>,

@@ -3,7 +3,7 @@ ghost use Rattle.std.specs.Prelude.{◌≡◌, ◌∷◌, ◌++◌, [], map, IfO
 ghost use Rattle.ae_text.specs.View.{fields_seen, node, nodes_seen};
 ghost use Rattle.ae_text.specs.Token.{word};
 ghost use Rattle.ae_text.specs.WellFormed.{max_depth};
-ghost use Rattle.ae_text.specs.Pushdown.{has_name, fields_of, list_of, moved, deliver, close_step, open_step, value_step, name_step, item_step, comma_step, end_step, place_step, is_sign_of, noted, step};
+ghost use Rattle.ae_text.specs.Pushdown.{has_name, fields_of, list_of, moved, deliver, close_step, open_step, value_step, name_step, equals_step, semicolon_step, item_step, comma_step, end_step, place_step, is_sign_of, noted, step};
 ghost use Rattle.ae_text.specs.Steps.{Gives, token_of, frame_of, frames_of, place_of, state_of};
 ghost use Rattle.ae_text.specs.declared.pushdown.Stop.TheVariants.{Memory};
 
@@ -13,7 +13,7 @@ use ae_base::Text;
 use std::alloc::{AllocError, AllocFailed, Global};
 
 /// A token, and what else may stand in its place.
-#[derive(Drop, Debug)]
+#[derive(Drop)]
 pub(crate) enum Token {
     Word(Text),
     Number(u64),
@@ -27,7 +27,7 @@ pub(crate) enum Token {
 }
 
 /// What waits for a value.
-#[derive(Drop, Debug)]
+#[derive(Drop)]
 pub(crate) enum Frame {
     /// A list, with its values so far.
     InList(Vec<Tree>),
@@ -36,7 +36,7 @@ pub(crate) enum Frame {
 }
 
 /// What may stand next.
-#[derive(Drop, Debug)]
+#[derive(Drop)]
 pub(crate) enum Place {
     /// A name, or the end of the structure or of the text.
     AtName(OpenFields),
@@ -52,7 +52,7 @@ pub(crate) enum Place {
 }
 
 /// What is open, after the tokens so far.
-#[derive(Drop, Debug)]
+#[derive(Drop)]
 pub(crate) struct State {
     /// What waits for the innermost; the last waits for it itself.
     pub(crate) outer: Vec<Frame>,
@@ -63,7 +63,7 @@ pub(crate) struct State {
 }
 
 /// Why a token was not taken.
-#[derive(Drop, Debug)]
+#[derive(Drop)]
 pub(crate) enum Stop {
     Syntax,
     TooDeep,
@@ -127,9 +127,14 @@ fn opened(
     ensures { Gives state_of result (open_step max_depth (frames_of outer.items) starts.items (frame_of frame) (place_of place)) }
 {
     if outer.len() >= MAX_DEPTH {
+        drop(frame);
+        drop(place);
         return Err(Stop::TooDeep);
     }
-    outer.push(frame)?;
+    if outer.push(frame).is_err() {
+        drop(place);
+        return Err(Stop::Memory);
+    }
     Ok(State {
         outer,
         place,
@@ -284,6 +289,50 @@ fn is_sign(token: &Token, sign: u8) -> bool
     }
 }
 
+// The `=` after a name.
+fn equals(
+    outer: Vec<Frame>,
+    starts: Vec<usize>,
+    fields: OpenFields,
+    name: Text,
+    token: Token,
+) -> Result<State, Stop>
+    ensures { Gives state_of result (equals_step (frames_of outer.items) starts.items (fields_seen fields.fields.items) name (token_of token)) }
+{
+    if !is_sign(&token, b'=') {
+        return Err(Stop::Syntax);
+    }
+    Ok(State {
+        outer,
+        place: Place::AtValue(fields, name),
+        starts,
+    })
+}
+
+// The `;` after a value.
+fn semicolon(
+    alloc: Global,
+    outer: Vec<Frame>,
+    starts: Vec<usize>,
+    fields: OpenFields,
+    name: Text,
+    value: Tree,
+    token: Token,
+) -> Result<State, Stop>
+    ensures { Gives state_of result (semicolon_step (frames_of outer.items) starts.items (fields_seen fields.fields.items) name (node value) (token_of token)) }
+{
+    if !is_sign(&token, b';') {
+        drop(value);
+        return Err(Stop::Syntax);
+    }
+    let fields = fields.with(alloc, name, value)?;
+    Ok(State {
+        outer,
+        place: Place::AtName(fields),
+        starts,
+    })
+}
+
 /// The state after a token that begins at `at`.
 #[tactic(auto, unfolding(crate::specs::Pushdown::step))]
 pub(crate) fn step(alloc: Global, state: State, at: usize, token: Token) -> Result<State, Stop>
@@ -296,29 +345,12 @@ pub(crate) fn step(alloc: Global, state: State, at: usize, token: Token) -> Resu
     } = state;
     match place {
         Place::AtName(fields) => name_or_end(outer, starts, fields, at, token),
-        Place::AtEquals(fields, name) => {
-            if !is_sign(&token, b'=') {
-                return Err(Stop::Syntax);
-            }
-            Ok(State {
-                outer,
-                place: Place::AtValue(fields, name),
-                starts,
-            })
-        }
+        Place::AtEquals(fields, name) => equals(outer, starts, fields, name, token),
         Place::AtValue(fields, name) => {
             begin_value(alloc, outer, starts, Frame::InFields(fields, name), token)
         }
         Place::AtSemicolon(fields, name, value) => {
-            if !is_sign(&token, b';') {
-                return Err(Stop::Syntax);
-            }
-            let fields = fields.with(alloc, name, value)?;
-            Ok(State {
-                outer,
-                place: Place::AtName(fields),
-                starts,
-            })
+            semicolon(alloc, outer, starts, fields, name, value, token)
         }
         Place::AtItem(items) => item_or_end(alloc, outer, starts, items, token),
         Place::AtComma(items) => comma_or_end(outer, starts, items, token),

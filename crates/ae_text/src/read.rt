@@ -20,7 +20,7 @@ use crate::tree::{FieldList, Tree};
 use std::alloc::{AllocError, Global};
 
 /// Why a text was not read, and where the token begins that was not taken.
-#[derive(Drop, Debug)]
+#[derive(Drop)]
 pub(crate) enum Fault {
     Syntax(usize),
     TooDeep(usize),
@@ -67,7 +67,10 @@ fn turn(alloc: Global, total: usize, state: State, rest: &[u8]) -> Result<(State
     let at = total - here.len();
     let (token, behind) = match read_token(alloc, here) {
         Ok(read) => read,
-        Err(_) => return Err(Fault::Memory),
+        Err(_) => {
+            drop(state);
+            return Err(Fault::Memory);
+        }
     };
     match step(alloc, state, at, token) {
         Ok(next) => Ok((next, behind)),
@@ -91,7 +94,7 @@ fn parse(alloc: Global, bytes: &[u8]) -> Result<State, Fault>
 }
 
 /// A text that was read: its fields, and the line of each of them, in order.
-#[derive(Drop, Debug)]
+#[derive(Drop)]
 pub struct Parsed {
     pub tree: Tree,
     pub lines: LineList,
@@ -126,9 +129,12 @@ fn finished(alloc: Global, bytes: &[u8], state: State) -> Result<Parsed, AllocEr
         place,
         starts,
     } = state;
+    let fields = done_fields(alloc, place);
     let lines = lines_at(alloc, bytes, starts.as_slice())?;
-    let tree = Tree::Fields(done_fields(alloc, place));
-    Ok(Parsed { tree, lines })
+    Ok(Parsed {
+        tree: Tree::Fields(fields),
+        lines,
+    })
 }
 
 /// The tree that the bytes are the text of, the inverse of `print_tree`. What the grammar is, and

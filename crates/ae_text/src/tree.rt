@@ -8,7 +8,7 @@ use std::alloc::{AllocError, Global};
 
 /// A value, or a whole text, which is its `Fields`. Contracts see it as `node tree`.
 #[cycle(tree)]
-#[derive(Drop, Debug)]
+#[derive(Drop)]
 pub enum Tree {
     /// A letter or `_`, then letters, digits and `_`.
     Word(Text),
@@ -22,7 +22,7 @@ pub enum Tree {
 
 /// A name with its value. Contracts see it as the pair `named_node field`.
 #[cycle(tree)]
-#[derive(Drop, Debug)]
+#[derive(Drop)]
 pub struct Field {
     /// A word.
     pub name: Text,
@@ -31,14 +31,14 @@ pub struct Field {
 
 /// The values of a list. Contracts see them as `items list`.
 #[cycle(tree)]
-#[derive(Drop, Debug)]
+#[derive(Drop)]
 pub struct TreeList {
     pub(crate) items: Vec<Tree>,
 }
 
 /// The fields of a structure or of a text. Contracts see them as `members list`.
 #[cycle(tree)]
-#[derive(Drop, Debug)]
+#[derive(Drop)]
 pub struct FieldList {
     pub(crate) items: Vec<Field>,
 }
