@@ -8,7 +8,7 @@ use std::alloc::{AllocError, Global};
 use std::marker::Model;
 
 /// Bytes of the packed file `pack` from a place on.
-#[derive(Debug, Drop)]
+#[derive(Drop)]
 pub struct Piece {
     /// in bytes
     pub at: u64,
@@ -16,7 +16,7 @@ pub struct Piece {
 }
 
 /// Pieces, which contracts see as the list of them.
-#[derive(Debug, Drop)]
+#[derive(Drop)]
 pub struct PieceList {
     pieces: Vec<Piece>,
 }
