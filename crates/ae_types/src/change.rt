@@ -1,7 +1,5 @@
 // A change: its settings, phase, people, files, runs and history.
-ghost use Rattle.std.specs.Prelude.{◌≡◌, IfOk, option_copied};
-
-use crate::copies::copy_three;
+use crate::copies::{copy_both, copy_five, copy_three};
 use crate::{Rows, TryCopy, VersionRef};
 use ae_base::{Action, Cause, ChangeNo, Ground, Kind, Path, Phase, Text, Usage, User, What};
 use std::alloc::{AllocError, Global};
@@ -78,40 +76,6 @@ pub struct Change {
 /// Changes, ascending by number.
 pub type ChangeList = Rows<Change>;
 
-// An equal user, or nobody.
-fn copy_user(alloc: Global, user: Option<&User>) -> Result<Option<User>, AllocError>
-    ensures { IfOk result (λ copy. copy ≡ option_copied user.entry) }
-{
-    match user {
-        Some(user) => Ok(Some(user.copy(alloc)?)),
-        None => Ok(None),
-    }
-}
-
-// Equal users, or nobody.
-fn copy_users(
-    alloc: Global,
-    first: Option<&User>,
-    second: Option<&User>,
-) -> Result<(Option<User>, Option<User>), AllocError>
-    ensures first { IfOk result (λ copies. copies.0 ≡ option_copied first.entry) }
-    ensures second { IfOk result (λ copies. copies.1 ≡ option_copied second.entry) }
-{
-    let first = copy_user(alloc, first)?;
-    let second = copy_user(alloc, second)?;
-    Ok((first, second))
-}
-
-// An equal path, or none.
-fn copy_path(alloc: Global, path: Option<&Path>) -> Result<Option<Path>, AllocError>
-    ensures { IfOk result (λ copy. copy ≡ option_copied path.entry) }
-{
-    match path {
-        Some(path) => Ok(Some(path.copy(alloc)?)),
-        None => Ok(None),
-    }
-}
-
 impl TryCopy for ChangeFile {
     fn copy(&self, alloc: Global) -> Result<ChangeFile, AllocError> {
         Ok(ChangeFile {
@@ -126,15 +90,16 @@ impl TryCopy for ChangeFile {
 
 impl TryCopy for Evidence {
     fn copy(&self, alloc: Global) -> Result<Evidence, AllocError> {
+        let (path, who) = copy_both(alloc, &self.path, &self.who)?;
         Ok(Evidence {
             during: self.during,
             kind: self.kind,
-            path: copy_path(alloc, self.path.as_ref())?,
+            path,
             status: self.status,
             clean: self.clean,
             subject: self.subject,
             when: self.when,
-            who: self.who.copy(alloc)?,
+            who,
         })
     }
 }
@@ -164,22 +129,19 @@ impl TryCopy for ChangeAttributes {
 
 impl TryCopy for Change {
     fn copy(&self, alloc: Global) -> Result<Change, AllocError> {
-        let attributes = self.attributes.copy(alloc)?;
-        let (developer, reviewing) = copy_users(
-            alloc,
-            self.developer.as_ref(),
-            self.reviewing.as_ref(),
-        )?;
-        let (reviewer, integrator) = copy_users(
-            alloc,
-            self.reviewer.as_ref(),
-            self.integrator.as_ref(),
-        )?;
         let (files, evidence, history) = copy_three(
             alloc,
             &self.files,
             &self.evidence,
             &self.history,
+        )?;
+        let (attributes, developer, reviewing, reviewer, integrator) = copy_five(
+            alloc,
+            &self.attributes,
+            &self.developer,
+            &self.reviewing,
+            &self.reviewer,
+            &self.integrator,
         )?;
         Ok(Change {
             number: self.number,

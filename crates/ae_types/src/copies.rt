@@ -1,8 +1,36 @@
-// Copies of values side by side.
+// Copies of users, paths and what may be missing, and of values side by side.
 ghost use Rattle.std.specs.Prelude.{◌≡◌, IfOk};
 
 use crate::TryCopy;
+use ae_base::{Path, User, UserSet};
 use std::alloc::{AllocError, Global};
+
+impl TryCopy for User {
+    fn copy(&self, alloc: Global) -> Result<User, AllocError> {
+        self.copy(alloc)
+    }
+}
+
+impl TryCopy for UserSet {
+    fn copy(&self, alloc: Global) -> Result<UserSet, AllocError> {
+        self.copy(alloc)
+    }
+}
+
+impl TryCopy for Path {
+    fn copy(&self, alloc: Global) -> Result<Path, AllocError> {
+        self.copy(alloc)
+    }
+}
+
+impl<T: TryCopy + Drop> TryCopy for Option<T> {
+    fn copy(&self, alloc: Global) -> Result<Option<T>, AllocError> {
+        match self {
+            Some(value) => Ok(Some(value.copy(alloc)?)),
+            None => Ok(None),
+        }
+    }
+}
 
 /// Equal ones of both.
 pub(crate) fn copy_both<A: TryCopy + Drop, B: TryCopy + Drop>(

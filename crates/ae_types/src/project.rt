@@ -1,13 +1,11 @@
 // A project: its settings, the users of its roles, and its deltas.
-ghost use Rattle.std.specs.Prelude.{◌≡◌, IfOk};
-
-use crate::copies::copy_both;
+use crate::copies::copy_five;
 use crate::{Rows, TryCopy};
 use ae_base::{ChangeNo, Delta, ProjectName, Text, User, UserSet};
 use std::alloc::{AllocError, Global};
 
 /// What follows the end of development.
-#[derive(Clone, Copy, Debug, PartialEq, Eq)]
+#[derive(Clone, Copy)]
 pub enum EndAction {
     BeingReviewed,
     AwaitingReview,
@@ -53,20 +51,6 @@ pub struct Project {
     pub deltas: DeltaList,
 }
 
-// Equal sets of users.
-fn copy_sets(
-    alloc: Global,
-    first: &UserSet,
-    second: &UserSet,
-) -> Result<(UserSet, UserSet), AllocError>
-    ensures first { IfOk result (λ copies. copies.0 ≡ first.now) }
-    ensures second { IfOk result (λ copies. copies.1 ≡ second.now) }
-{
-    let first = first.copy(alloc)?;
-    let second = second.copy(alloc)?;
-    Ok((first, second))
-}
-
 impl TryCopy for Attributes {
     fn copy(&self, alloc: Global) -> Result<Attributes, AllocError> {
         Ok(Attributes {
@@ -101,13 +85,15 @@ impl TryCopy for DeltaRow {
 impl TryCopy for Project {
     fn copy(&self, alloc: Global) -> Result<Project, AllocError> {
         let name = self.name.copy(alloc)?;
-        let (attributes, deltas) = copy_both(alloc, &self.attributes, &self.deltas)?;
-        let (administrators, developers) = copy_sets(
+        let attributes = self.attributes.copy(alloc)?;
+        let (administrators, developers, reviewers, integrators, deltas) = copy_five(
             alloc,
             &self.administrators,
             &self.developers,
+            &self.reviewers,
+            &self.integrators,
+            &self.deltas,
         )?;
-        let (reviewers, integrators) = copy_sets(alloc, &self.reviewers, &self.integrators)?;
         Ok(Project {
             name,
             attributes,
