@@ -1,7 +1,7 @@
 // A line of a script.
 ghost use Rattle.std.specs.Prelude.{◌≡◌, ◌≤◌, true, false, map, string_bytes, IfOk, IfSome, IfNone, option_copied};
 ghost use Rattle.ae_lines.specs.declared.line.Line.{Line};
-ghost use Rattle.ae_lines.specs.Line.{IsLine, IsPlace, IsReady, after_beginning, develop_named, base_named, integrate_named, dir_named, place_of, as_line, at_line, put_line, fill_line, drop_line, is_comment, is_ascii_word, is_part_of_script, most_filled, number_up_to, said_of, said_by, Means, asks};
+ghost use Rattle.ae_lines.specs.Line.{IsLine, IsPlace, IsReady, after_beginning, develop_named, base_named, integrate_named, dir_named, place_of, as_line, at_line, put_line, fill_with, fill_line, drop_line, is_comment, is_ascii_word, is_part_of_script, most_filled, number_up_to, said_of, said_by, Means, asks};
 ghost use Rattle.std.specs.List.{list_all};
 ghost use Rattle.ae_words.specs.Formed.{IsFormed};
 ghost use Rattle.ae_words.specs.Grammar.{IsCommand};
@@ -16,7 +16,7 @@ use ae_words::{Command, Function, WordsError, read_words};
 use std::alloc::{AllocError, Global};
 
 /// What a line of a script says.
-#[derive(Debug, Drop)]
+#[derive(Drop)]
 pub enum Line {
     /// Nothing: it has no token, or is a comment.
     Nothing,
@@ -170,6 +170,18 @@ fn byte_of(word: &[u8]) -> Option<u8>
     if byte <= 255 { Some(byte as u8) } else { None }
 }
 
+// The line that fills the file at this place, where the words are a count and a byte.
+fn filled(place: (Dir, Path), count: &[u8], byte: &[u8]) -> Option<Line>
+    requires { IsPlace place.0 place.1 }
+    ensures is { result ≡ fill_with (number_up_to most_filled count.now) (number_up_to 255 byte.now) place }
+    ensures ready { IfSome result IsReady }
+{
+    let count = count_of(count)?;
+    let byte = byte_of(byte)?;
+    let (dir, path) = place;
+    Some(Line::Fill(dir, path, count, byte))
+}
+
 fn fill_line(alloc: Global, rest: &[Text]) -> Result<Option<Line>, AllocError>
     ensures is { IfOk result (λ o. o ≡ fill_line rest.now) }
     ensures ready { IfOk result (λ o. IfSome o IsReady) }
@@ -177,16 +189,10 @@ fn fill_line(alloc: Global, rest: &[Text]) -> Result<Option<Line>, AllocError>
     let [dir, path, count, byte] = rest else {
         return Ok(None);
     };
-    let Some((dir, path)) = place_of(alloc, dir.bytes(), path.bytes())? else {
-        return Ok(None);
-    };
-    let Some(count) = count_of(count.bytes()) else {
-        return Ok(None);
-    };
-    let Some(byte) = byte_of(byte.bytes()) else {
-        return Ok(None);
-    };
-    Ok(Some(Line::Fill(dir, path, count, byte)))
+    match place_of(alloc, dir.bytes(), path.bytes())? {
+        Some(place) => Ok(filled(place, count.bytes(), byte.bytes())),
+        None => Ok(None),
+    }
 }
 
 fn drop_line(alloc: Global, rest: &[Text]) -> Result<Option<Line>, AllocError>
