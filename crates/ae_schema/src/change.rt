@@ -13,7 +13,7 @@ use crate::ascending::Ascending;
 use crate::fields::{End, Then};
 use crate::record::read_record;
 use crate::structure::structure_of;
-use crate::value::put_field;
+use crate::value::{put_both, put_field};
 use ae_base::{Cause, ChangeNo, Phase, Text, User};
 use ae_text::{Field, print_tree};
 use ae_types::{Change, ChangeAttributes, ChangeFile, Evidence, HistoryList};
@@ -155,20 +155,22 @@ fn put_subject(fields: &mut Vec<Field>, alloc: Global, change: &Change) -> Resul
     ensures fields { OnOk result (map named_node fields.new.items ≡ map named_node fields.old.items ++ subject_fields change.now) }
     ensures fits { OnOk result (IsChangeNo change.now.number) }
 {
-    put_field(fields, alloc, b"number", &change.number)?;
-    put_field(
+    put_both(
         fields,
         alloc,
+        b"number",
+        &change.number,
         b"brief_description",
         &change.attributes.brief,
     )?;
-    put_field(
+    put_both(
         fields,
         alloc,
         b"description",
         &change.attributes.description,
+        b"cause",
+        &change.attributes.cause,
     )?;
-    put_field(fields, alloc, b"cause", &change.attributes.cause)?;
     Ok(())
 }
 
@@ -180,10 +182,11 @@ fn put_exemptions(
 ) -> Result<(), AllocError>
     ensures { OnOk result (map named_node fields.new.items ≡ map named_node fields.old.items ++ exemption_fields settings.now) }
 {
-    put_field(fields, alloc, b"test_exempt", &settings.test_exempt)?;
-    put_field(
+    put_both(
         fields,
         alloc,
+        b"test_exempt",
+        &settings.test_exempt,
         b"test_baseline_exempt",
         &settings.test_baseline_exempt,
     )?;
@@ -201,10 +204,22 @@ fn put_people(fields: &mut Vec<Field>, alloc: Global, change: &Change) -> Result
     ensures fields { OnOk result (map named_node fields.new.items ≡ map named_node fields.old.items ++ people_fields change.now) }
     ensures fits { OnOk result (HoldsPeople change.now) }
 {
-    put_field(fields, alloc, b"phase", &change.phase)?;
-    put_field(fields, alloc, b"developer", &change.developer)?;
-    put_field(fields, alloc, b"reviewing", &change.reviewing)?;
-    put_field(fields, alloc, b"reviewer", &change.reviewer)?;
+    put_both(
+        fields,
+        alloc,
+        b"phase",
+        &change.phase,
+        b"developer",
+        &change.developer,
+    )?;
+    put_both(
+        fields,
+        alloc,
+        b"reviewing",
+        &change.reviewing,
+        b"reviewer",
+        &change.reviewer,
+    )?;
     put_field(fields, alloc, b"integrator", &change.integrator)?;
     Ok(())
 }
@@ -214,8 +229,14 @@ fn put_rows(fields: &mut Vec<Field>, alloc: Global, change: &Change) -> Result<(
     ensures fields { OnOk result (map named_node fields.new.items ≡ map named_node fields.old.items ++ row_fields change.now) }
     ensures fits { OnOk result (HoldsRows change.now) }
 {
-    put_field(fields, alloc, b"files", &change.files)?;
-    put_field(fields, alloc, b"evidence", &change.evidence)?;
+    put_both(
+        fields,
+        alloc,
+        b"files",
+        &change.files,
+        b"evidence",
+        &change.evidence,
+    )?;
     put_field(fields, alloc, b"history", &change.history)?;
     Ok(())
 }

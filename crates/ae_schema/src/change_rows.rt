@@ -7,7 +7,7 @@ ghost use Rattle.ae_schema.specs.Shapes.{evidence_from};
 
 use crate::fields::{End, Then};
 use crate::structure::{read_structure, structure_of};
-use crate::value::{Value, put_field};
+use crate::value::{Value, put_both, put_field};
 use ae_base::{Action, Ground, Kind, Path, Usage, User, What};
 use ae_text::{Field, Tree};
 use ae_types::{ChangeFile, Evidence, HistoryRow, VersionRef};
@@ -59,10 +59,22 @@ impl Value for ChangeFile {
 
     fn to_tree(&self, alloc: Global) -> Result<Tree, AllocError> {
         let mut fields = Vec::new(alloc);
-        put_field(&mut fields, alloc, b"path", &self.path)?;
-        put_field(&mut fields, alloc, b"action", &self.action)?;
-        put_field(&mut fields, alloc, b"usage", &self.usage)?;
-        put_field(&mut fields, alloc, b"origin", &self.origin)?;
+        put_both(
+            &mut fields,
+            alloc,
+            b"path",
+            &self.path,
+            b"action",
+            &self.action,
+        )?;
+        put_both(
+            &mut fields,
+            alloc,
+            b"usage",
+            &self.usage,
+            b"origin",
+            &self.origin,
+        )?;
         put_field(&mut fields, alloc, b"version", &self.frozen)?;
         Ok(structure_of(fields))
     }
@@ -114,10 +126,8 @@ fn put_run(fields: &mut Vec<Field>, alloc: Global, run: &Evidence) -> Result<(),
     ensures fields { OnOk result (map named_node fields.new.items ≡ map named_node fields.old.items ++ run_fields run.now) }
     ensures fits { OnOk result (FitsRun run.now) }
 {
-    put_field(fields, alloc, b"ground", &run.during)?;
-    put_field(fields, alloc, b"kind", &run.kind)?;
-    put_field(fields, alloc, b"path", &run.path)?;
-    put_field(fields, alloc, b"status", &run.status)?;
+    put_both(fields, alloc, b"ground", &run.during, b"kind", &run.kind)?;
+    put_both(fields, alloc, b"path", &run.path, b"status", &run.status)?;
     Ok(())
 }
 
@@ -126,10 +136,15 @@ fn put_outcome(fields: &mut Vec<Field>, alloc: Global, run: &Evidence) -> Result
     ensures fields { OnOk result (map named_node fields.new.items ≡ map named_node fields.old.items ++ outcome_fields run.now) }
     ensures fits { OnOk result (FitsOutcome run.now) }
 {
-    put_field(fields, alloc, b"clean", &run.clean)?;
-    put_field(fields, alloc, b"subject", &run.subject)?;
-    put_field(fields, alloc, b"when", &run.when)?;
-    put_field(fields, alloc, b"who", &run.who)?;
+    put_both(
+        fields,
+        alloc,
+        b"clean",
+        &run.clean,
+        b"subject",
+        &run.subject,
+    )?;
+    put_both(fields, alloc, b"when", &run.when, b"who", &run.who)?;
     Ok(())
 }
 
@@ -191,8 +206,7 @@ impl Value for HistoryRow {
 
     fn to_tree(&self, alloc: Global) -> Result<Tree, AllocError> {
         let mut fields = Vec::new(alloc);
-        put_field(&mut fields, alloc, b"what", &self.what)?;
-        put_field(&mut fields, alloc, b"who", &self.who)?;
+        put_both(&mut fields, alloc, b"what", &self.what, b"who", &self.who)?;
         put_field(&mut fields, alloc, b"when", &self.when)?;
         Ok(structure_of(fields))
     }

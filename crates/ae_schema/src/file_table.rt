@@ -15,7 +15,7 @@ use crate::fields::{End, Then};
 use crate::lists::put_list;
 use crate::record::read_record;
 use crate::structure::{read_structure, structure_of};
-use crate::value::{Value, put_field};
+use crate::value::{Value, put_both, put_field};
 use ae_base::{ChangeNo, Delta, Path, Usage};
 use ae_text::{Field, Tree, print_tree};
 use ae_types::{FileRow, FileRows, FileVersion, FileVersionList, Lock, LockList, VersionRef};
@@ -54,8 +54,14 @@ impl Value for FileVersion {
 
     fn to_tree(&self, alloc: Global) -> Result<Tree, AllocError> {
         let mut fields = Vec::new(alloc);
-        put_field(&mut fields, alloc, b"delta", &self.delta)?;
-        put_field(&mut fields, alloc, b"usage", &self.usage)?;
+        put_both(
+            &mut fields,
+            alloc,
+            b"delta",
+            &self.delta,
+            b"usage",
+            &self.usage,
+        )?;
         put_field(&mut fields, alloc, b"version", &self.version)?;
         Ok(structure_of(fields))
     }
@@ -103,8 +109,7 @@ impl Value for FileRow {
     fn to_tree(&self, alloc: Global) -> Result<Tree, AllocError> {
         let edit = self.past.len() as u64;
         let mut fields = Vec::new(alloc);
-        put_field(&mut fields, alloc, b"path", &self.path)?;
-        put_field(&mut fields, alloc, b"edit", &edit)?;
+        put_both(&mut fields, alloc, b"path", &self.path, b"edit", &edit)?;
         put_field(&mut fields, alloc, b"past", &self.past)?;
         Ok(structure_of(fields))
     }
@@ -140,8 +145,14 @@ impl Value for Lock {
 
     fn to_tree(&self, alloc: Global) -> Result<Tree, AllocError> {
         let mut fields = Vec::new(alloc);
-        put_field(&mut fields, alloc, b"path", &self.path)?;
-        put_field(&mut fields, alloc, b"change", &self.change)?;
+        put_both(
+            &mut fields,
+            alloc,
+            b"path",
+            &self.path,
+            b"change",
+            &self.change,
+        )?;
         Ok(structure_of(fields))
     }
 

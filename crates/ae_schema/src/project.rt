@@ -15,7 +15,7 @@ use crate::fields::{End, Then};
 use crate::lists::put_list;
 use crate::record::read_record;
 use crate::structure::{read_structure, structure_of};
-use crate::value::{Value, put_field};
+use crate::value::{Value, put_both, put_field};
 use ae_base::{ChangeNo, Delta, ProjectName, Text, User, UserSet};
 use ae_text::{Field, Tree, print_tree};
 use ae_types::{Attributes, DeltaList, DeltaRow, EndAction, NumberList, Project};
@@ -110,10 +110,15 @@ impl Value for DeltaRow {
 
     fn to_tree(&self, alloc: Global) -> Result<Tree, AllocError> {
         let mut fields = Vec::new(alloc);
-        put_field(&mut fields, alloc, b"delta", &self.delta)?;
-        put_field(&mut fields, alloc, b"change", &self.change)?;
-        put_field(&mut fields, alloc, b"when", &self.when)?;
-        put_field(&mut fields, alloc, b"who", &self.who)?;
+        put_both(
+            &mut fields,
+            alloc,
+            b"delta",
+            &self.delta,
+            b"change",
+            &self.change,
+        )?;
+        put_both(&mut fields, alloc, b"when", &self.when, b"who", &self.who)?;
         Ok(structure_of(fields))
     }
 
@@ -266,12 +271,12 @@ fn put_identity(fields: &mut Vec<Field>, alloc: Global, project: &Project) -> Re
     ensures fields { OnOk result (map named_node fields.new.items ≡ map named_node fields.old.items ++ identity_fields project.now) }
     ensures fits { OnOk result (IsProjectName project.now.name) }
 {
-    put_field(fields, alloc, b"format", &Format)?;
-    put_field(fields, alloc, b"store", &Packed)?;
-    put_field(fields, alloc, b"name", &project.name)?;
-    put_field(
+    put_both(fields, alloc, b"format", &Format, b"store", &Packed)?;
+    put_both(
         fields,
         alloc,
+        b"name",
+        &project.name,
         b"description",
         &project.attributes.description,
     )?;
@@ -286,27 +291,19 @@ fn put_permissions(
 ) -> Result<(), AllocError>
     ensures { OnOk result (map named_node fields.new.items ≡ map named_node fields.old.items ++ permission_fields settings.now) }
 {
-    put_field(
+    put_both(
         fields,
         alloc,
         b"developer_may_review",
         &settings.developer_may_review,
-    )?;
-    put_field(
-        fields,
-        alloc,
         b"developer_may_integrate",
         &settings.developer_may_integrate,
     )?;
-    put_field(
+    put_both(
         fields,
         alloc,
         b"reviewer_may_integrate",
         &settings.reviewer_may_integrate,
-    )?;
-    put_field(
-        fields,
-        alloc,
         b"developers_may_create_changes",
         &settings.developers_may_create_changes,
     )?;
@@ -321,19 +318,14 @@ fn put_defaults(
 ) -> Result<(), AllocError>
     ensures { OnOk result (map named_node fields.new.items ≡ map named_node fields.old.items ++ default_fields settings.now) }
 {
-    put_field(
+    put_both(
         fields,
         alloc,
         b"develop_end_action",
         &settings.develop_end_action,
-    )?;
-    put_field(
-        fields,
-        alloc,
         b"default_test_exemption",
         &settings.default_test_exemption,
-    )?;
-    Ok(())
+    )
 }
 
 // The users of each role.
@@ -341,10 +333,22 @@ fn put_roles(fields: &mut Vec<Field>, alloc: Global, project: &Project) -> Resul
     ensures fields { OnOk result (map named_node fields.new.items ≡ map named_node fields.old.items ++ role_fields project.now) }
     ensures fits { OnOk result (HoldsRoles project.now) }
 {
-    put_field(fields, alloc, b"administrators", &project.administrators)?;
-    put_field(fields, alloc, b"developers", &project.developers)?;
-    put_field(fields, alloc, b"reviewers", &project.reviewers)?;
-    put_field(fields, alloc, b"integrators", &project.integrators)?;
+    put_both(
+        fields,
+        alloc,
+        b"administrators",
+        &project.administrators,
+        b"developers",
+        &project.developers,
+    )?;
+    put_both(
+        fields,
+        alloc,
+        b"reviewers",
+        &project.reviewers,
+        b"integrators",
+        &project.integrators,
+    )?;
     Ok(())
 }
 

@@ -51,6 +51,25 @@ pub(crate) fn put_field<T: Value>(
     Ok(())
 }
 
+/// Puts the fields of these two names and values after those that stand there.
+pub(crate) fn put_both<T: Value, U: Value>(
+    fields: &mut Vec<Field>,
+    alloc: Global,
+    first_name: &[u8],
+    first: &T,
+    second_name: &[u8],
+    second: &U,
+) -> Result<(), AllocError>
+    ensures fields { OnOk result (map named_node fields.new.items ≡ map named_node fields.old.items
+        ++ (first_name.now, T.spelled first.now) ∷ (second_name.now, U.spelled second.now) ∷ []) }
+    ensures fits { OnOk result (T.Fits first.now) }
+    ensures fits_second { OnOk result (U.Fits second.now) }
+{
+    put_field(fields, alloc, first_name, first)?;
+    put_field(fields, alloc, second_name, second)?;
+    Ok(())
+}
+
 impl Value for Text {
     ghost use Rattle.std.specs.Prelude.{[]};
     ghost use Rattle.ae_text.specs.Tree.{str};

@@ -9,7 +9,7 @@ ghost use Rattle.ae_schema.specs.Records.{structure};
 use crate::fields::{End, Then};
 use crate::parts::{fields_in, string_in};
 use crate::structure::{read_structure, structure_of};
-use crate::value::{Value, put_field};
+use crate::value::{Value, put_both};
 use ae_text::{Field, Tree};
 use ae_types::VersionRef;
 use std::alloc::{AllocError, Global};
@@ -89,10 +89,15 @@ impl Value for VersionRef {
 
     fn to_tree(&self, alloc: Global) -> Result<Tree, AllocError> {
         let mut fields = Vec::new(alloc);
-        put_field(&mut fields, alloc, b"number", &self.number)?;
-        put_field(&mut fields, alloc, b"at", &self.at)?;
-        put_field(&mut fields, alloc, b"length", &self.length)?;
-        put_field(&mut fields, alloc, b"digest", &self.digest)?;
+        put_both(&mut fields, alloc, b"number", &self.number, b"at", &self.at)?;
+        put_both(
+            &mut fields,
+            alloc,
+            b"length",
+            &self.length,
+            b"digest",
+            &self.digest,
+        )?;
         Ok(structure_of(fields))
     }
 

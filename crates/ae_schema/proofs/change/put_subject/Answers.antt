@@ -5,7 +5,4 @@ use Rattle.ae_schema.proofs.change.put_subject.Goals as goal
 
 pub returns-clause-fields : goal.returns-clause-fields
 returns-clause-fields c =
-    let old = map named_node c.args.fields.now.items in
-    let two = joined old _ _ _ _ c.in_ok-put_field.ensures.fields c.in_ok-put_field-2.ensures.fields in
-    let three = joined old _ _ _ _ two c.in_ok-put_field-3.ensures.fields in
-    joined old _ _ _ _ three c.in_ok-put_field-4.ensures.fields
+    joined (map named_node c.args.fields.now.items) _ _ _ _ c.in_ok-put_both.ensures.fields c.in_ok-put_both-2.ensures.fields

@@ -1,0 +1,8 @@
+use Rattle.std.proofs.Common.{map}
+use Rattle.ae_text.specs.View.{named_node}
+use Rattle.ae_schema.proofs.RowLists.{joined}
+use Rattle.ae_schema.proofs.value.put_both.Goals as goal
+
+pub returns-clause-fields : goal.returns-clause-fields
+returns-clause-fields g c =
+    joined (map named_node c.args.fields.now.items) _ _ _ _ c.in_ok-put_field.ensures.fields c.in_ok-put_field-2.ensures.fields
