@@ -62,5 +62,7 @@ pub fn read_change_attributes(
         ("regression_test_exempt", FieldKind::Flag),
     ];
     let parsed = read_right(alloc, kinds, bytes)?;
-    Ok(with_given(alloc, fields_of(&parsed.tree), old)?)
+    let new = with_given(alloc, fields_of(&parsed.tree), old);
+    drop(parsed);
+    Ok(new?)
 }

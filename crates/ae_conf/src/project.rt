@@ -73,5 +73,7 @@ pub fn read_project_attributes(
         ("default_test_exemption", FieldKind::Flag),
     ];
     let parsed = read_right(alloc, kinds, bytes)?;
-    Ok(with_given(alloc, fields_of(&parsed.tree), old)?)
+    let new = with_given(alloc, fields_of(&parsed.tree), old);
+    drop(parsed);
+    Ok(new?)
 }
