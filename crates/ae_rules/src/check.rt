@@ -141,21 +141,17 @@ fn check(alloc: Global, parts: &Parts) -> Result<(), CheckError>
     }
 }
 
-// The records, where they keep the rules.
-fn checked(alloc: Global, parts: Parts) -> Result<Parts, CheckError>
-    ensures parts { IfOk result (λ kept. kept ≡ parts) }
-    ensures ok { OnOk result (blamed parts ≡ None) }
-    ensures err { IfErr result (λ error. Names error (blamed parts)) }
-{
-    check(alloc, &parts).and(Ok(parts))
-}
-
 /// The state of these records, where they keep the rules, and else the state file that breaks one first.
 pub fn state_of(alloc: Global, parts: Parts) -> Result<State, CheckError>
     ensures state { IfOk result (λ state. state ≡ parts) }
     ensures ok { OnOk result (blamed parts ≡ None) }
     ensures err { IfErr result (λ error. Names error (blamed parts)) }
 {
-    let parts = checked(alloc, parts)?;
-    Ok(State::of(parts))
+    match check(alloc, &parts) {
+        Ok(()) => Ok(State::of(parts)),
+        Err(error) => {
+            drop(parts);
+            Err(error)
+        }
+    }
 }
