@@ -34,8 +34,20 @@ fn load_project<D: Disk>(alloc: Global, disk: &mut D, bytes: &[u8]) -> Result<Op
     ensures cause { Counted (D.faults disk.old) (D.faults disk.new) (IsErrOf result Stop.DiskFault) }
 {
     let (project, numbers) = good_project(alloc, bytes)?;
-    let (files, locks) = load_table(alloc, disk, &project)?;
-    let changes = load_changes(alloc, disk, numbers.as_slice())?;
+    let (files, locks) = match load_table(alloc, disk, &project) {
+        Ok((files, locks)) => (files, locks),
+        Err(stop) => {
+            drop(project);
+            return Err(stop);
+        }
+    };
+    let changes = match load_changes(alloc, disk, numbers.as_slice()) {
+        Ok(changes) => changes,
+        Err(stop) => {
+            drop(project);
+            return Err(stop);
+        }
+    };
     let parts = Parts {
         project,
         numbers,

@@ -35,6 +35,7 @@ pub(crate) fn good_project(alloc: Global, bytes: &[u8]) -> Result<(Project, Numb
             if project_is_good(&project, numbers.as_slice()) {
                 Ok((project, numbers))
             } else {
+                drop(project);
                 Err(Stop::Blamed(Blame::Project))
             }
         }
@@ -73,6 +74,7 @@ pub(crate) fn good_change(alloc: Global, bytes: &[u8], number: ChangeNo) -> Resu
             if change.number == number && change_is_good(&change) {
                 Ok(change)
             } else {
+                drop(change);
                 Err(Stop::Blamed(Blame::Change(number)))
             }
         }

@@ -8,7 +8,7 @@ use ae_types::Blame;
 use std::alloc::{AllocError, AllocFailed};
 
 /// Why a step of loading stops: the file to blame, or what kept it from being read.
-#[derive(Clone, Copy, Debug)]
+#[derive(Clone, Copy)]
 pub(crate) enum Stop {
     Blamed(Blame),
     DiskFault,

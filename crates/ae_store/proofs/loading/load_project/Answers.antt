@@ -19,34 +19,32 @@ returns-in_err-project-clause-loaded g c = λ t.
     let p = err_from_is_err_and c.from_residual.result c.from_residual.ensures.1 in
     rw (p.1, p.2) (project_err here c.in_err-project.field-0.0 some (c.in_err-project.ensures.value here (c.requires.bytes t)))
 
-pub returns-in_err-files-clause-loaded : goal.returns-in_err-files-clause-loaded
-returns-in_err-files-clause-loaded g c = λ t.
+pub returns-in-Err-clause-loaded : goal.returns-in-Err-clause-loaded
+returns-in-Err-clause-loaded g c = λ t.
     let here : Image = files (reads (g.D.Disk.state c.args.disk.now)) in
     let some : here project_file ≢ [] = λ e. c.requires.some (sym (c.requires.bytes t) ∙ e) in
     let rp : ReadsProject here c.in_ok-project.project c.in_ok-project.numbers = c.in_ok-project.ensures.value here (c.requires.bytes t) in
-    let p = err_from_is_err_and c.from_residual-in_err-files.result c.from_residual-in_err-files.ensures.1 in
-    rw (p.1, p.2) (table_err here c.in_err-files.field-0.0 some c.in_ok-project.project c.in_ok-project.numbers rp (c.in_err-files.ensures.table t))
+    table_err here c.in-Err.stop some c.in_ok-project.project c.in_ok-project.numbers rp (c.in-Err.ensures.table t)
 
-pub returns-in_err-changes-clause-loaded : goal.returns-in_err-changes-clause-loaded
-returns-in_err-changes-clause-loaded g c = λ t.
+pub returns-in-Err-load_changes-clause-loaded : goal.returns-in-Err-load_changes-clause-loaded
+returns-in-Err-load_changes-clause-loaded g c = λ t.
     let here : Image = files (reads (g.D.Disk.state c.args.disk.now)) in
     let some : here project_file ≢ [] = λ e. c.requires.some (sym (c.requires.bytes t) ∙ e) in
     let rp : ReadsProject here c.in_ok-project.project c.in_ok-project.numbers = c.in_ok-project.ensures.value here (c.requires.bytes t) in
-    let rt : ReadsTable here c.in_ok-project.project c.in_ok-files.files c.in_ok-files.locks = c.in_ok-files.ensures.table t in
-    let bad : AreRead here c.as_slice.result.now (Err c.in_err-changes.field-0.0) = subst (λ (f : Image). AreRead f c.as_slice.result.now (Err c.in_err-changes.field-0.0)) (c.load_table.ensures.same t) (c.in_err-changes.ensures.loaded t) in
-    let bad_here : AreRead here c.in_ok-project.numbers (Err c.in_err-changes.field-0.0) = subst (λ (ns : List ℕ). AreRead here ns (Err c.in_err-changes.field-0.0)) c.as_slice.ensures bad in
-    let p = err_from_is_err_and c.from_residual-in_err-changes.result c.from_residual-in_err-changes.ensures.1 in
-    rw (p.1, p.2) (changes_err here c.in_err-changes.field-0.0 some c.in_ok-project.project c.in_ok-project.numbers rp c.in_ok-files.files c.in_ok-files.locks rt bad_here)
+    let rt : ReadsTable here c.in_ok-project.project c.in-Ok.files c.in-Ok.locks = c.in-Ok.ensures.table t in
+    let bad : AreRead here c.as_slice.result.now (Err c.in-Err-load_changes.stop) = subst (λ (f : Image). AreRead f c.as_slice.result.now (Err c.in-Err-load_changes.stop)) (c.load_table.ensures.same t) (c.in-Err-load_changes.ensures.loaded t) in
+    let bad_here : AreRead here c.in_ok-project.numbers (Err c.in-Err-load_changes.stop) = subst (λ (ns : List ℕ). AreRead here ns (Err c.in-Err-load_changes.stop)) c.as_slice.ensures bad in
+    changes_err here c.in-Err-load_changes.stop some c.in_ok-project.project c.in_ok-project.numbers rp c.in-Ok.files c.in-Ok.locks rt bad_here
 
 pub returns-in_err-state-clause-loaded : goal.returns-in_err-state-clause-loaded
 returns-in_err-state-clause-loaded g c = λ t.
     let here : Image = files (reads (g.D.Disk.state c.args.disk.now)) in
     let some : here project_file ≢ [] = λ e. c.requires.some (sym (c.requires.bytes t) ∙ e) in
     let rp : ReadsProject here c.in_ok-project.project c.in_ok-project.numbers = c.in_ok-project.ensures.value here (c.requires.bytes t) in
-    let rt : ReadsTable here c.in_ok-project.project c.in_ok-files.files c.in_ok-files.locks = c.in_ok-files.ensures.table t in
-    let later : ReadsChanges here c.as_slice.result.now c.in_ok-changes.changes = subst (λ (f : Image). ReadsChanges f c.as_slice.result.now c.in_ok-changes.changes) (c.load_table.ensures.same t) (c.in_ok-changes.ensures.loaded t) in
-    let rc : ReadsChanges here c.in_ok-project.numbers c.in_ok-changes.changes = subst (λ (ns : List ℕ). ReadsChanges here ns c.in_ok-changes.changes) c.as_slice.ensures later in
-    let parts : Observation = record { project = c.in_ok-project.project; numbers = c.in_ok-project.numbers; files = c.in_ok-files.files; locks = c.in_ok-files.locks; changes = c.in_ok-changes.changes } in
+    let rt : ReadsTable here c.in_ok-project.project c.in-Ok.files c.in-Ok.locks = c.in-Ok.ensures.table t in
+    let later : ReadsChanges here c.as_slice.result.now c.in-Ok-load_changes.changes = subst (λ (f : Image). ReadsChanges f c.as_slice.result.now c.in-Ok-load_changes.changes) (c.load_table.ensures.same t) (c.in-Ok-load_changes.ensures.loaded t) in
+    let rc : ReadsChanges here c.in_ok-project.numbers c.in-Ok-load_changes.changes = subst (λ (ns : List ℕ). ReadsChanges here ns c.in-Ok-load_changes.changes) c.as_slice.ensures later in
+    let parts : Observation = record { project = c.in_ok-project.project; numbers = c.in_ok-project.numbers; files = c.in-Ok.files; locks = c.in-Ok.locks; changes = c.in-Ok-load_changes.changes } in
     let read : Reads here parts = record { project = rp; table = rt; changes = rc } in
     let p = err_from_is_err_and c.from_residual-in_err-state.result c.from_residual-in_err-state.ensures.1 in
     rw (p.1, p.2) (checked_err here parts c.in_err-state.field-0.0 some read c.in_err-state.ensures)
@@ -56,10 +54,10 @@ returns-clause-loaded g c = λ t.
     let here : Image = files (reads (g.D.Disk.state c.args.disk.now)) in
     let some : here project_file ≢ [] = λ e. c.requires.some (sym (c.requires.bytes t) ∙ e) in
     let rp : ReadsProject here c.in_ok-project.project c.in_ok-project.numbers = c.in_ok-project.ensures.value here (c.requires.bytes t) in
-    let rt : ReadsTable here c.in_ok-project.project c.in_ok-files.files c.in_ok-files.locks = c.in_ok-files.ensures.table t in
-    let later : ReadsChanges here c.as_slice.result.now c.in_ok-changes.changes = subst (λ (f : Image). ReadsChanges f c.as_slice.result.now c.in_ok-changes.changes) (c.load_table.ensures.same t) (c.in_ok-changes.ensures.loaded t) in
-    let rc : ReadsChanges here c.in_ok-project.numbers c.in_ok-changes.changes = subst (λ (ns : List ℕ). ReadsChanges here ns c.in_ok-changes.changes) c.as_slice.ensures later in
-    let parts : Observation = record { project = c.in_ok-project.project; numbers = c.in_ok-project.numbers; files = c.in_ok-files.files; locks = c.in_ok-files.locks; changes = c.in_ok-changes.changes } in
+    let rt : ReadsTable here c.in_ok-project.project c.in-Ok.files c.in-Ok.locks = c.in-Ok.ensures.table t in
+    let later : ReadsChanges here c.as_slice.result.now c.in-Ok-load_changes.changes = subst (λ (f : Image). ReadsChanges f c.as_slice.result.now c.in-Ok-load_changes.changes) (c.load_table.ensures.same t) (c.in-Ok-load_changes.ensures.loaded t) in
+    let rc : ReadsChanges here c.in_ok-project.numbers c.in-Ok-load_changes.changes = subst (λ (ns : List ℕ). ReadsChanges here ns c.in-Ok-load_changes.changes) c.as_slice.ensures later in
+    let parts : Observation = record { project = c.in_ok-project.project; numbers = c.in_ok-project.numbers; files = c.in-Ok.files; locks = c.in-Ok.locks; changes = c.in-Ok-load_changes.changes } in
     let read : Reads here parts = record { project = rp; table = rt; changes = rc } in
     checked_ok here parts c.in_ok-state.state read c.in_ok-state.ensures
 
