@@ -44,6 +44,9 @@ module _ (damaged : List ℕ → Type 0) (rose : Type 0) where
   load_of_command _ (ended.site_fault risen) = tt
   load_of_command _ ended.memory = tt
 
+pub memory_fails : (rose : Type 0) (stands : Option Observation) (o : Outcome) → o ≡ Memory → FailsToRead rose stands o
+memory_fails rose stands o is = subst (λ (ended : Outcome). FailsToRead rose stands ended) (sym is) memory
+
 -- ---- it is told
 
 -- a command that is done has what was said

@@ -17,7 +17,8 @@ ghost use Rattle.ae_script.specs.Script.{point};
 ghost use Rattle.ae_script.specs.Step.{KeepsDisk};
 ghost use Rattle.ae_script.specs.Uses.{disk_use, site_use};
 ghost use Rattle.ae_session.specs.Called.{ProjectDone};
-ghost use Rattle.ae_session.specs.Summary.{FailsToRead, HasBuilds, IsSummary, SummaryTold};
+ghost use Rattle.ae_base.specs.declared.outcome.Outcome.TheVariants.{Memory};
+ghost use Rattle.ae_session.specs.Summary.{FailsToRead, HasBuilds, IsSummary, SummaryTold, summary_text};
 
 use crate::builds::count_builds;
 use crate::stored::Stored;
@@ -28,6 +29,7 @@ use ae_generator::generated;
 use ae_outside::{Disk, Sink, Site};
 use ae_script::{Manner, Standing, do_lines};
 use ae_telling::{tell_memory, told_command};
+use ae_types::State;
 use ae_words::Command;
 use std::alloc::{AllocError, Global};
 
@@ -67,6 +69,19 @@ fn script_of(alloc: Global, size: Size) -> Result<(Vec<u8>, u64), AllocError>
     Ok((script, builds))
 }
 
+// The summary of this state, which is at its end here.
+fn summary_of(alloc: Global, state: State, runs: u64) -> Result<Text, Outcome>
+    ensures text { IfOk result (λ text. text ≡ summary_text state runs) }
+    ensures fails { IfErr result (λ why. why ≡ Memory) }
+{
+    let text = summary(alloc, &state, runs);
+    drop(state);
+    match text {
+        Ok(text) => Ok(Text::of(text)),
+        Err(_) => Err(Outcome::Memory),
+    }
+}
+
 // The summary of the project that stands on the disk.
 fn read_summary<D: Disk>(alloc: Global, runs: u64, disk: &mut D) -> Result<Text, Outcome>
     ensures read { IfOk result (λ text. D.tells → (log : Log) → StandsForLog (reads (D.state disk.old)) log → IsSummary runs (observation log) text) }
@@ -76,14 +91,10 @@ fn read_summary<D: Disk>(alloc: Global, runs: u64, disk: &mut D) -> Result<Text,
     ensures disk { D.tells → LeavesDisk (D.state disk.old) (D.state disk.new) (Unit {0}) }
     ensures disk_faults { D.faults disk.old ≤ D.faults disk.new }
 {
-    let state = match load_project(alloc, disk) {
-        Ok(Some(state)) => state,
-        Ok(None) => return Err(Outcome::Refused(Refusal::NoProject)),
-        Err(why) => return Err(why),
-    };
-    match summary(alloc, &state, runs) {
-        Ok(text) => Ok(Text::of(text)),
-        Err(_) => Err(Outcome::Memory),
+    match load_project(alloc, disk) {
+        Ok(Some(state)) => summary_of(alloc, state, runs),
+        Ok(None) => Err(Outcome::Refused(Refusal::NoProject)),
+        Err(why) => Err(why),
     }
 }
 

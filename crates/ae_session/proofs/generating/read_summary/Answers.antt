@@ -1,11 +1,16 @@
-use Rattle.std.proofs.Common.{sym, ◌∙◌}
+use Rattle.std.proofs.Common.{sym, Result, Ok, Err, IfErr}
 use Rattle.ae_outside.specs.State.{reads}
 use Rattle.ae_log.specs.Observed.{observation}
 use Rattle.ae_exec.proofs.Completing.{never_damaged}
 use Rattle.ae_exec.proofs.Standing.{shows}
-use Rattle.ae_session.specs.Summary.{memory, no_project}
-use Rattle.ae_session.proofs.Summing.{load_caused, load_fails, load_of_command}
+use Rattle.ae_exec.proofs.Stores.{if_ok}
+use Rattle.ae_session.specs.Summary.{no_project}
+use Rattle.ae_session.proofs.Summing.{load_caused, load_fails, load_of_command, memory_fails}
 use Rattle.ae_session.proofs.generating.read_summary.Goals as goal
+
+if_err : {T E : Type 0} (P Q : E → Type 0) (r : Result T E) → IfErr r P → ((e : E) → P e → Q e) → IfErr r Q
+if_err P Q (Ok v) holds so = tt
+if_err P Q (Err e) holds so = so e holds
 
 pub returns-in-Ok-None-clause-fails : goal.returns-in-Ok-None-clause-fails
 returns-in-Ok-None-clause-fails g c = λ tells log read. no_project (sym ((rw c.in-Ok-None.field-0-is at c.in-Ok-None.ensures.found) tells log read))
@@ -20,8 +25,9 @@ returns-in-Err-clause-causes g c = load_caused _ _ c.in-Err.why c.in-Err.ensures
 pub returns-in-Err-clause-of_command : goal.returns-in-Err-clause-of_command
 returns-in-Err-clause-of_command g c = load_of_command _ _ c.in-Err.why c.in-Err.ensures.stopped
 
-pub returns-in-Ok-clause-read : goal.returns-in-Ok-clause-read
-returns-in-Ok-clause-read g c = λ tells log read. (c.in-Ok-Some.state, sym ((rw c.in-Ok-Some.field-0-is at c.in-Ok-Some.ensures.found) tells log read), c.of.ensures ∙ c.in-Ok.ensures)
+pub returns-in-Ok-Some-clause-read : goal.returns-in-Ok-Some-clause-read
+returns-in-Ok-Some-clause-read g c = if_ok _ _ c.summary_of.result c.summary_of.ensures.text
+    (λ text is tells log read. (c.in-Ok-Some.state, sym ((rw c.in-Ok-Some.field-0-is at c.in-Ok-Some.ensures.found) tells log read), is))
 
-pub returns-clause-fails : goal.returns-clause-fails
-returns-clause-fails g c = λ tells log read. memory
+pub returns-in-Ok-Some-clause-fails : goal.returns-in-Ok-Some-clause-fails
+returns-in-Ok-Some-clause-fails g c = if_err _ _ c.summary_of.result c.summary_of.ensures.fails (λ why is tells log read. memory_fails _ _ why is)
