@@ -9,7 +9,7 @@ ghost use Rattle.ae_exec.specs.Endings.{EndsAs, IsDamagedAt, outcome_of_stop};
 
 use crate::stop::Stop;
 use ae_outside::Disk;
-use ae_store::{StoreError, load};
+use ae_store::load;
 use ae_types::State;
 use std::alloc::Global;
 
@@ -21,10 +21,5 @@ pub(crate) fn load_state<D: Disk>(alloc: Global, disk: &mut D) -> Result<Option<
     ensures stopped { IfErr result (λ stop. EndsAs ⊥ ⊥ (λ refusal. ⊥) (λ name. D.tells → IsDamagedAt (reads (D.state disk.old)) name) (HasRisen (D.faults disk.old) (D.faults disk.new)) ⊥ (outcome_of_stop stop)) }
     ensures later { D.faults disk.old ≤ D.faults disk.new }
 {
-    match load(alloc, disk) {
-        Ok(state) => Ok(state),
-        Err(StoreError::Damaged(name)) => Err(Stop::Damaged(name)),
-        Err(StoreError::DiskFault) => Err(Stop::DiskFault),
-        Err(StoreError::Memory) => Err(Stop::Memory),
-    }
+    Ok(load(alloc, disk)?)
 }

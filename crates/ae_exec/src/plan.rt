@@ -58,7 +58,9 @@ fn next_batch(alloc: Global, old: Option<&State>, events: EventList) -> Result<B
 {
     let pieces = pieces_of(alloc, old, events.as_slice())?;
     let new = next_state(alloc, old, events)?;
-    batch(alloc, old, &new, pieces)
+    let made = batch(alloc, old, &new, pieces);
+    drop(new);
+    made
 }
 
 /// The batch of the events of a command, and what it comes to.
@@ -170,7 +172,9 @@ fn plan_quiet<D: Disk, S: Site>(
     ensures site_later { S.faults site.old ≤ S.faults site.new }
 {
     let view = see_quiet(alloc, old, site, command)?;
-    match answer(alloc, old, command, who, now, &view)? {
+    let verdict = answer(alloc, old, command, who, now, &view);
+    drop(view);
+    match verdict? {
         Verdict::Accept(events) => {
             change_directories(alloc, old, disk, site, command)?;
             Ok(prepare(alloc, old, command, events, status_line)?)

@@ -99,9 +99,13 @@ fn plan_runs_on<D: Disk, S: Site>(
         return Err(Stop::Refused(refusal));
     }
     let plan = ready(alloc, state, disk, command, &view)?;
-    let runs = make_runs(alloc, site, runs_dir(state, command), &plan)?;
+    let made = make_runs(alloc, site, runs_dir(state, command), &plan);
+    drop(plan);
+    let runs = made?;
     let view = with_runs(view, runs);
-    match answer_on(alloc, state, command, who, now, &view)? {
+    let verdict = answer_on(alloc, state, command, who, now, &view);
+    drop(view);
+    match verdict? {
         Verdict::Accept(events) => Ok(prepare(alloc, Some(state), command, events, status_line)?),
         Verdict::Refuse(_) => unreachable!(),
     }

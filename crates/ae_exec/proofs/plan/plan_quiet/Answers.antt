@@ -41,8 +41,8 @@ returns-in_err-change_directories-in-Accept-clause-stopped g c =
 pub returns-in_err-prepare-in-Accept-clause-stopped : goal.returns-in_err-prepare-in-Accept-clause-stopped
 returns-in_err-prepare-in-Accept-clause-stopped g c = let is : c.from_residual-in_err-prepare-in-Accept.result ≡ Err stop.Memory = search rules in rw is memory
 
-pub returns-in-Accept-clause-planned : goal.returns-in-Accept-clause-planned
-returns-in-Accept-clause-planned g c =
+pub returns-in_ok-prepare-in-Accept-clause-planned : goal.returns-in_ok-prepare-in-Accept-clause-planned
+returns-in_ok-prepare-in-Accept-clause-planned g c =
     let call : Called = called c.args.command.now c.args.who.now c.args.now (g.S.Site.state c.args.site.now) (g.S.Site.state c.change_directories.new.site) in
     record {
       events = c.in-Accept.events;
@@ -55,8 +55,8 @@ returns-in-Accept-clause-planned g c =
       made = c.in_ok-prepare-in-Accept.ensures;
     }
 
-pub returns-clause-stopped : goal.returns-clause-stopped
-returns-clause-stopped g c =
+pub returns-in-Refuse-clause-stopped : goal.returns-in-Refuse-clause-stopped
+returns-in-Refuse-clause-stopped g c =
     refused c.in-Refuse.refusal (λ tells seen. record {
       kept = λ passes. quiet-asked (effective (reads (g.D.Disk.state c.args.disk.now))) c.args.command.now (option_copied c.args.old) c.requires.quiet;
       answer = seen_answer (effective (reads (g.D.Disk.state c.args.disk.now))) (option_copied c.args.old) (called c.args.command.now c.args.who.now c.args.now (g.S.Site.state c.args.site.now) (g.S.Site.state c.see_quiet.new.site)) (Refuse c.in-Refuse.refusal) c.requires.quiet
@@ -72,5 +72,5 @@ returns-in_err-view-clause-directories g c = λ seen. leaves-still c.args.comman
 pub returns-in_err-events-clause-directories : goal.returns-in_err-events-clause-directories
 returns-in_err-events-clause-directories g c = λ seen. leaves-still c.args.command.now (g.S.Site.state c.args.site.now) (g.S.Site.state c.see_quiet.new.site) _ (c.see_quiet.ensures.same seen)
 
-pub returns-clause-directories : goal.returns-clause-directories
-returns-clause-directories g c = λ seen. leaves-still c.args.command.now (g.S.Site.state c.args.site.now) (g.S.Site.state c.see_quiet.new.site) _ (c.see_quiet.ensures.same seen)
+pub returns-in-Refuse-clause-directories : goal.returns-in-Refuse-clause-directories
+returns-in-Refuse-clause-directories g c = λ seen. leaves-still c.args.command.now (g.S.Site.state c.args.site.now) (g.S.Site.state c.see_quiet.new.site) _ (c.see_quiet.ensures.same seen)

@@ -99,14 +99,14 @@ prepare-requires-clause-follow g c =
     let shown = c.in_ok-view.ensures.shown in
     let shows : ShowsVersions (Some c.args.state.now) shown.0 c.args.command.now c.args.who.now c.with_runs-view.result = subst (ShowsVersions (Some c.args.state.now) shown.0 c.args.command.now c.args.who.now) (sym c.with_runs-view.ensures) (shown.1 c.args.who.now) in
     subst (λ (v : Verdict). IfAccepted v (MayFollow (Some c.args.state.now))) c.in-Accept.is
-    (of_ok (λ (v : Verdict). IfAccepted v (MayFollow (Some c.args.state.now))) c.answer_on-2.result _ c.in_ok-events.was (c.answer_on-2.ensures.follow shown.0 shows))
+    (of_ok (λ (v : Verdict). IfAccepted v (MayFollow (Some c.args.state.now))) c.answer_on-verdict.result _ c.in_ok-events.was (c.answer_on-verdict.ensures.follow shown.0 shows))
 
 pub prepare-requires-clause-put : goal.prepare-requires-clause-put
 prepare-requires-clause-put g c =
     let shown = c.in_ok-view.ensures.shown in
     let shows : ShowsVersions (Some c.args.state.now) shown.0 c.args.command.now c.args.who.now c.with_runs-view.result = subst (ShowsVersions (Some c.args.state.now) shown.0 c.args.command.now c.args.who.now) (sym c.with_runs-view.ensures) (shown.1 c.args.who.now) in
     subst (λ (v : Verdict). IfAccepted v MayBePut) c.in-Accept.is
-    (of_ok (λ (v : Verdict). IfAccepted v MayBePut) c.answer_on-2.result _ c.in_ok-events.was (c.answer_on-2.ensures.put shown.0 shows))
+    (of_ok (λ (v : Verdict). IfAccepted v MayBePut) c.answer_on-verdict.result _ c.in_ok-events.was (c.answer_on-verdict.ensures.put shown.0 shows))
 
 pub unreachable-requires : goal.unreachable-requires
 unreachable-requires g c =
@@ -122,7 +122,7 @@ pub returns-clause-planned : goal.returns-clause-planned
 returns-clause-planned g c =
     let files : Option Image = effective (reads (g.D.Disk.state c.args.disk.now)) in
     let o = c.args.state.now in
-    let call : Called = called c.args.command.now c.args.who.now c.args.now (g.S.Site.state c.args.site.now) (g.S.Site.state c.make_runs.new.site) in
+    let call : Called = called c.args.command.now c.args.who.now c.args.now (g.S.Site.state c.args.site.now) (g.S.Site.state c.make_runs-made.new.site) in
     let kept : g.D.Disk.tells → AreKept files (versions_for_runs c.args.command.now c.args.state.now) = λ tells.
     subst (λ (x : Option Image). AreKept x (versions_for_runs c.args.command.now c.args.state.now)) (ap effective (same_reads (g.D.Disk.state c.args.disk.now) (g.D.Disk.state c.see.new.disk) (c.see.ensures.same tells))) (c.in_ok-plan.ensures.kept tells) in
     let decided : IsDecidedSo (Some c.args.state.now) c.args.command.now c.args.who.now c.args.now (record c.in_ok-view.view { runs = c.in_ok-runs.runs }) (Accept c.in-Accept.events) =
@@ -136,7 +136,7 @@ returns-clause-planned g c =
     (c.in_ok-plan.ensures.are tells bytes c.args.who.now c.args.now (subst (λ (x : Option Image). HaveBytes x (Some c.args.state.now) bytes) (sym same) have) shows)
     c.in_ok-plan.ensures.ascends c.in_ok-runs.ensures.whole
     (subst (λ (st : SiteState). c.in_ok-plan.plan.tracked ≡ dir_reads.tracked_in (dirs_after c.in_ok-plan.plan.changes st.trees c.runs_dir.result) c.in_ok-plan.plan.tracked
-    → HaveRun c.runs_dir.result c.in_ok-plan.plan.changes (paths_of c.in_ok-plan.plan.tracked) c.in_ok-plan.plan.jobs c.in_ok-runs.runs st (g.S.Site.state c.make_runs.new.site)) (c.see.ensures.site_same told) (c.in_ok-runs.ensures.ran told))
+    → HaveRun c.runs_dir.result c.in_ok-plan.plan.changes (paths_of c.in_ok-plan.plan.tracked) c.in_ok-plan.plan.jobs c.in_ok-runs.runs st (g.S.Site.state c.make_runs-made.new.site)) (c.see.ensures.site_same told) (c.in_ok-runs.ensures.ran told))
     (Accept c.in-Accept.events) shows decided in
     record {
       events = c.in-Accept.events;
@@ -173,19 +173,19 @@ returns-in_err-plan-clause-directories g c = λ seen. leaves-still c.args.comman
 
 pub returns-in_err-runs-clause-directories : goal.returns-in_err-runs-clause-directories
 returns-in_err-runs-clause-directories g c = λ seen.
-    dirs_err c.args.command.now (g.S.Site.state c.args.site.now) (g.S.Site.state c.make_runs.new.site) _ (stop_of_dirs c.in_err-runs.field-0.0) (search rules)
-    (leaves-runs c.args.command.now (g.S.Site.state c.args.site.now) (g.S.Site.state c.make_runs.new.site) _ c.requires.runs (dirs_touch c.in_err-runs.field-0.0) (subst (λ (st : SiteState). MakesByteRuns st (g.S.Site.state c.make_runs.new.site)) (c.see.ensures.site_same seen) (c.make_runs.ensures.bytes seen)))
+    dirs_err c.args.command.now (g.S.Site.state c.args.site.now) (g.S.Site.state c.make_runs-made.new.site) _ (stop_of_dirs c.in_err-runs.field-0.0) (search rules)
+    (leaves-runs c.args.command.now (g.S.Site.state c.args.site.now) (g.S.Site.state c.make_runs-made.new.site) _ c.requires.runs (dirs_touch c.in_err-runs.field-0.0) (subst (λ (st : SiteState). MakesByteRuns st (g.S.Site.state c.make_runs-made.new.site)) (c.see.ensures.site_same seen) (c.make_runs-made.ensures.bytes seen)))
 
 pub returns-in_err-events-clause-directories : goal.returns-in_err-events-clause-directories
 returns-in_err-events-clause-directories g c = λ seen.
-    dirs_err c.args.command.now (g.S.Site.state c.args.site.now) (g.S.Site.state c.make_runs.new.site) _ stop.Memory (search rules)
-    (leaves-runs c.args.command.now (g.S.Site.state c.args.site.now) (g.S.Site.state c.make_runs.new.site) _ c.requires.runs (λ none. none) (subst (λ (st : SiteState). MakesByteRuns st (g.S.Site.state c.make_runs.new.site)) (c.see.ensures.site_same seen) (c.make_runs.ensures.bytes seen)))
+    dirs_err c.args.command.now (g.S.Site.state c.args.site.now) (g.S.Site.state c.make_runs-made.new.site) _ stop.Memory (search rules)
+    (leaves-runs c.args.command.now (g.S.Site.state c.args.site.now) (g.S.Site.state c.make_runs-made.new.site) _ c.requires.runs (λ none. none) (subst (λ (st : SiteState). MakesByteRuns st (g.S.Site.state c.make_runs-made.new.site)) (c.see.ensures.site_same seen) (c.make_runs-made.ensures.bytes seen)))
 
 pub returns-in_err-prepare-in-Accept-clause-directories : goal.returns-in_err-prepare-in-Accept-clause-directories
 returns-in_err-prepare-in-Accept-clause-directories g c = λ seen.
-    dirs_err c.args.command.now (g.S.Site.state c.args.site.now) (g.S.Site.state c.make_runs.new.site) _ stop.Memory (search rules)
-    (leaves-runs c.args.command.now (g.S.Site.state c.args.site.now) (g.S.Site.state c.make_runs.new.site) _ c.requires.runs (λ none. none) (subst (λ (st : SiteState). MakesByteRuns st (g.S.Site.state c.make_runs.new.site)) (c.see.ensures.site_same seen) (c.make_runs.ensures.bytes seen)))
+    dirs_err c.args.command.now (g.S.Site.state c.args.site.now) (g.S.Site.state c.make_runs-made.new.site) _ stop.Memory (search rules)
+    (leaves-runs c.args.command.now (g.S.Site.state c.args.site.now) (g.S.Site.state c.make_runs-made.new.site) _ c.requires.runs (λ none. none) (subst (λ (st : SiteState). MakesByteRuns st (g.S.Site.state c.make_runs-made.new.site)) (c.see.ensures.site_same seen) (c.make_runs-made.ensures.bytes seen)))
 
 pub returns-clause-directories : goal.returns-clause-directories
 returns-clause-directories g c = λ seen.
-    leaves-runs c.args.command.now (g.S.Site.state c.args.site.now) (g.S.Site.state c.make_runs.new.site) _ c.requires.runs (λ none. none) (subst (λ (st : SiteState). MakesByteRuns st (g.S.Site.state c.make_runs.new.site)) (c.see.ensures.site_same seen) (c.make_runs.ensures.bytes seen))
+    leaves-runs c.args.command.now (g.S.Site.state c.args.site.now) (g.S.Site.state c.make_runs-made.new.site) _ c.requires.runs (λ none. none) (subst (λ (st : SiteState). MakesByteRuns st (g.S.Site.state c.make_runs-made.new.site)) (c.see.ensures.site_same seen) (c.make_runs-made.ensures.bytes seen))
