@@ -278,9 +278,9 @@ pub(crate) fn accept_seen(
         IfOk result (λ verdict. verdict ≡ Accept (events_of (given_of places state.now bytes command.now who.now when view.now))) }
 {
     let project = state.project();
+    let subject = subject(alloc, state, number, change, view)?;
     let bytes = config_seen(alloc, state, number, change, view)?;
     let read = config_read(alloc, bytes)?;
-    let subject = subject(alloc, state, number, change, view)?;
     let delta = delta_of_run(state, change);
     let runs = view.runs.as_slice();
     let events = run_events(alloc, &project.name, change, delta, &read, subject, runs)?;

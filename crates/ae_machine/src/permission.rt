@@ -110,7 +110,9 @@ pub(crate) fn adding_refused(
     ensures { IfOk result (λ refusal. refusal ≡ all_added users.now (users_of role project.now)) }
 {
     let mut after = project.copy(alloc)?;
-    add_users(alloc, &mut after, role, users.as_slice())
+    let refusal = add_users(alloc, &mut after, role, users.as_slice());
+    drop(after);
+    refusal
 }
 
 /// Why not all of the users may be dropped from the role, each as if those before him were.
@@ -123,5 +125,7 @@ pub(crate) fn dropping_refused(
     ensures { IfOk result (λ refusal. refusal ≡ all_dropped role users.now (users_of role project.now)) }
 {
     let mut after = project.copy(alloc)?;
-    drop_users(alloc, &mut after, role, users.as_slice())
+    let refusal = drop_users(alloc, &mut after, role, users.as_slice());
+    drop(after);
+    refusal
 }

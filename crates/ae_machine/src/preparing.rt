@@ -160,9 +160,8 @@ fn refresh(alloc: Global, change: &Change, refreshed: FileList) -> Result<DirCha
     ensures { IfOk result (λ made. made ≡ Put (Develop change.now.number) (removed_among change.now.files ++ refreshed)) }
 {
     let mut rows = removed_rows(alloc, change.files.as_slice())?;
-    for row in refreshed.into_vec() {
-        rows.push(row)?;
-    }
+    let mut refreshed = refreshed.into_vec();
+    rows.append(&mut refreshed)?;
     Ok(DirChange::Put(Dir::Develop(change.number), FileList::of(rows)))
 }
 
@@ -192,11 +191,14 @@ pub fn run_changes(
         tracked.now ≡ tracked_in given (change_of given.call) →
         IfOk result (λ changes. changes ≡ dir_changes given) }
 {
-    let mut changes = DirChangeList::new(alloc);
     let Some(change) = change_of(state, command) else {
-        return Ok(changes);
+        drop(refreshed);
+        return Ok(DirChangeList::new(alloc));
     };
-    if !is_integrating(change.phase) {
+    let mut changes = DirChangeList::new(alloc);
+    if is_integrating(change.phase) {
+        drop(refreshed);
+    } else {
         changes.push(refresh(alloc, change, refreshed)?)?;
     }
     if kind_of(command) == Kind::BaselineTest {

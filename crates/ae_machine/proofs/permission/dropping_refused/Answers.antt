@@ -7,6 +7,6 @@ use Rattle.ae_machine.proofs.permission.dropping_refused.Goals as goal
 
 pub returns : goal.returns
 returns c =
-    if-ok c.drop_users.result _ _ c.drop_users.ensures
+    if-ok c.drop_users-refusal.result _ _ c.drop_users-refusal.ensures
     (ap (λ (users : List (List ℕ)). all_dropped c.args.role users (users_of c.args.role c.in_ok-after.after)) c.as_slice.ensures
     ∙ ap (λ (project : Project). all_dropped c.args.role c.args.users.now (users_of c.args.role project)) c.in_ok-after.ensures)
