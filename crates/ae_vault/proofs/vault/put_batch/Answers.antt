@@ -1,4 +1,4 @@
-use Rattle.std.proofs.Common.{true, List, Result, Ok, Err, OnOk, subst}
+use Rattle.std.proofs.Common.{true, List, subst}
 use Rattle.ae_vault.specs.declared.entry.Entry.{Entry}
 use Rattle.ae_outside.specs.Image.{Image}
 use Rattle.ae_outside.specs.State.{reads, MayLeave, GoesOn}
@@ -6,11 +6,8 @@ use Rattle.ae_vault.specs.Vault.{gate, body}
 use Rattle.ae_vault.specs.Commit.{IsAfter, SameOutside, HasEntries}
 use Rattle.ae_vault.proofs.Phases.{stable_as, stable_open}
 use Rattle.ae_vault.proofs.CommitPhases.{through1, through2, through3, through4, all4, read4}
+use Rattle.ae_vault.proofs.Results.{on_ok}
 use Rattle.ae_vault.proofs.vault.put_batch.Goals as goal
-
-on_ok : {T E : Type 0} (r : Result T E) (P : Type 0) → P → OnOk r P
-on_ok (Ok v) P holds = holds
-on_ok (Err e) P holds = tt
 
 pub returns-in_err-replace-clause-any_moment : goal.returns-in_err-replace-clause-any_moment
 returns-in_err-replace-clause-any_moment g c = λ t. through1 c.args.batch.now.entries c.body.result.now (g.D.Disk.state c.args.disk.now) c.body.ensures.body c.body.ensures.names (c.requires t) (g.D.Disk.state c.replace.new.disk) (c.replace.ensures.change t)
