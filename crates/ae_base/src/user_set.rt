@@ -1,5 +1,5 @@
 // The users of a role.
-ghost use Rattle.std.specs.Prelude.{◌≡◌, ◌↔◌, ◌∷◌, ◌++◌, [], length, IfOk, OnOk, OnErr, IsTrue, Contains};
+ghost use Rattle.std.specs.Prelude.{◌≡◌, ◌↔◌, ◌∷◌, ◌++◌, [], length, Some, IfOk, IfSome, OnOk, OnErr, IsTrue, Contains};
 ghost use Rattle.ae_base.specs.Users.{AllDiffer, without};
 
 use crate::{User, UserList};
@@ -34,16 +34,20 @@ impl UserSet {
         }
     }
 
-    /// The set of these users, in their order.
-    pub fn from_users(alloc: Global, users: UserList) -> Result<UserSet, AllocError>
-        requires { AllDiffer users }
-        ensures { IfOk result (λ set. set ≡ users) }
+    /// The set of these users, in their order, or nothing where a user stands twice.
+    pub fn from_users(alloc: Global, users: UserList) -> Result<Option<UserSet>, AllocError>
+        ensures some { IfOk result (λ made. IfSome made (λ set. (set ≡ users) × AllDiffer users)) }
+        ensures only { AllDiffer users → IfOk result (λ made. made ≡ Some users) }
     {
         let mut set = UserSet::new(alloc);
         for user in users.into_vec() {
+            if set.contains(&user) {
+                return Ok(None);
+            }
             set.insert(user)?;
         }
-        Ok(set)
+        note_differ(&set);
+        Ok(Some(set))
     }
 
     /// How many users it has.
@@ -89,10 +93,17 @@ impl UserSet {
     pub fn copy(&self, alloc: Global) -> Result<UserSet, AllocError>
         ensures { IfOk result (λ set. set ≡ self.now) }
     {
-        let mut users = UserList::new(alloc);
+        let mut set = UserSet::new(alloc);
         for user in self.users() {
-            users.push(user.copy(alloc)?)?;
+            set.insert(user.copy(alloc)?)?;
         }
-        UserSet::from_users(alloc, users)
+        Ok(set)
     }
+}
+
+// The users of a set differ.
+fn note_differ(set: &UserSet)
+    ensures { AllDiffer set.now }
+{
+    let _users = set.users();
 }

@@ -1,12 +1,11 @@
 // How lists of rows are spelled, and the users of a role.
-ghost use Rattle.std.specs.Prelude.{◌≡◌, ◌++◌, ◌∷◌, [], List, ℕ, Some, IfOk, IfSome, IsSomeAnd, OnOk, All, map};
+ghost use Rattle.std.specs.Prelude.{◌≡◌, ◌++◌, ◌∷◌, [], List, IfOk, IfSome, IsSomeAnd, OnOk, All, map};
 ghost use Rattle.ae_text.specs.View.{node, named_node};
 ghost use Rattle.ae_schema.specs.Spelled.{list_of};
-ghost use Rattle.ae_base.specs.Users.{AllDiffer};
 
 use crate::parts::list_in;
 use crate::value::Value;
-use ae_base::{User, UserSet};
+use ae_base::{User, UserList, UserSet};
 use ae_text::{Field, Tree, TreeList};
 use ae_types::Rows;
 use std::alloc::{AllocError, Global};
@@ -90,29 +89,6 @@ impl<T: Value> Value for Rows<T> {
     ghost some_value = { ([], Prim.search rules) };
 }
 
-// The users of a set differ.
-fn note_differ(set: &UserSet)
-    ensures { AllDiffer set.now }
-{
-    let _users = set.users();
-}
-
-// The set of these users, where none stands twice.
-fn distinct(alloc: Global, users: Vec<User>) -> Result<Option<UserSet>, AllocError>
-    ensures some { IfOk result (λ made. IfSome made (λ set. (set ≡ users.items) × AllDiffer users.items)) }
-    ensures only { AllDiffer users.items → IfOk result (λ made. made ≡ Some users.items) }
-{
-    let mut set = UserSet::new(alloc);
-    for user in users {
-        if set.contains(&user) {
-            return Ok(None);
-        }
-        set.insert(user)?;
-    }
-    note_differ(&set);
-    Ok(Some(set))
-}
-
 impl Value for UserSet {
     ghost use Rattle.ae_text.specs.Tree.{str};
     ghost use Rattle.ae_schema.specs.Spelled.{list_of};
@@ -128,7 +104,7 @@ impl Value for UserSet {
             return Ok(None);
         };
         match read_rows::<User>(alloc, trees)? {
-            Some(users) => distinct(alloc, users),
+            Some(users) => UserSet::from_users(alloc, UserList::of(users)),
             None => Ok(None),
         }
     }
