@@ -1,7 +1,7 @@
 // The calls of a form in memory, counted.
-ghost use Rattle.std.specs.Prelude.{◌≡◌, ◌↔◌, ◌≤◌, [], IsTrue, Contains, IfOk, if◌then◌else◌};
+ghost use Rattle.std.specs.Prelude.{◌≡◌, ◌↔◌, ◌≤◌, [], true, false, IsTrue, Contains, IfOk, if◌then◌else◌};
 ghost use Rattle.ae_outside.specs.Causes.{next};
-ghost use Rattle.ae_outside.specs.Calls.{Counts};
+ghost use Rattle.ae_outside.specs.Calls.{Counts, IsCall};
 
 use std::alloc::{AllocError, Global};
 use std::marker::Model;
@@ -46,6 +46,9 @@ impl Calls {
         ensures listed { IsTrue result ↔ Contains self.old.fails (next self.old.calls) }
         ensures counted { self.new ≡ record self.old { calls = next self.old.calls; failed = (if result then next self.old.failed else self.old.failed) } }
         ensures later { self.old.failed ≤ self.new.failed }
+        // Where nothing but the count fails, it is such a call.
+        ensures fails { result ≡ true → IsCall self.old self.new (Unit {0}) }
+        ensures goes_well { result ≡ false → IsCall self.old self.new ⊥ }
     {
         self.calls = self.calls.saturating_add(1);
         let fails = self.fails.contains(&self.calls);
@@ -59,6 +62,7 @@ impl Calls {
     pub fn starves(&mut self)
         ensures counted { self.new ≡ record self.old { failed = next self.old.failed; starved = next self.old.starved } }
         ensures later { self.old.failed ≤ self.new.failed }
+        ensures fails { (before : Counts) → IsCall before self.old ⊥ → IsCall before self.new (Unit {0}) }
     {
         self.failed = self.failed.saturating_add(1);
         self.starved = self.starved.saturating_add(1);

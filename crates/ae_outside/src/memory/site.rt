@@ -6,6 +6,7 @@ ghost use Rattle.ae_outside.specs.Trees.{no_files, with_file, within};
 ghost use Rattle.ae_outside.specs.Site.{IsAtMost, ChangesOnly, HoldsBytes, content_within, run_made};
 ghost use Rattle.ae_outside.specs.FileRows.{tree_of, ElsewhereSame};
 ghost use Rattle.ae_outside.specs.Scripts.{exit_of, after_of};
+ghost use Rattle.ae_outside.specs.MemSites.{made_of};
 
 use super::calls::Calls;
 use super::site_files::{
@@ -78,23 +79,49 @@ impl MemSite {
         ensures noted { take (length (done_of self.old)) (done_of self.new) ≡ done_of self.old }
         ensures not_run { OnErr result (done_of self.new ≡ done_of self.old) }
     {
-        let before = snapshot_of(self.alloc, &self.files, dir)?;
-        let command = Text::of(command.as_bytes().to_vec(self.alloc)?);
         let place = self.done.len();
-        let exit = runs_at(self.alloc, &mut self.files, dir, &self.script, place)?;
-        let after = snapshot_of(self.alloc, &self.files, dir)?;
-        self.done.push(RunDone {
-            dir: *dir,
+        let run = run_at(
+            self.alloc,
+            &mut self.files,
+            dir,
             command,
-            exit,
-            before,
-            after,
-        })?;
+            &self.script,
+            place,
+        )?;
+        let exit = run.exit;
+        self.done.push(run)?;
         Ok(exit)
     }
 }
 
-// The run of the script at this place.
+// The run of the script at this place, made and noted.
+fn run_at(
+    alloc: Global,
+    files: &mut Vec<FileRow>,
+    dir: &Dir,
+    command: &str,
+    script: &MemRunList,
+    place: usize,
+) -> Result<RunDone, AllocError>
+    ensures made { IfOk result (λ run. made_of run ≡ record { dir = dir.now; command = command.now; exit = run.exit; before = tree_of files.old.items dir.now; after = tree_of files.new.items dir.now }) }
+    ensures exit { IfOk result (λ run. run.exit ≡ exit_of script.now place) }
+    ensures after { OnOk result (tree_of files.new.items dir.now ≡ after_of script.now place (tree_of files.old.items dir.now)) }
+    ensures others { ElsewhereSame dir.now (tree_of files.old.items) (tree_of files.new.items) }
+{
+    let command = Text::of(command.as_bytes().to_vec(alloc)?);
+    let before = snapshot_of(alloc, files, dir)?;
+    let exit = runs_at(alloc, files, dir, script, place)?;
+    let after = snapshot_of(alloc, files, dir)?;
+    Ok(RunDone {
+        dir: *dir,
+        command,
+        exit,
+        before,
+        after,
+    })
+}
+
+// Does what the run of the script at this place does, and answers how it ends.
 fn runs_at(
     alloc: Global,
     files: &mut Vec<FileRow>,
