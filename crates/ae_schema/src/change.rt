@@ -114,6 +114,25 @@ fn change_of(fields: ChangeFields) -> Change
     }
 }
 
+// The names of its fields.
+const FIELD_NAMES: [&[u8]; 15] = [
+    b"number",
+    b"brief_description",
+    b"description",
+    b"cause",
+    b"test_exempt",
+    b"test_baseline_exempt",
+    b"regression_test_exempt",
+    b"phase",
+    b"developer",
+    b"reviewing",
+    b"reviewer",
+    b"integrator",
+    b"files",
+    b"evidence",
+    b"history",
+];
+
 /// The change of which the bytes are a text.
 pub fn read_change(alloc: Global, bytes: &[u8]) -> Result<Change, SchemaError>
     // The bytes are a text of the fields of what is read.
@@ -127,24 +146,7 @@ pub fn read_change(alloc: Global, bytes: &[u8]) -> Result<Change, SchemaError>
     // Where a token or field can't stand, that line comes.
     ensures only_field { (line : ℕ) → IsBadLine FitsChange change_fields bytes.now line → IsRefusal line result }
 {
-    let names: &[&[u8]] = &[
-        b"number",
-        b"brief_description",
-        b"description",
-        b"cause",
-        b"test_exempt",
-        b"test_baseline_exempt",
-        b"regression_test_exempt",
-        b"phase",
-        b"developer",
-        b"reviewing",
-        b"reviewer",
-        b"integrator",
-        b"files",
-        b"evidence",
-        b"history",
-    ];
-    match read_record::<ChangeFields>(alloc, names, bytes) {
+    match read_record::<ChangeFields>(alloc, &FIELD_NAMES, bytes) {
         Ok(fields) => Ok(change_of(fields)),
         Err(error) => Err(error),
     }

@@ -228,6 +228,27 @@ fn project_of(fields: ProjectFields) -> (Project, NumberList)
     (project, numbers.into_rows())
 }
 
+// The names of its fields.
+const FIELD_NAMES: [&[u8]; 17] = [
+    b"format",
+    b"store",
+    b"name",
+    b"description",
+    b"developer_may_review",
+    b"developer_may_integrate",
+    b"reviewer_may_integrate",
+    b"developers_may_create_changes",
+    b"develop_end_action",
+    b"default_test_exemption",
+    b"administrators",
+    b"developers",
+    b"reviewers",
+    b"integrators",
+    b"next_version",
+    b"changes",
+    b"deltas",
+];
+
 /// The project and the numbers of its changes, of which the bytes are a text.
 pub fn read_project(alloc: Global, bytes: &[u8]) -> Result<(Project, NumberList), SchemaError>
     // The bytes are a text of the fields of what is read.
@@ -241,26 +262,7 @@ pub fn read_project(alloc: Global, bytes: &[u8]) -> Result<(Project, NumberList)
     // Where a token or field can't stand, that line comes.
     ensures only_field { (line : ℕ) → IsBadLine FitsProject project_fields bytes.now line → IsRefusal line result }
 {
-    let names: &[&[u8]] = &[
-        b"format",
-        b"store",
-        b"name",
-        b"description",
-        b"developer_may_review",
-        b"developer_may_integrate",
-        b"reviewer_may_integrate",
-        b"developers_may_create_changes",
-        b"develop_end_action",
-        b"default_test_exemption",
-        b"administrators",
-        b"developers",
-        b"reviewers",
-        b"integrators",
-        b"next_version",
-        b"changes",
-        b"deltas",
-    ];
-    match read_record::<ProjectFields>(alloc, names, bytes) {
+    match read_record::<ProjectFields>(alloc, &FIELD_NAMES, bytes) {
         Ok(fields) => Ok(project_of(fields)),
         Err(error) => Err(error),
     }
