@@ -15,8 +15,9 @@ use std::alloc::{AllocError, Global};
 fn only_user(alloc: Global, user: &User) -> Result<UserSet, AllocError>
     ensures { IfOk result (λ set. set ≡ user.now ∷ []) }
 {
+    let user = user.copy(alloc)?;
     let mut set = UserSet::new(alloc);
-    set.insert(user.copy(alloc)?)?;
+    set.insert(user)?;
     Ok(set)
 }
 

@@ -12,7 +12,7 @@ returns-in-Ok c =
     let bound = rw (c.deref.ensures.value) at c.in-Ok.ensures.bound in
     let position = rw (c.deref.ensures.value) at c.in-Ok.ensures.position in
     let equal = position (λ (y : Change). nat_cmp (number_of_change y) c.args.change.number) (always_returns_same _ _ _ (λ a r f' called. search rules)) in
-    set-put by_number number_of_change c.args.change c.args.changes.now.items c.in-Ok.at c.args.change c.requires bound (equal c.args.change)
+    rw c.replace.ensures.after (set-put by_number number_of_change c.args.change c.args.changes.now.items c.in-Ok.at c.args.change c.requires bound (equal c.args.change))
 
 pub returns-in_ok-insert-in-Err : goal.returns-in_ok-insert-in-Err
 returns-in_ok-insert-in-Err c =
