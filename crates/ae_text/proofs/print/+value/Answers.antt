@@ -1,4 +1,7 @@
-use Rattle.ae_text.proofs.Printed.{put_item, item_fits, put_spaced, member_fits}
+use Rattle.std.proofs.Common.{ℕ, List, ◌++◌, ◌∙◌, ap, sym}
+use Rattle.ae_text.specs.Tree.{Node}
+use Rattle.ae_text.specs.Canonical.{value_text}
+use Rattle.ae_text.proofs.Printed.{put_item, item_fits, put_spaced, member_fits, three_put, four_put, where_put, seen_list, seen_fields}
 use Rattle.ae_text.proofs.print.+value.Goals as goal
 
 pub put_items-loop-tree-preserved : goal.put_items-loop-tree-preserved
@@ -18,3 +21,26 @@ put_spaced_fields-loop-field-preserved n c =
           c.in_ok-push.ensures.items c.in_ok-put_field.ensures.text loop.invariant.0,
       λ rest. loop.invariant.1 (member_fits c.args.fields.now loop.field-index field.result field.is c.loop-field-test.true c.in_ok-put_field.ensures.types rest),
     )
+
+pub put_field-returns-clause-text : goal.put_field-returns-clause-text
+put_field-returns-clause-text n c =
+    four_put c.args.out.now.items c.args.field.now.name _ _ _ _ _ _ _
+    (c.in_ok-extend_from_slice.ensures.items ∙ ap (λ (l : List ℕ). c.args.out.now.items ++ l) c.bytes.ensures.value)
+    c.in_ok-extend_from_slice-2.ensures.items c.in_ok-put_value.ensures.text c.in_ok-push.ensures.items
+
+pub put_value-returns-in_ok-put_spaced_fields-in-Fields-clause-text : goal.put_value-returns-in_ok-put_spaced_fields-in-Fields-clause-text
+put_value-returns-in_ok-put_spaced_fields-in-Fields-clause-text n c =
+    let out = c.args.out.now.items in
+    where_put c.extend_from_slice-in-Fields.result _ _ _ _ c.extend_from_slice-in-Fields.ensures.items (λ put.
+    three_put out _ _ _ _ _ _ c.in_ok-push-in-Fields.ensures.items
+    c.in_ok-put_spaced_fields-in-Fields.ensures.text
+    put
+    ∙ ap (λ (n : Node). out ++ value_text n) (sym (seen_fields c.args.tree.now c.in-Fields.fields c.as_slice-in-Fields.result.now c.in-Fields.is c.as_slice-in-Fields.ensures.value)))
+
+pub put_value-returns-in_ok-push-in-List-2-clause-text : goal.put_value-returns-in_ok-push-in-List-2-clause-text
+put_value-returns-in_ok-push-in-List-2-clause-text n c =
+    let out = c.args.out.now.items in
+    three_put out _ _ _ _ _ _ c.in_ok-push-in-List.ensures.items
+    c.in_ok-put_items-in-List.ensures.text
+    c.in_ok-push-in-List-2.ensures.items
+    ∙ ap (λ (n : Node). out ++ value_text n) (sym (seen_list c.args.tree.now c.in-List.list c.as_slice.result.now c.in-List.is c.as_slice.ensures.value))
