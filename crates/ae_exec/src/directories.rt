@@ -11,6 +11,7 @@ ghost use Rattle.ae_base.specs.Limits.{most_deltas};
 ghost use Rattle.ae_base.specs.Rows.{text_cmp};
 ghost use Rattle.ae_vault.specs.Commit.{IsClean};
 ghost use Rattle.ae_vault.specs.Vault.{effective};
+ghost use Rattle.ae_machine.specs.Call.{change_named};
 ghost use Rattle.ae_machine.specs.Called.{called};
 ghost use Rattle.ae_machine.specs.Directories.{in_order, removed};
 ghost use Rattle.ae_machine.specs.Fits.{makes_runs};
@@ -23,6 +24,7 @@ ghost use Rattle.ae_exec.specs.Reading.{AreKept, IsInside, IsLostAmong, reads_of
 ghost use Rattle.ae_exec.specs.Endings.{EndsAs, StopsReading, outcome_of, outcome_of_stop};
 
 use crate::candidate::candidate_files;
+use crate::running::put_file;
 use crate::stop::Stop;
 use crate::version::read_version;
 use ae_base::{Delta, Path, PathList, Text};
@@ -30,7 +32,7 @@ use ae_dirs::change_dirs;
 use ae_files::entry_at;
 use ae_machine::{DirChange, DirChangeList, FileList, last_delta};
 use ae_outside::{Dir, Disk, Site};
-use ae_types::{FileRow, FileVersion, State, VersionRef};
+use ae_types::{Change, FileRow, FileVersion, State, VersionRef};
 use ae_words::{Command, Function};
 use std::alloc::{AllocError, Global};
 
@@ -57,7 +59,7 @@ fn push_file<D: Disk>(
         return Ok(());
     };
     let bytes = read_version(alloc, disk, version)?;
-    files.push((row.path.copy(alloc)?, Some(Text::of(bytes))))?;
+    put_file(alloc, files, &row.path, Some(Text::of(bytes)))?;
     Ok(())
 }
 
@@ -78,6 +80,22 @@ fn baseline_files<D: Disk>(alloc: Global, disk: &mut D, state: &State) -> Result
     Ok(files)
 }
 
+// The change that the command names, where it is there.
+fn change_of<'a>(state: &'a State, command: &Command) -> Option<&'a Change>
+    ensures { option_copied result ≡ change_named state.now command.now.change }
+{
+    state.change(command.change?)
+}
+
+// One change of directories alone.
+fn one_change(alloc: Global, change: DirChange) -> Result<DirChangeList, AllocError>
+    ensures { IfOk result (λ changes. changes ≡ change ∷ []) }
+{
+    let mut changes = DirChangeList::new(alloc);
+    changes.push(change)?;
+    Ok(changes)
+}
+
 // The changes of directories with which the development of a change begins.
 fn begin_changes<D: Disk>(
     alloc: Global,
@@ -94,13 +112,11 @@ fn begin_changes<D: Disk>(
     ensures stopped { IfErr result (λ stop. StopsReading D.tells (reads (D.state disk.old)) (versions_read command.now state.now) (HasRisen (D.faults disk.old) (D.faults disk.new)) stop) }
     ensures later { D.faults disk.old ≤ D.faults disk.new }
 {
-    let mut changes = DirChangeList::new(alloc);
-    let Some(change) = command.change.and_then(|number| state.change(number)) else {
-        return Ok(changes);
+    let Some(change) = change_of(state, command) else {
+        return Ok(DirChangeList::new(alloc));
     };
     let files = baseline_files(alloc, disk, state)?;
-    changes.push(DirChange::Fill(Dir::Develop(change.number), files))?;
-    Ok(changes)
+    Ok(one_change(alloc, DirChange::Fill(Dir::Develop(change.number), files))?)
 }
 
 // The paths once more.
@@ -152,7 +168,7 @@ fn removed_files(alloc: Global, paths: &PathList) -> Result<FileList, AllocError
 {
     let mut files = FileList::new(alloc);
     for path in paths.as_slice() {
-        files.push((path.copy(alloc)?, None))?;
+        put_file(alloc, &mut files, path, None)?;
     }
     Ok(files)
 }
@@ -167,13 +183,11 @@ fn make_changes(
     ensures changes { IfOk result (λ changes. (files : Option Image) → AreChanges files state.now command.now changes) }
     ensures own { IfOk result (λ changes. AreOwn command.now changes) }
 {
-    let mut changes = DirChangeList::new(alloc);
-    let Some(change) = command.change.and_then(|number| state.change(number)) else {
-        return Ok(changes);
+    let Some(change) = change_of(state, command) else {
+        return Ok(DirChangeList::new(alloc));
     };
     let paths = paths_copy(alloc, &command.paths)?;
-    changes.push(DirChange::Make(Dir::Develop(change.number), paths))?;
-    Ok(changes)
+    one_change(alloc, DirChange::Make(Dir::Develop(change.number), paths))
 }
 
 // The changes of directories with which files are removed.
@@ -186,13 +200,11 @@ fn remove_changes(
     ensures changes { IfOk result (λ changes. (files : Option Image) → AreChanges files state.now command.now changes) }
     ensures own { IfOk result (λ changes. AreOwn command.now changes) }
 {
-    let mut changes = DirChangeList::new(alloc);
-    let Some(change) = command.change.and_then(|number| state.change(number)) else {
-        return Ok(changes);
+    let Some(change) = change_of(state, command) else {
+        return Ok(DirChangeList::new(alloc));
     };
     let files = removed_files(alloc, &command.paths)?;
-    changes.push(DirChange::Put(Dir::Develop(change.number), files))?;
-    Ok(changes)
+    one_change(alloc, DirChange::Put(Dir::Develop(change.number), files))
 }
 
 // The version of a path's file at a delta, where it is there.
@@ -225,13 +237,9 @@ fn push_file_at<D: Disk>(
     match version_at(state, delta, path) {
         Some(version) => {
             let bytes = read_version(alloc, disk, version)?;
-            files.push((path.copy(alloc)?, Some(Text::of(bytes))))?;
-            Ok(())
+            Ok(put_file(alloc, files, path, Some(Text::of(bytes)))?)
         }
-        None => {
-            files.push((path.copy(alloc)?, None))?;
-            Ok(())
-        }
+        None => Ok(put_file(alloc, files, path, None)?),
     }
 }
 
@@ -284,15 +292,13 @@ fn put_changes<D: Disk>(
     ensures stopped { IfErr result (λ stop. StopsReading D.tells (reads (D.state disk.old)) (versions_read command.now state.now) (HasRisen (D.faults disk.old) (D.faults disk.new)) stop) }
     ensures later { D.faults disk.old ≤ D.faults disk.new }
 {
-    let mut changes = DirChangeList::new(alloc);
-    let Some(change) = command.change.and_then(|number| state.change(number)) else {
-        return Ok(changes);
+    let Some(change) = change_of(state, command) else {
+        return Ok(DirChangeList::new(alloc));
     };
     let delta = delta_put(state, command);
     let paths = paths_put(alloc, command)?;
     let files = files_at(alloc, disk, state, delta, &paths)?;
-    changes.push(DirChange::Put(Dir::Develop(change.number), files))?;
-    Ok(changes)
+    Ok(one_change(alloc, DirChange::Put(Dir::Develop(change.number), files))?)
 }
 
 // The delta that comes next.
@@ -320,16 +326,12 @@ fn integrate_changes<D: Disk>(
     ensures stopped { IfErr result (λ stop. StopsReading D.tells (reads (D.state disk.old)) (versions_read command.now state.now) (HasRisen (D.faults disk.old) (D.faults disk.new)) stop) }
     ensures later { D.faults disk.old ≤ D.faults disk.new }
 {
-    let mut changes = DirChangeList::new(alloc);
-    let Some(number) = command.change else {
-        return Ok(changes);
+    let Some(change) = change_of(state, command) else {
+        return Ok(DirChangeList::new(alloc));
     };
-    let Some(change) = state.change(number) else {
-        return Ok(changes);
-    };
-    let files = candidate_files(alloc, disk, state, number, change)?;
-    changes.push(DirChange::Fill(Dir::Integrate(next_delta(state)), files))?;
-    Ok(changes)
+    let files = candidate_files(alloc, disk, state, change.number, change)?;
+    let integrate = Dir::Integrate(next_delta(state));
+    Ok(one_change(alloc, DirChange::Fill(integrate, files))?)
 }
 
 // The changes of directories that the command asks for.

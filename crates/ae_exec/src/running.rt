@@ -1,5 +1,5 @@
 // The runs of a build or a test: the directories are made ready for them, and they are made.
-ghost use Rattle.std.specs.Prelude.{◌≡◌, ◌≤◌, ◌++◌, ◌∷◌, [], ℕ, List, Some, None, All, map, true, IfOk, IfErr, IsErrOf, OnOk};
+ghost use Rattle.std.specs.Prelude.{◌≡◌, ◌≤◌, ◌++◌, ◌∷◌, [], ℕ, List, Some, None, All, map, true, Ok, IfOk, IfErr, IsErrOf, OnOk};
 ghost use Rattle.ae_base.specs.Rows.{paths_of};
 ghost use Rattle.ae_outside.specs.Causes.{Counted, HasRisen};
 ghost use Rattle.ae_outside.specs.Image.{IsSame};
@@ -17,7 +17,7 @@ ghost use Rattle.ae_base.specs.Rows.{Ascends};
 ghost use Rattle.ae_machine.specs.Call.{call_of, change_named, given_of};
 ghost use Rattle.ae_machine.specs.Fits.{makes_runs};
 ghost use Rattle.ae_machine.specs.Freezing.{configured};
-ghost use Rattle.ae_machine.specs.Jobs.{IsCommand};
+ghost use Rattle.ae_machine.specs.Jobs.{AnswersJobs, IsCommand};
 ghost use Rattle.ae_machine.specs.Sight.{with_bytes};
 ghost use Rattle.ae_machine.specs.Space.{placing};
 ghost use Rattle.ae_machine.specs.Versions.{ShowsVersions, rows_based, rows_refreshed};
@@ -28,7 +28,7 @@ ghost use Rattle.ae_exec.specs.Runs.{AreForRuns, HaveRun};
 
 use crate::stop::Stop;
 use crate::version::read_version;
-use ae_base::{Snapshot, Text};
+use ae_base::{Path, Snapshot, Text};
 use ae_dirs::{DirsError, change_dirs, run_group};
 use ae_files::TreeRow;
 use ae_machine::{
@@ -38,7 +38,7 @@ use ae_machine::{
 use ae_outside::{Dir, Disk, Site};
 use ae_types::State;
 use ae_words::Command;
-use std::alloc::Global;
+use std::alloc::{AllocError, Global};
 
 /// What the runs of a command are made of: the changes of directories before them, the files that they are to leave as they are,
 /// and the runs.
@@ -47,6 +47,19 @@ pub(crate) struct RunPlan {
     pub changes: DirChangeList,
     pub tracked: Snapshot,
     pub jobs: JobList,
+}
+
+/// Puts a file with these bytes, or no file, after the others.
+pub(crate) fn put_file(
+    alloc: Global,
+    files: &mut FileList,
+    path: &Path,
+    bytes: Option<Text>,
+) -> Result<(), AllocError>
+    ensures { OnOk result (files.new ≡ files.old ++ (path.now, bytes) ∷ []) }
+{
+    files.push((path.copy(alloc)?, bytes))?;
+    Ok(())
 }
 
 // Puts the file of a row after the others, with its bytes.
@@ -67,7 +80,7 @@ fn push_row<D: Disk>(
     ensures later { D.faults disk.old ≤ D.faults disk.new }
 {
     let bytes = read_version(alloc, disk, &row.version)?;
-    files.push((row.path.copy(alloc)?, Some(Text::of(bytes))))?;
+    put_file(alloc, files, &row.path, Some(Text::of(bytes)))?;
     Ok(())
 }
 
@@ -112,6 +125,89 @@ pub(crate) fn make_runs<S: Site>(
     run_group(alloc, site, dir, plan.jobs.as_slice(), &plan.tracked)
 }
 
+// The runs of an accepted command, each with its command.
+fn accepted_jobs(
+    alloc: Global,
+    state: &State,
+    command: &Command,
+    view: &View,
+) -> Result<JobList, AllocError>
+    requires runs { makes_runs command.now.function ≡ true }
+    requires accepted { (bytes : ℕ → List ℕ) × (who : List ℕ) × (when : ℕ) × ShowsVersions (Some state.now) bytes command.now who view.now × (configured (given_of placing state.now bytes command.now who when view.now) ≡ None) }
+    ensures jobs { IfOk result (λ jobs. (bytes : ℕ → List ℕ) (who : List ℕ) (when : ℕ) → ShowsVersions (Some state.now) bytes command.now who view.now → AnswersJobs (given_of placing state.now bytes command.now who when view.now) (Ok jobs)) }
+    ensures commands { IfOk result (λ jobs. All (λ (job : Job). IsCommand job.command) jobs) }
+{
+    match jobs_asked(alloc, state, command, view)? {
+        Ok(jobs) => Ok(jobs),
+        Err(_) => unreachable!(),
+    }
+}
+
+// What the runs of an accepted command are made of, with the files that are put into the directories before them.
+fn run_plan(
+    alloc: Global,
+    state: &State,
+    command: &Command,
+    view: &View,
+    refreshed: FileList,
+    based: FileList,
+) -> Result<RunPlan, AllocError>
+    requires runs { makes_runs command.now.function ≡ true }
+    requires accepted { (bytes : ℕ → List ℕ) × (who : List ℕ) × (when : ℕ) × ShowsVersions (Some state.now) bytes command.now who view.now × (configured (given_of placing state.now bytes command.now who when view.now) ≡ None) }
+    requires paths { paths_of based ≡ map tree_path (rows_based (call_of state.now command.now []) (change_named state.now command.now.change)) }
+    ensures are { IfOk result (λ plan. (bytes : ℕ → List ℕ) (who : List ℕ) (when : ℕ) → refreshed ≡ with_bytes bytes (rows_refreshed (call_of state.now command.now []) (change_named state.now command.now.change)) → based ≡ with_bytes bytes (rows_based (call_of state.now command.now []) (change_named state.now command.now.change)) → ShowsVersions (Some state.now) bytes command.now who view.now → AreForRuns (given_of placing state.now bytes command.now who when view.now) plan.changes plan.tracked plan.jobs) }
+    ensures commands { IfOk result (λ plan. All (λ (job : Job). IsCommand job.command) plan.jobs) }
+    ensures ascends { IfOk result (λ plan. Ascends plan.tracked) }
+{
+    let tracked = tracked(alloc, state, command, view, based)?;
+    let changes = run_changes(alloc, state, command, refreshed, &tracked)?;
+    let jobs = accepted_jobs(alloc, state, command, view)?;
+    Ok(RunPlan {
+        changes,
+        tracked,
+        jobs,
+    })
+}
+
+// The files that are put into the develop directory before the runs, with their bytes.
+fn refreshed_files<D: Disk>(
+    alloc: Global,
+    state: &State,
+    disk: &mut D,
+    command: &Command,
+) -> Result<FileList, Stop>
+    requires clean { D.tells → IsClean (D.state disk.old) }
+    ensures rows { IfOk result (λ files. D.tells → files ≡ rows_at (effective (reads (D.state disk.old))) (rows_refreshed (call_of state.now command.now []) (change_named state.now command.now.change))) }
+    ensures kept { OnOk result (D.tells → AreKept (effective (reads (D.state disk.old))) (versions_of (rows_refreshed (call_of state.now command.now []) (change_named state.now command.now.change)))) }
+    ensures same { D.tells → GoesOn IsSame (D.state disk.old) (D.state disk.new) }
+    ensures stopped { IfErr result (λ stop. StopsReading D.tells (reads (D.state disk.old)) (versions_of (rows_refreshed (call_of state.now command.now []) (change_named state.now command.now.change))) (HasRisen (D.faults disk.old) (D.faults disk.new)) stop) }
+    ensures later { D.faults disk.old ≤ D.faults disk.new }
+{
+    state.note_sound();
+    let rows = rows_refreshed(alloc, state, command)?;
+    files_of_rows(alloc, disk, rows.as_slice())
+}
+
+// The files that are put into the base directory before the runs, with their bytes.
+fn based_files<D: Disk>(
+    alloc: Global,
+    state: &State,
+    disk: &mut D,
+    command: &Command,
+) -> Result<FileList, Stop>
+    requires clean { D.tells → IsClean (D.state disk.old) }
+    ensures rows { IfOk result (λ files. D.tells → files ≡ rows_at (effective (reads (D.state disk.old))) (rows_based (call_of state.now command.now []) (change_named state.now command.now.change))) }
+    ensures paths { IfOk result (λ files. paths_of files ≡ map tree_path (rows_based (call_of state.now command.now []) (change_named state.now command.now.change))) }
+    ensures kept { OnOk result (D.tells → AreKept (effective (reads (D.state disk.old))) (versions_of (rows_based (call_of state.now command.now []) (change_named state.now command.now.change)))) }
+    ensures same { D.tells → GoesOn IsSame (D.state disk.old) (D.state disk.new) }
+    ensures stopped { IfErr result (λ stop. StopsReading D.tells (reads (D.state disk.old)) (versions_of (rows_based (call_of state.now command.now []) (change_named state.now command.now.change))) (HasRisen (D.faults disk.old) (D.faults disk.new)) stop) }
+    ensures later { D.faults disk.old ≤ D.faults disk.new }
+{
+    state.note_sound();
+    let rows = rows_based(alloc, state, command)?;
+    files_of_rows(alloc, disk, rows.as_slice())
+}
+
 /// The runs of a command that is accepted, made ready: the versions that are put into the directories are read, and each run gets
 /// its command.
 pub(crate) fn ready<D: Disk>(
@@ -132,39 +228,7 @@ pub(crate) fn ready<D: Disk>(
     ensures stopped { IfErr result (λ stop. StopsReading D.tells (reads (D.state disk.old)) (versions_for_runs command.now state.now) (HasRisen (D.faults disk.old) (D.faults disk.new)) stop) }
     ensures later { D.faults disk.old ≤ D.faults disk.new }
 {
-    let (refreshed, based) = read_rows(alloc, state, disk, command)?;
-    let tracked = tracked(alloc, state, command, view, based)?;
-    let changes = run_changes(alloc, state, command, refreshed, &tracked)?;
-    let Ok(jobs) = jobs_asked(alloc, state, command, view)? else {
-        unreachable!()
-    };
-    Ok(RunPlan {
-        changes,
-        tracked,
-        jobs,
-    })
-}
-
-// The files that are put into the develop directory and into the base directory before the runs, with their bytes.
-fn read_rows<D: Disk>(
-    alloc: Global,
-    state: &State,
-    disk: &mut D,
-    command: &Command,
-) -> Result<(FileList, FileList), Stop>
-    requires clean { D.tells → IsClean (D.state disk.old) }
-    ensures refreshed { IfOk result (λ files. D.tells → (bytes : ℕ → List ℕ) → HaveBytes (effective (reads (D.state disk.old))) (Some state.now) bytes → files.0 ≡ with_bytes bytes (rows_refreshed (call_of state.now command.now []) (change_named state.now command.now.change))) }
-    ensures based { IfOk result (λ files. D.tells → (bytes : ℕ → List ℕ) → HaveBytes (effective (reads (D.state disk.old))) (Some state.now) bytes → files.1 ≡ with_bytes bytes (rows_based (call_of state.now command.now []) (change_named state.now command.now.change))) }
-    ensures paths { IfOk result (λ files. paths_of files.1 ≡ map tree_path (rows_based (call_of state.now command.now []) (change_named state.now command.now.change))) }
-    ensures kept { OnOk result (D.tells → AreKept (effective (reads (D.state disk.old))) (versions_for_runs command.now state.now)) }
-    ensures same { D.tells → GoesOn IsSame (D.state disk.old) (D.state disk.new) }
-    ensures stopped { IfErr result (λ stop. StopsReading D.tells (reads (D.state disk.old)) (versions_for_runs command.now state.now) (HasRisen (D.faults disk.old) (D.faults disk.new)) stop) }
-    ensures later { D.faults disk.old ≤ D.faults disk.new }
-{
-    state.note_sound();
-    let rows = rows_refreshed(alloc, state, command)?;
-    let refreshed = files_of_rows(alloc, disk, rows.as_slice())?;
-    let rows = rows_based(alloc, state, command)?;
-    let based = files_of_rows(alloc, disk, rows.as_slice())?;
-    Ok((refreshed, based))
+    let refreshed = refreshed_files(alloc, state, disk, command)?;
+    let based = based_files(alloc, state, disk, command)?;
+    Ok(run_plan(alloc, state, command, view, refreshed, based)?)
 }

@@ -16,13 +16,10 @@ returns-in_err-bytes-clause-stopped g c =
     rw is (ends_for _ c.in_err-bytes.ensures.stopped (λ none. none) (λ refusal none. none)
     (λ name damaged tells. record { is_pack = (damaged tells).0; first = here c.args.row.now.version [] (subst (λ (v : VersionRef). IsKept (effective (reads (g.D.Disk.state c.args.disk.now))) v → ⊥) same (damaged tells).1) }) (λ rose. rose) (λ none. none))
 
-pub returns-in_err-copy-clause-stopped : goal.returns-in_err-copy-clause-stopped
-returns-in_err-copy-clause-stopped g c = let is : c.from_residual-in_err-copy.result ≡ Err stop.Memory = search rules in rw is memory
-
-pub returns-in_err-push-clause-stopped : goal.returns-in_err-push-clause-stopped
-returns-in_err-push-clause-stopped g c = let is : c.from_residual-in_err-push.result ≡ Err stop.Memory = search rules in rw is memory
-
 pub returns-clause-kept : goal.returns-clause-kept
 returns-clause-kept g c = λ tells.
     let same : c.row.inside.version ≡ c.args.row.now.version = search rules in
     (subst (λ (v : VersionRef). IsKept (effective (reads (g.D.Disk.state c.args.disk.now))) v) same (subst (AreOf c.row.inside.version) (c.in_ok-bytes.ensures.files tells) c.in_ok-bytes.ensures.kept), tt)
+
+pub returns-in_err-put_file-clause-stopped : goal.returns-in_err-put_file-clause-stopped
+returns-in_err-put_file-clause-stopped g c = let is : c.from_residual-in_err-put_file.result ≡ Err stop.Memory = search rules in rw is memory

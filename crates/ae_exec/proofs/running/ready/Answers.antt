@@ -1,48 +1,70 @@
-use Rattle.std.proofs.Common.{rules, ◌≡◌, ◌∙◌, ap, subst, List, Err}
-use Rattle.ae_base.specs.Rows.{Rows}
-use Rattle.ae_machine.specs.declared.directories.DirChange.{DirChange}
-use Rattle.ae_machine.specs.Call.{Given, change_named, change_of, given_of}
-use Rattle.ae_machine.specs.Directories.{dir_changes}
-use Rattle.ae_machine.specs.Fits.{tracked_in}
-use Rattle.ae_machine.specs.Jobs.{AnswersJobs}
-use Rattle.ae_machine.specs.Sight.{with_bytes}
-use Rattle.ae_machine.specs.Space.{placing}
+use Rattle.std.proofs.Common.{rules, ◌≡◌, ◌∙◌, ap, sym, subst, [], Option, Some, Err}
+use Rattle.ae_outside.specs.Image.{Image}
+use Rattle.ae_outside.specs.State.{reads}
+use Rattle.ae_outside.specs.Time.{same_reads}
+use Rattle.ae_vault.specs.Vault.{effective}
+use Rattle.ae_machine.specs.Call.{call_of, change_named}
+use Rattle.ae_machine.specs.Versions.{rows_based, rows_refreshed}
 use Rattle.ae_exec.specs.declared.stop.Stop.TheVariants as stop
+use Rattle.ae_exec.specs.Bytes.{rows_at}
 use Rattle.ae_exec.specs.Endings.{memory}
-use Rattle.ae_exec.proofs.RunReady.{based-by, no-refusal, of-ok, refreshed-by}
+use Rattle.ae_exec.specs.Reading.{AreKept, FirstIsLost, versions_of}
+use Rattle.ae_exec.proofs.Attempting.{risen_later}
+use Rattle.ae_exec.proofs.Endings.{ends_for}
+use Rattle.ae_exec.proofs.ReadInOrder.{lost-left, lost-right}
+use Rattle.ae_exec.proofs.RunVersions.{based-have, both-kept, refreshed-have}
 use Rattle.ae_exec.proofs.running.ready.Goals as goal
 
-pub returns-in_err-tracked-clause-stopped : goal.returns-in_err-tracked-clause-stopped
-returns-in_err-tracked-clause-stopped g c = let is : c.from_residual-in_err-tracked.result ≡ Err stop.Memory = search rules in rw is memory
+pub returns-in_err-refreshed-clause-stopped : goal.returns-in_err-refreshed-clause-stopped
+returns-in_err-refreshed-clause-stopped g c =
+    let is : c.from_residual.result ≡ Err c.in_err-refreshed.field-0.0 = search rules in
+    rw is (ends_for _ c.in_err-refreshed.ensures.stopped (λ none. none) (λ refusal none. none)
+    (λ name lost tells. record {
+      is_pack = (lost tells).is_pack;
+      first = lost-left (effective (reads (g.D.Disk.state c.args.disk.now)))
+          (versions_of (rows_refreshed (call_of c.args.state.now c.args.command.now []) (change_named c.args.state.now c.args.command.now.change)))
+          (versions_of (rows_based (call_of c.args.state.now c.args.command.now []) (change_named c.args.state.now c.args.command.now.change)))
+          (lost tells).first;
+    })
+    (λ rose. rose) (λ none. none))
 
-pub returns-in_err-changes-clause-stopped : goal.returns-in_err-changes-clause-stopped
-returns-in_err-changes-clause-stopped g c = let is : c.from_residual-in_err-changes.result ≡ Err stop.Memory = search rules in rw is memory
+pub returns-in_err-based-clause-stopped : goal.returns-in_err-based-clause-stopped
+returns-in_err-based-clause-stopped g c =
+    let is : c.from_residual-in_err-based.result ≡ Err c.in_err-based.field-0.0 = search rules in
+    rw is (ends_for _ c.in_err-based.ensures.stopped (λ none. none) (λ refusal none. none)
+    (λ name lost tells.
+    let same : effective (reads (g.D.Disk.state c.refreshed_files.new.disk)) ≡ effective (reads (g.D.Disk.state c.args.disk.now)) = ap effective (same_reads (g.D.Disk.state c.args.disk.now) (g.D.Disk.state c.refreshed_files.new.disk) (c.refreshed_files.ensures.same tells)) in
+    record {
+      is_pack = (lost tells).is_pack;
+      first = lost-right (effective (reads (g.D.Disk.state c.args.disk.now)))
+          (versions_of (rows_refreshed (call_of c.args.state.now c.args.command.now []) (change_named c.args.state.now c.args.command.now.change)))
+          (versions_of (rows_based (call_of c.args.state.now c.args.command.now []) (change_named c.args.state.now c.args.command.now.change)))
+          (c.in_ok-refreshed.ensures.kept tells)
+          (subst (λ (x : Option Image). FirstIsLost x (versions_of (rows_based (call_of c.args.state.now c.args.command.now []) (change_named c.args.state.now c.args.command.now.change)))) same (lost tells).first);
+    })
+    (λ rose. risen_later _ _ _ c.refreshed_files.ensures.later rose) (λ none. none))
 
-pub returns-in_err-jobs-clause-stopped : goal.returns-in_err-jobs-clause-stopped
-returns-in_err-jobs-clause-stopped g c = let is : c.from_residual-in_err-jobs.result ≡ Err stop.Memory = search rules in rw is memory
+pub returns-in_err-run_plan-clause-stopped : goal.returns-in_err-run_plan-clause-stopped
+returns-in_err-run_plan-clause-stopped g c = let is : c.from_residual-in_err-run_plan.result ≡ Err stop.Memory = search rules in rw is memory
 
-pub unreachable-requires : goal.unreachable-requires
-unreachable-requires g c =
-    let given : Given = given_of placing c.args.state.now c.requires.accepted.0 c.args.command.now c.requires.accepted.1 c.requires.accepted.2 c.args.view.now in
-    no-refusal given c.in_ok-jobs.field-0 c.in_default.field-0 c.in_default.is
-    (of-ok (AnswersJobs given) c.jobs_asked.result c.in_ok-jobs.field-0 c.in_ok-jobs.was
-    (c.jobs_asked.ensures.jobs placing c.requires.accepted.0 c.requires.accepted.1 c.requires.accepted.2 c.requires.accepted.3))
-    c.requires.accepted.4
+pub run_plan-requires-clause-accepted : goal.run_plan-requires-clause-accepted
+run_plan-requires-clause-accepted g c = c.requires.accepted
 
 pub returns-clause-are : goal.returns-clause-are
-returns-clause-are g c = λ tells bytes who when have shows.
-    let given : Given = given_of placing c.args.state.now bytes c.args.command.now who when c.args.view.now in
-    let tracked : c.in_ok-tracked.tracked ≡ tracked_in given (change_of given.call) =
-    of-ok (λ (tree : Rows). tree ≡ tracked_in given (change_of given.call)) c.tracked.result c.in_ok-tracked.tracked c.in_ok-tracked.was
-    (c.tracked.ensures placing bytes who when (c.in_ok-refreshed.ensures.based tells bytes have
-    ∙ ap (with_bytes bytes) (based-by c.args.state.now c.args.command.now who (change_named c.args.state.now c.args.command.now.change)))) in
-    record {
-      changes_are = of-ok (λ (changes : List DirChange). changes ≡ dir_changes given) c.run_changes.result c.in_ok-changes.changes c.in_ok-changes.was
-          (c.run_changes.ensures placing bytes who when c.args.view.now
-          (c.in_ok-refreshed.ensures.refreshed tells bytes have
-          ∙ ap (with_bytes bytes) (refreshed-by c.args.state.now c.args.command.now who (change_named c.args.state.now c.args.command.now.change)))
-          tracked);
-      tracked_are = tracked;
-      jobs_are = subst (AnswersJobs given) c.in-Ok.is
-          (of-ok (AnswersJobs given) c.jobs_asked.result c.in_ok-jobs.field-0 c.in_ok-jobs.was (c.jobs_asked.ensures.jobs placing bytes who when shows));
-    }
+returns-clause-are g c = λ tells bytes who when have.
+    let files : Option Image = effective (reads (g.D.Disk.state c.args.disk.now)) in
+    let same : effective (reads (g.D.Disk.state c.refreshed_files.new.disk)) ≡ files = ap effective (same_reads (g.D.Disk.state c.args.disk.now) (g.D.Disk.state c.refreshed_files.new.disk) (c.refreshed_files.ensures.same tells)) in
+    c.in_ok-run_plan.ensures.are bytes who when
+    (c.in_ok-refreshed.ensures.rows tells ∙ refreshed-have c.args.state.now files bytes have c.args.command.now)
+    (c.in_ok-based.ensures.rows tells
+    ∙ ap (λ (x : Option Image). rows_at x (rows_based (call_of c.args.state.now c.args.command.now []) (change_named c.args.state.now c.args.command.now.change))) same
+    ∙ based-have c.args.state.now files bytes have c.args.command.now)
+
+pub returns-clause-kept : goal.returns-clause-kept
+returns-clause-kept g c = λ tells.
+    let same : effective (reads (g.D.Disk.state c.refreshed_files.new.disk)) ≡ effective (reads (g.D.Disk.state c.args.disk.now)) = ap effective (same_reads (g.D.Disk.state c.args.disk.now) (g.D.Disk.state c.refreshed_files.new.disk) (c.refreshed_files.ensures.same tells)) in
+    both-kept (effective (reads (g.D.Disk.state c.args.disk.now)))
+    (versions_of (rows_refreshed (call_of c.args.state.now c.args.command.now []) (change_named c.args.state.now c.args.command.now.change)))
+    (versions_of (rows_based (call_of c.args.state.now c.args.command.now []) (change_named c.args.state.now c.args.command.now.change)))
+    (c.in_ok-refreshed.ensures.kept tells)
+    (subst (λ (x : Option Image). AreKept x (versions_of (rows_based (call_of c.args.state.now c.args.command.now []) (change_named c.args.state.now c.args.command.now.change)))) same (c.in_ok-based.ensures.kept tells))

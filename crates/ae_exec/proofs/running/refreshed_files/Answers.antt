@@ -1,0 +1,17 @@
+use Rattle.std.proofs.Common.{rules, ◌≡◌, sym, subst, All, List, [], Err}
+use Rattle.ae_types.specs.Trees.{TreeRow}
+use Rattle.ae_machine.specs.Call.{call_of, change_named}
+use Rattle.ae_machine.specs.Versions.{rows_refreshed}
+use Rattle.ae_exec.specs.declared.stop.Stop.TheVariants as stop
+use Rattle.ae_exec.specs.Endings.{memory}
+use Rattle.ae_exec.specs.Reading.{IsInside}
+use Rattle.ae_exec.proofs.RunVersions.{refreshed-inside}
+use Rattle.ae_exec.proofs.running.refreshed_files.Goals as goal
+
+pub returns-in_err-rows-clause-stopped : goal.returns-in_err-rows-clause-stopped
+returns-in_err-rows-clause-stopped g c = let is : c.from_residual.result ≡ Err stop.Memory = search rules in rw is memory
+
+pub files_of_rows-requires-clause-inside : goal.files_of_rows-requires-clause-inside
+files_of_rows-requires-clause-inside g c =
+    let are : c.as_slice.result.now ≡ rows_refreshed (call_of c.args.state.now c.args.command.now []) (change_named c.args.state.now c.args.command.now.change) = let e = c.in_ok-rows.ensures [] in search rules in
+    subst (All (λ (row : TreeRow). IsInside row.version)) (sym are) (refreshed-inside c.args.state.now c.note_sound.ensures.sound c.args.command.now)
