@@ -1,6 +1,7 @@
 -- The runs of an accepted command, made ready.
 use Rattle.std.specs.Prelude.{◌≡◌, ℕ, List, [], Option, Some, None, Result, Ok, Err, IfOk}
-use Rattle.std.proofs.Common.{refl, sym, subst, ◌∙◌}
+use Rattle.std.specs.Result.{IsErrAnd}
+use Rattle.std.proofs.Common.{ap, refl, sym, subst, ◌∙◌}
 use Rattle.ae_base.specs.declared.refusal.Refusal.{Refusal}
 use Rattle.ae_base.specs.declared.words.Kind.{Kind}
 use Rattle.ae_base.specs.declared.words.Kind.TheVariants as kind
@@ -22,6 +23,11 @@ of-ok P result value is holds = subst (λ (r : Result _ _). IfOk r P) is holds
 pub ok-then : {A E : Type 0} (P Q : A → Type 0) → ((value : A) → P value → Q value) → (result : Result A E) → IfOk result P → IfOk result Q
 ok-then P Q then (Ok value) holds = then value holds
 ok-then P Q then (Err error) holds = holds
+
+-- an error of which this is ensured is this one
+pub err-is : {A E : Type 0} (result : Result A E) (why : E) → IsErrAnd result (λ (error : E). error ≡ why) → result ≡ Err why
+err-is (Ok value) why none = absurd none
+err-is (Err error) why is = ap Err is
 
 -- each run has a command where `configured` refuses nothing
 pub no-refusal : (given : Given) (jobs : Result (List Job) Refusal) (refusal : Refusal) → jobs ≡ Err refusal → AnswersJobs given jobs → configured given ≡ None → ⊥

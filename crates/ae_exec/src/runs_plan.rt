@@ -1,5 +1,5 @@
 // A build or a test is planned.
-ghost use Rattle.std.specs.Prelude.{◌≡◌, ◌≤◌, true, Some, None, Option, IfOk, IfErr, option_copied};
+ghost use Rattle.std.specs.Prelude.{◌≡◌, ◌≤◌, ℕ, List, true, Some, None, Option, IfOk, IfErr, option_copied};
 ghost use Rattle.ae_base.specs.Limits.{last_moment};
 ghost use Rattle.ae_base.specs.declared.outcome.Outcome.{Outcome};
 ghost use Rattle.ae_outside.specs.Causes.{HasRisen};
@@ -11,11 +11,15 @@ ghost use Rattle.ae_words.specs.Formed.{IsFormed};
 ghost use Rattle.ae_machine.specs.Called.{called};
 ghost use Rattle.ae_machine.specs.Fits.{makes_runs};
 ghost use Rattle.ae_machine.specs.Legal.{is_one_command};
-ghost use Rattle.ae_machine.specs.Verdict.{refused_before};
+ghost use Rattle.ae_log.specs.declared.event.Event.{Event};
+ghost use Rattle.ae_machine.specs.declared.verdict.Verdict.TheVariants.{Accept};
+ghost use Rattle.ae_machine.specs.Space.{placing};
+ghost use Rattle.ae_machine.specs.Verdict.{refused_before, verdict};
+ghost use Rattle.ae_machine.specs.Versions.{ShowsVersions};
 ghost use Rattle.ae_exec.specs.Directories.{LeavesDirs};
 ghost use Rattle.ae_exec.specs.Endings.{EndsAs, outcome_of, outcome_of_stop};
-ghost use Rattle.ae_exec.specs.Plan.{IsPlanned};
-ghost use Rattle.ae_exec.specs.Seen.{CallsSiteOn, IsRefusedOn, LosesVersion};
+ghost use Rattle.ae_exec.specs.Plan.{IsMade, IsPlanned};
+ghost use Rattle.ae_exec.specs.Seen.{CallsSiteOn, IsDecidedSo, IsRefusedOn, LosesVersion};
 
 use crate::plan::{Plan, answer_on, prepare};
 use crate::running::{make_runs, ready};
@@ -26,7 +30,7 @@ use ae_machine::{RunRowList, Verdict, View, runs_dir};
 use ae_outside::{Disk, Site};
 use ae_types::State;
 use ae_words::Command;
-use std::alloc::Global;
+use std::alloc::{AllocError, Global};
 
 /// What is put and said of a command that makes runs, and that nothing refuses which asks nothing of the directories.
 pub(crate) fn plan_runs<D: Disk, S: Site>(
@@ -68,6 +72,30 @@ fn with_runs(view: View, runs: RunRowList) -> View
     }
 }
 
+// What is put and said of a command that is accepted, with what it sees after its runs.
+fn plan_accepted(
+    alloc: Global,
+    state: &State,
+    command: &Command,
+    who: &User,
+    now: u64,
+    status_line: bool,
+    view: &View,
+) -> Result<Plan, AllocError>
+    requires formed { IsFormed command.now }
+    requires one { is_one_command command.now.function ≡ true }
+    requires moment { now ≤ last_moment }
+    requires runs { makes_runs command.now.function ≡ true }
+    requires passed { refused_before (Some state.now) command.now who.now ≡ None }
+    requires accepted { (bytes : ℕ → List ℕ) × ShowsVersions (Some state.now) bytes command.now who.now view.now × (events : List Event) × (verdict placing (Some state.now) bytes command.now who.now now view.now ≡ Accept events) }
+    ensures { IfOk result (λ plan. (events : List Event) × IsDecidedSo (Some state.now) command.now who.now now view.now (Accept events) × IsMade (Some state.now) command.now status_line events plan.batch plan.finished) }
+{
+    match answer_on(alloc, state, command, who, now, view)? {
+        Verdict::Accept(events) => prepare(alloc, Some(state), command, events, status_line),
+        Verdict::Refuse(_) => unreachable!(),
+    }
+}
+
 // The same where a project stands.
 fn plan_runs_on<D: Disk, S: Site>(
     alloc: Global,
@@ -103,10 +131,7 @@ fn plan_runs_on<D: Disk, S: Site>(
     drop(plan);
     let runs = made?;
     let view = with_runs(view, runs);
-    let verdict = answer_on(alloc, state, command, who, now, &view);
+    let planned = plan_accepted(alloc, state, command, who, now, status_line, &view);
     drop(view);
-    match verdict? {
-        Verdict::Accept(events) => Ok(prepare(alloc, Some(state), command, events, status_line)?),
-        Verdict::Refuse(_) => unreachable!(),
-    }
+    Ok(planned?)
 }

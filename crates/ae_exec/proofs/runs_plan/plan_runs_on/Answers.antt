@@ -1,3 +1,4 @@
+use Rattle.std.proofs.Math.Nat.{le_trans}
 use Rattle.std.proofs.Common.{rules, refl, ◌≡◌, ◌∙◌, ap, sym, subst, inr, ℕ, List, Option, Some, Err}
 use Rattle.ae_outside.specs.Image.{Image}
 use Rattle.ae_outside.specs.Site.{SiteState}
@@ -5,6 +6,7 @@ use Rattle.ae_outside.specs.State.{reads}
 use Rattle.ae_outside.specs.Time.{same_on, same_reads}
 use Rattle.ae_vault.specs.Vault.{effective}
 use Rattle.ae_machine.specs.declared.verdict.Verdict.TheVariants.{Accept, Refuse}
+use Rattle.ae_machine.specs.declared.view.View.{View}
 use Rattle.ae_machine.specs.Called.{Called, answer_to, called}
 use Rattle.ae_machine.specs.Directories.{dirs_after}
 use Rattle.ae_machine.specs.Real.{IsLeft}
@@ -29,15 +31,16 @@ use Rattle.ae_exec.specs.Stopping.{stop_of_dirs}
 use Rattle.ae_exec.proofs.Attempting.{risen_later}
 use Rattle.ae_exec.proofs.Endings.{ends_for}
 use Rattle.ae_exec.proofs.Ended.{dirs_err}
-use Rattle.ae_exec.proofs.OwnDirs.{dirs_ends, dirs_touch, leaves-runs, leaves-still}
+use Rattle.ae_exec.proofs.OwnDirs.{dirs_ends, dirs_touch, early-so, early-still, no-disk-fault, leaves-runs, leaves-still}
 use Rattle.ae_exec.proofs.Following.{same_answer}
 use Rattle.ae_exec.proofs.RunAnswers.{accepted-configured, accepted-with}
 use Rattle.ae_exec.proofs.RanSo.{all-kept, lost-later, of_ok, ran-both, refused-so, unrun-answer}
+use Rattle.ae_exec.proofs.RunReady.{err-is}
 use Rattle.ae_exec.proofs.runs_plan.plan_runs_on.Goals as goal
 
 pub returns-in_err-view-clause-stopped : goal.returns-in_err-view-clause-stopped
 returns-in_err-view-clause-stopped g c =
-    let is : c.from_residual.result ≡ Err c.in_err-view.field-0.0 = search rules in
+    let is : c.from_residual.result ≡ Err c.in_err-view.field-0.0 = err-is _ _ c.from_residual.ensures.1 in
     let call : Called = called c.args.command.now c.args.who.now c.args.now (g.S.Site.state c.args.site.now) (g.S.Site.state c.see.new.site) in
     rw is (ends_for _ (c.in_err-view.ensures.stopped c.args.who.now c.args.now) (λ none. none)
     (λ refusal seen tells told. refused-so (effective (reads (g.D.Disk.state c.args.disk.now))) c.args.state.now call c.requires.runs c.requires.passed (c.see.ensures.site_same told) refusal
@@ -47,7 +50,7 @@ returns-in_err-view-clause-stopped g c =
 
 pub returns-in_err-plan-clause-stopped : goal.returns-in_err-plan-clause-stopped
 returns-in_err-plan-clause-stopped g c =
-    let is : c.from_residual-in_err-plan.result ≡ Err c.in_err-plan.field-0.0 = search rules in
+    let is : c.from_residual-in_err-plan.result ≡ Err c.in_err-plan.field-0.0 = err-is _ _ c.from_residual-in_err-plan.ensures.1 in
     let call : Called = called c.args.command.now c.args.who.now c.args.now (g.S.Site.state c.args.site.now) (g.S.Site.state c.see.new.site) in
     rw is (ends_for _ c.in_err-plan.ensures.stopped (λ none. none) (λ refusal none. absurd none)
     (λ name lost tells told.
@@ -62,23 +65,17 @@ returns-in_err-plan-clause-stopped g c =
 
 pub returns-in_err-runs-clause-stopped : goal.returns-in_err-runs-clause-stopped
 returns-in_err-runs-clause-stopped g c =
-    let is : c.from_residual-in_err-runs.result ≡ Err (stop_of_dirs c.in_err-runs.field-0.0) = search rules in
+    let is : c.from_residual-in_err-runs.result ≡ Err (stop_of_dirs c.in_err-runs.field-0.0) = err-is _ _ c.from_residual-in_err-runs.ensures.1 in
     rw is (dirs_ends c.in_err-runs.field-0.0 (λ failed. (risen_later _ _ _ c.see.ensures.site_later (c.in_err-runs.ensures.cause.rose (ap Err failed)), λ tells told. reading c.requires.passed (inr (runs-read-files c.args.command.now.function c.requires.runs)))))
 
 pub returns-in_err-runs-clause-same : goal.returns-in_err-runs-clause-same
 returns-in_err-runs-clause-same g c = λ tells. same_on (g.D.Disk.state c.args.disk.now) (g.D.Disk.state c.see.new.disk) (g.D.Disk.state c.ready.new.disk) (c.see.ensures.same tells) (c.ready.ensures.same tells)
 
-pub returns-in_err-events-clause-stopped : goal.returns-in_err-events-clause-stopped
-returns-in_err-events-clause-stopped g c = let is : c.from_residual-in_err-events.result ≡ Err stop.Memory = search rules in rw is memory
+pub returns-in_err-planned-clause-stopped : goal.returns-in_err-planned-clause-stopped
+returns-in_err-planned-clause-stopped g c = let is : c.from_residual-in_err-planned.result ≡ Err stop.Memory = err-is _ _ c.from_residual-in_err-planned.ensures.1 in rw is memory
 
-pub returns-in_err-events-clause-same : goal.returns-in_err-events-clause-same
-returns-in_err-events-clause-same g c = λ tells. same_on (g.D.Disk.state c.args.disk.now) (g.D.Disk.state c.see.new.disk) (g.D.Disk.state c.ready.new.disk) (c.see.ensures.same tells) (c.ready.ensures.same tells)
-
-pub returns-in_err-prepare-in-Accept-clause-stopped : goal.returns-in_err-prepare-in-Accept-clause-stopped
-returns-in_err-prepare-in-Accept-clause-stopped g c = let is : c.from_residual-in_err-prepare-in-Accept.result ≡ Err stop.Memory = search rules in rw is memory
-
-pub returns-in_err-prepare-in-Accept-clause-same : goal.returns-in_err-prepare-in-Accept-clause-same
-returns-in_err-prepare-in-Accept-clause-same g c = λ tells. same_on (g.D.Disk.state c.args.disk.now) (g.D.Disk.state c.see.new.disk) (g.D.Disk.state c.ready.new.disk) (c.see.ensures.same tells) (c.ready.ensures.same tells)
+pub returns-in_err-planned-clause-same : goal.returns-in_err-planned-clause-same
+returns-in_err-planned-clause-same g c = λ tells. same_on (g.D.Disk.state c.args.disk.now) (g.D.Disk.state c.see.new.disk) (g.D.Disk.state c.ready.new.disk) (c.see.ensures.same tells) (c.ready.ensures.same tells)
 
 pub returns-clause-same : goal.returns-clause-same
 returns-clause-same g c = λ tells. same_on (g.D.Disk.state c.args.disk.now) (g.D.Disk.state c.see.new.disk) (g.D.Disk.state c.ready.new.disk) (c.see.ensures.same tells) (c.ready.ensures.same tells)
@@ -94,30 +91,6 @@ ready-requires-clause-accepted g c =
           (c.in_ok-refusal.ensures.is shown.0 (shown.1 c.args.who.now) ∙ c.in_default.is),
     )
 
-pub prepare-requires-clause-follow : goal.prepare-requires-clause-follow
-prepare-requires-clause-follow g c =
-    let shown = c.in_ok-view.ensures.shown in
-    let shows : ShowsVersions (Some c.args.state.now) shown.0 c.args.command.now c.args.who.now c.with_runs-view.result = subst (ShowsVersions (Some c.args.state.now) shown.0 c.args.command.now c.args.who.now) (sym c.with_runs-view.ensures) (shown.1 c.args.who.now) in
-    subst (λ (v : Verdict). IfAccepted v (MayFollow (Some c.args.state.now))) c.in-Accept.is
-    (of_ok (λ (v : Verdict). IfAccepted v (MayFollow (Some c.args.state.now))) c.answer_on-verdict.result _ c.in_ok-events.was (c.answer_on-verdict.ensures.follow shown.0 shows))
-
-pub prepare-requires-clause-put : goal.prepare-requires-clause-put
-prepare-requires-clause-put g c =
-    let shown = c.in_ok-view.ensures.shown in
-    let shows : ShowsVersions (Some c.args.state.now) shown.0 c.args.command.now c.args.who.now c.with_runs-view.result = subst (ShowsVersions (Some c.args.state.now) shown.0 c.args.command.now c.args.who.now) (sym c.with_runs-view.ensures) (shown.1 c.args.who.now) in
-    subst (λ (v : Verdict). IfAccepted v MayBePut) c.in-Accept.is
-    (of_ok (λ (v : Verdict). IfAccepted v MayBePut) c.answer_on-verdict.result _ c.in_ok-events.was (c.answer_on-verdict.ensures.put shown.0 shows))
-
-pub unreachable-requires : goal.unreachable-requires
-unreachable-requires g c =
-    let shown = c.in_ok-view.ensures.shown in
-    let first : verdict placing (Some c.args.state.now) shown.0 c.args.command.now c.args.who.now c.args.now c.in_ok-view.view ≡ Accept c.in_default.field-0 = c.in_ok-refusal.ensures.is shown.0 (shown.1 c.args.who.now) ∙ c.in_default.is in
-    let then = accepted-with c.args.state.now shown.0 c.args.command.now c.args.who.now c.args.now c.in_ok-view.view c.in_ok-runs.runs c.in_default.field-0 c.requires.runs c.requires.passed first in
-    let shows : ShowsVersions (Some c.args.state.now) shown.0 c.args.command.now c.args.who.now c.with_runs-view.result = subst (ShowsVersions (Some c.args.state.now) shown.0 c.args.command.now c.args.who.now) (sym c.with_runs-view.ensures) (shown.1 c.args.who.now) in
-    let refused_so = ap (verdict placing (Some c.args.state.now) shown.0 c.args.command.now c.args.who.now c.args.now) (sym c.with_runs-view.ensures) ∙ c.in_ok-events.ensures.is shown.0 shows ∙ c.in-Refuse-2.is in
-    let both = sym then ∙ refused_so in
-    cc
-
 pub returns-clause-planned : goal.returns-clause-planned
 returns-clause-planned g c =
     let files : Option Image = effective (reads (g.D.Disk.state c.args.disk.now)) in
@@ -125,9 +98,9 @@ returns-clause-planned g c =
     let call : Called = called c.args.command.now c.args.who.now c.args.now (g.S.Site.state c.args.site.now) (g.S.Site.state c.make_runs-made.new.site) in
     let kept : g.D.Disk.tells → AreKept files (versions_for_runs c.args.command.now c.args.state.now) = λ tells.
     subst (λ (x : Option Image). AreKept x (versions_for_runs c.args.command.now c.args.state.now)) (ap effective (same_reads (g.D.Disk.state c.args.disk.now) (g.D.Disk.state c.see.new.disk) (c.see.ensures.same tells))) (c.in_ok-plan.ensures.kept tells) in
-    let decided : IsDecidedSo (Some c.args.state.now) c.args.command.now c.args.who.now c.args.now (record c.in_ok-view.view { runs = c.in_ok-runs.runs }) (Accept c.in-Accept.events) =
-    same_answer (Some c.args.state.now) c.args.command.now c.args.who.now c.args.now _ _ _ _ c.with_runs-view.ensures c.in-Accept.is c.in_ok-events.ensures.is in
-    let ran : g.D.Disk.tells → g.S.Site.tells → (bytes : ℕ → List ℕ) → HaveBytes files (Some c.args.state.now) bytes → (answer_to (Some c.args.state.now) bytes call ≡ Accept c.in-Accept.events) × IsLeft (Some c.args.state.now) bytes call = λ tells told bytes have.
+    let decided : IsDecidedSo (Some o) c.args.command.now c.args.who.now c.args.now (record c.in_ok-view.view { runs = c.in_ok-runs.runs }) (Accept c.in_ok-planned.ensures.0) =
+    subst (λ (v : View). IsDecidedSo (Some o) c.args.command.now c.args.who.now c.args.now v (Accept c.in_ok-planned.ensures.0)) c.with_runs-view.ensures c.in_ok-planned.ensures.1 in
+    let ran : g.D.Disk.tells → g.S.Site.tells → (bytes : ℕ → List ℕ) → HaveBytes files (Some c.args.state.now) bytes → (answer_to (Some c.args.state.now) bytes call ≡ Accept c.in_ok-planned.ensures.0) × IsLeft (Some c.args.state.now) bytes call = λ tells told bytes have.
     let shows : ShowsVersions (Some c.args.state.now) bytes c.args.command.now c.args.who.now c.in_ok-view.view = c.in_ok-view.ensures.shows tells bytes c.args.who.now have in
     let same : effective (reads (g.D.Disk.state c.see.new.disk)) ≡ files = ap effective (same_reads (g.D.Disk.state c.args.disk.now) (g.D.Disk.state c.see.new.disk) (c.see.ensures.same tells)) in
     ran-both files c.args.state.now call c.note_sound.ensures.sound c.requires.runs c.requires.formed c.requires.passed (c.in_ok-view.ensures.kept tells) (kept tells) bytes have
@@ -137,17 +110,17 @@ returns-clause-planned g c =
     c.in_ok-plan.ensures.ascends c.in_ok-runs.ensures.whole
     (subst (λ (st : SiteState). c.in_ok-plan.plan.tracked ≡ dir_reads.tracked_in (dirs_after c.in_ok-plan.plan.changes st.trees c.runs_dir.result) c.in_ok-plan.plan.tracked
     → HaveRun c.runs_dir.result c.in_ok-plan.plan.changes (paths_of c.in_ok-plan.plan.tracked) c.in_ok-plan.plan.jobs c.in_ok-runs.runs st (g.S.Site.state c.make_runs-made.new.site)) (c.see.ensures.site_same told) (c.in_ok-runs.ensures.ran told))
-    (Accept c.in-Accept.events) shows decided in
+    (Accept c.in_ok-planned.ensures.0) shows decided in
     record {
-      events = c.in-Accept.events;
+      events = c.in_ok-planned.ensures.0;
       accepted = λ told bytes have. (ran told.0 told.1 bytes have).0;
       left = λ told bytes have. (ran told.0 told.1 bytes have).1;
       kept = λ told. all-kept c.args.state.now c.args.command.now c.args.who.now c.requires.formed c.requires.runs c.requires.passed files (c.in_ok-view.ensures.kept told.0) (kept told.0);
-      made = c.in_ok-prepare-in-Accept.ensures;
+      made = c.in_ok-planned.ensures.2;
     }
 
 pub returns-in_err-refusal-clause-stopped : goal.returns-in_err-refusal-clause-stopped
-returns-in_err-refusal-clause-stopped g c = let is : c.from_residual-in_err-refusal.result ≡ Err stop.Memory = search rules in rw is memory
+returns-in_err-refusal-clause-stopped g c = let is : c.from_residual-in_err-refusal.result ≡ Err stop.Memory = err-is _ _ c.from_residual-in_err-refusal.ensures.1 in rw is memory
 
 pub returns-in-Refuse-clause-stopped : goal.returns-in-Refuse-clause-stopped
 returns-in-Refuse-clause-stopped g c =
@@ -173,19 +146,99 @@ returns-in_err-plan-clause-directories g c = λ seen. leaves-still c.args.comman
 
 pub returns-in_err-runs-clause-directories : goal.returns-in_err-runs-clause-directories
 returns-in_err-runs-clause-directories g c = λ seen.
-    dirs_err c.args.command.now (g.S.Site.state c.args.site.now) (g.S.Site.state c.make_runs-made.new.site) _ (stop_of_dirs c.in_err-runs.field-0.0) (search rules)
+    dirs_err c.args.command.now (g.S.Site.state c.args.site.now) (g.S.Site.state c.make_runs-made.new.site) _ (stop_of_dirs c.in_err-runs.field-0.0) (err-is _ _ c.from_residual-in_err-runs.ensures.1)
     (leaves-runs c.args.command.now (g.S.Site.state c.args.site.now) (g.S.Site.state c.make_runs-made.new.site) _ c.requires.runs (dirs_touch c.in_err-runs.field-0.0) (subst (λ (st : SiteState). MakesByteRuns st (g.S.Site.state c.make_runs-made.new.site)) (c.see.ensures.site_same seen) (c.make_runs-made.ensures.bytes seen)))
 
-pub returns-in_err-events-clause-directories : goal.returns-in_err-events-clause-directories
-returns-in_err-events-clause-directories g c = λ seen.
-    dirs_err c.args.command.now (g.S.Site.state c.args.site.now) (g.S.Site.state c.make_runs-made.new.site) _ stop.Memory (search rules)
-    (leaves-runs c.args.command.now (g.S.Site.state c.args.site.now) (g.S.Site.state c.make_runs-made.new.site) _ c.requires.runs (λ none. none) (subst (λ (st : SiteState). MakesByteRuns st (g.S.Site.state c.make_runs-made.new.site)) (c.see.ensures.site_same seen) (c.make_runs-made.ensures.bytes seen)))
-
-pub returns-in_err-prepare-in-Accept-clause-directories : goal.returns-in_err-prepare-in-Accept-clause-directories
-returns-in_err-prepare-in-Accept-clause-directories g c = λ seen.
-    dirs_err c.args.command.now (g.S.Site.state c.args.site.now) (g.S.Site.state c.make_runs-made.new.site) _ stop.Memory (search rules)
+pub returns-in_err-planned-clause-directories : goal.returns-in_err-planned-clause-directories
+returns-in_err-planned-clause-directories g c = λ seen.
+    dirs_err c.args.command.now (g.S.Site.state c.args.site.now) (g.S.Site.state c.make_runs-made.new.site) _ stop.Memory (err-is _ _ c.from_residual-in_err-planned.ensures.1)
     (leaves-runs c.args.command.now (g.S.Site.state c.args.site.now) (g.S.Site.state c.make_runs-made.new.site) _ c.requires.runs (λ none. none) (subst (λ (st : SiteState). MakesByteRuns st (g.S.Site.state c.make_runs-made.new.site)) (c.see.ensures.site_same seen) (c.make_runs-made.ensures.bytes seen)))
 
 pub returns-clause-directories : goal.returns-clause-directories
 returns-clause-directories g c = λ seen.
     leaves-runs c.args.command.now (g.S.Site.state c.args.site.now) (g.S.Site.state c.make_runs-made.new.site) _ c.requires.runs (λ none. none) (subst (λ (st : SiteState). MakesByteRuns st (g.S.Site.state c.make_runs-made.new.site)) (c.see.ensures.site_same seen) (c.make_runs-made.ensures.bytes seen))
+
+pub plan_accepted-planned-requires-clause-accepted : goal.plan_accepted-planned-requires-clause-accepted
+plan_accepted-planned-requires-clause-accepted g c =
+    let shown = c.in_ok-view.ensures.shown in
+    let first : verdict placing (Some c.args.state.now) shown.0 c.args.command.now c.args.who.now c.args.now c.in_ok-view.view ≡ Accept c.in_default.field-0 = c.in_ok-refusal.ensures.is shown.0 (shown.1 c.args.who.now) ∙ c.in_default.is in (
+      shown.0,
+      subst (ShowsVersions (Some c.args.state.now) shown.0 c.args.command.now c.args.who.now) (sym c.with_runs-view.ensures) (shown.1 c.args.who.now),
+      _,
+      ap (verdict placing (Some c.args.state.now) shown.0 c.args.command.now c.args.who.now c.args.now) c.with_runs-view.ensures
+          ∙ accepted-with c.args.state.now shown.0 c.args.command.now c.args.who.now c.args.now c.in_ok-view.view c.in_ok-runs.runs c.in_default.field-0 c.requires.runs c.requires.passed first,
+    )
+
+-- ---- what follows from the calls alone
+
+pub returns-in_err-view-clause-same : goal.returns-in_err-view-clause-same
+returns-in_err-view-clause-same g c = c.see.ensures.same
+
+pub returns-in_err-view-clause-disk_later : goal.returns-in_err-view-clause-disk_later
+returns-in_err-view-clause-disk_later g c = c.see.ensures.disk_later
+
+pub returns-in_err-refusal-clause-same : goal.returns-in_err-refusal-clause-same
+returns-in_err-refusal-clause-same g c = c.see.ensures.same
+
+pub returns-in_err-refusal-clause-disk_later : goal.returns-in_err-refusal-clause-disk_later
+returns-in_err-refusal-clause-disk_later g c = c.see.ensures.disk_later
+
+pub returns-in-Refuse-clause-same : goal.returns-in-Refuse-clause-same
+returns-in-Refuse-clause-same g c = c.see.ensures.same
+
+pub returns-in-Refuse-clause-disk_later : goal.returns-in-Refuse-clause-disk_later
+returns-in-Refuse-clause-disk_later g c = c.see.ensures.disk_later
+
+pub returns-in_err-plan-clause-same : goal.returns-in_err-plan-clause-same
+returns-in_err-plan-clause-same g c = λ tells. same_on (g.D.Disk.state c.args.disk.now) (g.D.Disk.state c.see.new.disk) (g.D.Disk.state c.ready.new.disk) (c.see.ensures.same tells) (c.ready.ensures.same tells)
+
+pub returns-in_err-view-clause-early : goal.returns-in_err-view-clause-early
+returns-in_err-view-clause-early g c = λ told. early-still (g.S.Site.state c.args.site.now) (g.S.Site.state c.see.new.site) _ (c.see.ensures.site_same told)
+
+pub returns-in_err-view-clause-site_later : goal.returns-in_err-view-clause-site_later
+returns-in_err-view-clause-site_later g c = c.see.ensures.site_later
+
+pub returns-in_err-refusal-clause-early : goal.returns-in_err-refusal-clause-early
+returns-in_err-refusal-clause-early g c = λ told. early-still (g.S.Site.state c.args.site.now) (g.S.Site.state c.see.new.site) _ (c.see.ensures.site_same told)
+
+pub returns-in_err-refusal-clause-site_later : goal.returns-in_err-refusal-clause-site_later
+returns-in_err-refusal-clause-site_later g c = c.see.ensures.site_later
+
+pub returns-in-Refuse-clause-early : goal.returns-in-Refuse-clause-early
+returns-in-Refuse-clause-early g c = λ told fault. c.see.ensures.site_same told
+
+pub returns-in-Refuse-clause-site_later : goal.returns-in-Refuse-clause-site_later
+returns-in-Refuse-clause-site_later g c = c.see.ensures.site_later
+
+pub returns-in_err-plan-clause-early : goal.returns-in_err-plan-clause-early
+returns-in_err-plan-clause-early g c = λ told. early-still (g.S.Site.state c.args.site.now) (g.S.Site.state c.see.new.site) _ (c.see.ensures.site_same told)
+
+pub returns-in_err-plan-clause-site_later : goal.returns-in_err-plan-clause-site_later
+returns-in_err-plan-clause-site_later g c = c.see.ensures.site_later
+
+pub returns-in_err-plan-clause-disk_later : goal.returns-in_err-plan-clause-disk_later
+returns-in_err-plan-clause-disk_later g c = le_trans c.see.ensures.disk_later c.ready.ensures.later
+
+pub returns-in_err-runs-clause-disk_later : goal.returns-in_err-runs-clause-disk_later
+returns-in_err-runs-clause-disk_later g c = le_trans c.see.ensures.disk_later c.ready.ensures.later
+
+pub returns-in_err-planned-clause-disk_later : goal.returns-in_err-planned-clause-disk_later
+returns-in_err-planned-clause-disk_later g c = le_trans c.see.ensures.disk_later c.ready.ensures.later
+
+pub returns-clause-disk_later : goal.returns-clause-disk_later
+returns-clause-disk_later g c = le_trans c.see.ensures.disk_later c.ready.ensures.later
+
+pub returns-in_err-runs-clause-site_later : goal.returns-in_err-runs-clause-site_later
+returns-in_err-runs-clause-site_later g c = le_trans c.see.ensures.site_later c.make_runs-made.ensures.cause.later
+
+pub returns-in_err-planned-clause-site_later : goal.returns-in_err-planned-clause-site_later
+returns-in_err-planned-clause-site_later g c = le_trans c.see.ensures.site_later c.make_runs-made.ensures.cause.later
+
+pub returns-clause-site_later : goal.returns-clause-site_later
+returns-clause-site_later g c = le_trans c.see.ensures.site_later c.make_runs-made.ensures.cause.later
+
+pub returns-in_err-runs-clause-early : goal.returns-in_err-runs-clause-early
+returns-in_err-runs-clause-early g c = λ told. early-so (g.S.Site.state c.args.site.now) (g.S.Site.state c.make_runs-made.new.site) _ (stop_of_dirs c.in_err-runs.field-0.0) c.from_residual-in_err-runs.ensures.1 (no-disk-fault c.in_err-runs.field-0.0)
+
+pub returns-in_err-planned-clause-early : goal.returns-in_err-planned-clause-early
+returns-in_err-planned-clause-early g c = λ told. early-so (g.S.Site.state c.args.site.now) (g.S.Site.state c.make_runs-made.new.site) _ stop.Memory c.from_residual-in_err-planned.ensures.1 (λ fault. cc)
