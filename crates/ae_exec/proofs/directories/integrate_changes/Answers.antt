@@ -17,10 +17,11 @@ use Rattle.ae_exec.proofs.Endings.{ends_for}
 use Rattle.ae_exec.proofs.OwnDirs.{named-at, one-own, integrate-own, integrated-changes}
 use Rattle.ae_exec.proofs.PathRows.{integrate-read, reads-none}
 use Rattle.ae_exec.proofs.RunVersions.{candidate-have}
+use Rattle.ae_exec.proofs.RunReady.{err-is}
 use Rattle.ae_exec.proofs.directories.integrate_changes.Goals as goal
 
 pub returns-in_err-one_change-clause-stopped : goal.returns-in_err-one_change-clause-stopped
-returns-in_err-one_change-clause-stopped g c = let is : c.from_residual-in_err-one_change.result ≡ Err stop.Memory = search rules in rw is memory
+returns-in_err-one_change-clause-stopped g c = let is : c.from_residual-in_err-one_change.result ≡ Err stop.Memory = err-is _ _ c.from_residual-in_err-one_change.ensures.1 in rw is memory
 
 pub returns-clause-own : goal.returns-clause-own
 returns-clause-own g c =

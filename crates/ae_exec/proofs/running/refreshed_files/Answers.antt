@@ -6,10 +6,11 @@ use Rattle.ae_exec.specs.declared.stop.Stop.TheVariants as stop
 use Rattle.ae_exec.specs.Endings.{memory}
 use Rattle.ae_exec.specs.Reading.{IsInside}
 use Rattle.ae_exec.proofs.RunVersions.{refreshed-inside}
+use Rattle.ae_exec.proofs.RunReady.{err-is}
 use Rattle.ae_exec.proofs.running.refreshed_files.Goals as goal
 
 pub returns-in_err-rows-clause-stopped : goal.returns-in_err-rows-clause-stopped
-returns-in_err-rows-clause-stopped g c = let is : c.from_residual.result ≡ Err stop.Memory = search rules in rw is memory
+returns-in_err-rows-clause-stopped g c = let is : c.from_residual.result ≡ Err stop.Memory = err-is _ _ c.from_residual.ensures.1 in rw is memory
 
 pub files_of_rows-requires-clause-inside : goal.files_of_rows-requires-clause-inside
 files_of_rows-requires-clause-inside g c =

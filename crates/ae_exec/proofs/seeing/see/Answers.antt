@@ -1,3 +1,4 @@
+use Rattle.std.proofs.Math.Nat.{le_trans}
 use Rattle.std.proofs.Common.{rules, ◌≡◌, ◌∙◌, ap, sym, subst, ℕ, List, [], ◌++◌, Option, Some, Err}
 use Rattle.std.specs.List.{cons_option}
 use Rattle.ae_outside.specs.declared.dir.Content.{Content}
@@ -22,15 +23,16 @@ use Rattle.ae_exec.proofs.Compared.{asked-kept-so, bytes-for-both, lost-config}
 use Rattle.ae_exec.proofs.Endings.{ends_for}
 use Rattle.ae_exec.proofs.FirstSeen.{asked-row, rows-show}
 use Rattle.ae_exec.proofs.RunAnswers.{refused-alone, refused-differing}
+use Rattle.ae_exec.proofs.RunReady.{err-is}
 use Rattle.ae_exec.proofs.seeing.see.Goals as goal
 
 pub returns-in_err-view-clause-stopped : goal.returns-in_err-view-clause-stopped
 returns-in_err-view-clause-stopped g c = λ who when.
-    let is : c.from_residual.result ≡ Err c.in_err-view.field-0.0 = search rules in
+    let is : c.from_residual.result ≡ Err c.in_err-view.field-0.0 = err-is _ _ c.from_residual.ensures.1 in
     rw is (ends_for _ c.in_err-view.ensures.stopped (λ none. none) (λ refusal none. absurd none) (λ name none. absurd none) (λ none. absurd none) (λ rose. rose.0))
 
 pub returns-in_err-refusal-clause-stopped : goal.returns-in_err-refusal-clause-stopped
-returns-in_err-refusal-clause-stopped g c = λ who when. let is : c.from_residual-in_err-refusal.result ≡ Err stop.Memory = search rules in rw is memory
+returns-in_err-refusal-clause-stopped g c = λ who when. let is : c.from_residual-in_err-refusal.result ≡ Err stop.Memory = err-is _ _ c.from_residual-in_err-refusal.ensures.1 in rw is memory
 
 pub returns-in-Some-clause-stopped : goal.returns-in-Some-clause-stopped
 returns-in-Some-clause-stopped g c = λ who when. refused c.in-Some.refusal (λ tells seen.
@@ -40,7 +42,7 @@ returns-in-Some-clause-stopped g c = λ who when. refused c.in-Some.refusal (λ 
 
 pub returns-in_err-compare-clause-stopped : goal.returns-in_err-compare-clause-stopped
 returns-in_err-compare-clause-stopped g c = λ who when.
-    let is : c.from_residual-in_err-compare.result ≡ Err c.in_err-compare.field-0.0 = search rules in
+    let is : c.from_residual-in_err-compare.result ≡ Err c.in_err-compare.field-0.0 = err-is _ _ c.from_residual-in_err-compare.ensures.1 in
     rw is (ends_for _ c.in_err-compare.ensures.stopped (λ none. none)
     (λ refusal differs tells seen.
     refused-differing (effective (reads (g.D.Disk.state c.args.disk.now))) c.args.state.now (called c.args.command.now who when (g.S.Site.state c.args.site.now) (g.S.Site.state c.args.site.now)) c.requires.runs refusal
@@ -54,7 +56,7 @@ returns-in_err-compare-clause-stopped g c = λ who when.
 
 pub returns-in_err-row-clause-stopped : goal.returns-in_err-row-clause-stopped
 returns-in_err-row-clause-stopped g c = λ who when.
-    let is : c.from_residual-in_err-row.result ≡ Err c.in_err-row.field-0.0 = search rules in
+    let is : c.from_residual-in_err-row.result ≡ Err c.in_err-row.field-0.0 = err-is _ _ c.from_residual-in_err-row.ensures.1 in
     rw is (ends_for _ c.in_err-row.ensures.stopped (λ none. none) (λ refusal none. absurd none)
     (λ name lost tells seen. (
       ap (λ (v : View). files_refused (given_of placing c.args.state.now no_bytes c.args.command.now who when v)) (sym (c.in_ok-view.ensures.alone seen who when)) ∙ sym (c.in_ok-refusal.ensures placing no_bytes who when) ∙ c.in_default.is,
@@ -66,7 +68,7 @@ pub returns-in_err-row-clause-same : goal.returns-in_err-row-clause-same
 returns-in_err-row-clause-same g c = λ tells. same_on (g.D.Disk.state c.args.disk.now) (g.D.Disk.state c.compare.new.disk) (g.D.Disk.state c.read_config.new.disk) (c.compare.ensures.same tells) (c.read_config.ensures.same tells)
 
 pub returns-in_err-seen-clause-stopped : goal.returns-in_err-seen-clause-stopped
-returns-in_err-seen-clause-stopped g c = λ who when. let is : c.from_residual-in_err-seen.result ≡ Err stop.Memory = search rules in rw is memory
+returns-in_err-seen-clause-stopped g c = λ who when. let is : c.from_residual-in_err-seen.result ≡ Err stop.Memory = err-is _ _ c.from_residual-in_err-seen.ensures.1 in rw is memory
 
 pub returns-in_err-seen-clause-same : goal.returns-in_err-seen-clause-same
 returns-in_err-seen-clause-same g c = λ tells. same_on (g.D.Disk.state c.args.disk.now) (g.D.Disk.state c.compare.new.disk) (g.D.Disk.state c.read_config.new.disk) (c.compare.ensures.same tells) (c.read_config.ensures.same tells)
@@ -109,3 +111,62 @@ returns-clause-files g c = λ seen. (
   cons_option c.in_ok-row.row [],
   ap (λ (v : View). v.develop) c.in_ok-seen.ensures ∙ ap (λ (v : View). v.develop ++ cons_option c.in_ok-row.row []) (c.in_ok-view.ensures.alone seen [] 0),
 )
+
+-- ---- what follows from the calls alone
+
+pub returns-in_err-view-clause-site_same : goal.returns-in_err-view-clause-site_same
+returns-in_err-view-clause-site_same g c = c.see_files.ensures.same
+
+pub returns-in_err-view-clause-site_later : goal.returns-in_err-view-clause-site_later
+returns-in_err-view-clause-site_later g c = c.see_files.ensures.later
+
+pub returns-in_err-refusal-clause-site_same : goal.returns-in_err-refusal-clause-site_same
+returns-in_err-refusal-clause-site_same g c = c.see_files.ensures.same
+
+pub returns-in_err-refusal-clause-site_later : goal.returns-in_err-refusal-clause-site_later
+returns-in_err-refusal-clause-site_later g c = c.see_files.ensures.later
+
+pub returns-in-Some-clause-site_same : goal.returns-in-Some-clause-site_same
+returns-in-Some-clause-site_same g c = c.see_files.ensures.same
+
+pub returns-in-Some-clause-site_later : goal.returns-in-Some-clause-site_later
+returns-in-Some-clause-site_later g c = c.see_files.ensures.later
+
+pub returns-in_err-compare-clause-site_same : goal.returns-in_err-compare-clause-site_same
+returns-in_err-compare-clause-site_same g c = c.see_files.ensures.same
+
+pub returns-in_err-compare-clause-site_later : goal.returns-in_err-compare-clause-site_later
+returns-in_err-compare-clause-site_later g c = c.see_files.ensures.later
+
+pub returns-in_err-row-clause-site_same : goal.returns-in_err-row-clause-site_same
+returns-in_err-row-clause-site_same g c = c.see_files.ensures.same
+
+pub returns-in_err-row-clause-site_later : goal.returns-in_err-row-clause-site_later
+returns-in_err-row-clause-site_later g c = c.see_files.ensures.later
+
+pub returns-in_err-seen-clause-site_same : goal.returns-in_err-seen-clause-site_same
+returns-in_err-seen-clause-site_same g c = c.see_files.ensures.same
+
+pub returns-in_err-seen-clause-site_later : goal.returns-in_err-seen-clause-site_later
+returns-in_err-seen-clause-site_later g c = c.see_files.ensures.later
+
+pub returns-clause-site_same : goal.returns-clause-site_same
+returns-clause-site_same g c = c.see_files.ensures.same
+
+pub returns-clause-site_later : goal.returns-clause-site_later
+returns-clause-site_later g c = c.see_files.ensures.later
+
+pub returns-in_err-compare-clause-same : goal.returns-in_err-compare-clause-same
+returns-in_err-compare-clause-same g c = c.compare.ensures.same
+
+pub returns-in_err-compare-clause-disk_later : goal.returns-in_err-compare-clause-disk_later
+returns-in_err-compare-clause-disk_later g c = c.compare.ensures.later
+
+pub returns-in_err-row-clause-disk_later : goal.returns-in_err-row-clause-disk_later
+returns-in_err-row-clause-disk_later g c = le_trans c.compare.ensures.later c.read_config.ensures.later
+
+pub returns-in_err-seen-clause-disk_later : goal.returns-in_err-seen-clause-disk_later
+returns-in_err-seen-clause-disk_later g c = le_trans c.compare.ensures.later c.read_config.ensures.later
+
+pub returns-clause-disk_later : goal.returns-clause-disk_later
+returns-clause-disk_later g c = le_trans c.compare.ensures.later c.read_config.ensures.later

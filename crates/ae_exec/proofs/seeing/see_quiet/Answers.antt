@@ -10,11 +10,12 @@ use Rattle.ae_exec.specs.Seen.{seen_alone}
 use Rattle.ae_exec.specs.Stopping.{stop_of_site}
 use Rattle.ae_exec.proofs.Endings.{site_ends}
 use Rattle.ae_exec.proofs.Stores.{if_ok}
+use Rattle.ae_exec.proofs.RunReady.{err-is}
 use Rattle.ae_exec.proofs.seeing.see_quiet.Goals as goal
 
 pub returns-in_err-look-in-None-clause-stopped : goal.returns-in_err-look-in-None-clause-stopped
 returns-in_err-look-in-None-clause-stopped g c =
-    let is : c.from_residual.result ≡ Err (stop_of_site c.in_err-look-in-None.field-0.0) = search rules in
+    let is : c.from_residual.result ≡ Err (stop_of_site c.in_err-look-in-None.field-0.0) = err-is _ _ c.from_residual.ensures.1 in
     rw is (site_ends c.in_err-look-in-None.field-0.0 (λ failed. (c.in_err-look-in-None.ensures.cause.rose (ap Err failed), inl (let asked = c.in_err-look-in-None.ensures.asked (ap Err failed) in search rules))))
 
 pub returns-in-Some-clause-seen : goal.returns-in-Some-clause-seen
