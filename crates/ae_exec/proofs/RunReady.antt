@@ -19,11 +19,6 @@ use Rattle.ae_machine.specs.Versions.{rows_based, rows_refreshed, rows_under}
 pub of-ok : {A E : Type 0} (P : A → Type 0) (result : Result A E) (value : A) → result ≡ Ok value → IfOk result P → P value
 of-ok P result value is holds = subst (λ (r : Result _ _). IfOk r P) is holds
 
--- what holds of each value for which something is ensured holds of a result's
-pub ok-then : {A E : Type 0} (P Q : A → Type 0) → ((value : A) → P value → Q value) → (result : Result A E) → IfOk result P → IfOk result Q
-ok-then P Q then (Ok value) holds = then value holds
-ok-then P Q then (Err error) holds = holds
-
 -- an error of which this is ensured is this one
 pub err-is : {A E : Type 0} (result : Result A E) (why : E) → IsErrAnd result (λ (error : E). error ≡ why) → result ≡ Err why
 err-is (Ok value) why none = absurd none

@@ -14,3 +14,11 @@ pub files_of_rows-requires-clause-inside : goal.files_of_rows-requires-clause-in
 files_of_rows-requires-clause-inside g c =
     let are : c.as_slice.result.now ≡ candidate_of c.args.state.now c.args.change.now = search rules in
     subst (All (λ (row : TreeRow). IsInside row.version)) (sym are) (candidate-inside c.args.state.now c.note_sound.ensures.sound c.args.number c.args.change.now c.requires.named)
+
+-- ---- what follows from the calls alone
+
+pub returns-clause-same : goal.returns-clause-same
+returns-clause-same g c = c.files_of_rows.ensures.same
+
+pub returns-clause-later : goal.returns-clause-later
+returns-clause-later g c = c.files_of_rows.ensures.later

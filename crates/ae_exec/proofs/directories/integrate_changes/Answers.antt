@@ -39,3 +39,23 @@ pub candidate_files-requires-clause-named : goal.candidate_files-requires-clause
 candidate_files-requires-clause-named g c =
     let found : option_and_then (change_at c.args.state.now) c.args.command.now.change ≡ Some c.in-Some.change.now = search rules in
     named-at c.args.state.now c.args.command.now.change c.in-Some.change.now found
+
+-- ---- what follows from the calls alone
+
+pub returns-in_err-files-clause-same : goal.returns-in_err-files-clause-same
+returns-in_err-files-clause-same g c = c.candidate_files.ensures.same
+
+pub returns-in_err-files-clause-later : goal.returns-in_err-files-clause-later
+returns-in_err-files-clause-later g c = c.candidate_files.ensures.later
+
+pub returns-in_err-one_change-clause-same : goal.returns-in_err-one_change-clause-same
+returns-in_err-one_change-clause-same g c = c.candidate_files.ensures.same
+
+pub returns-in_err-one_change-clause-later : goal.returns-in_err-one_change-clause-later
+returns-in_err-one_change-clause-later g c = c.candidate_files.ensures.later
+
+pub returns-clause-same : goal.returns-clause-same
+returns-clause-same g c = c.candidate_files.ensures.same
+
+pub returns-clause-later : goal.returns-clause-later
+returns-clause-later g c = c.candidate_files.ensures.later

@@ -24,3 +24,23 @@ returns-clause-kept g c = λ tells.
 
 pub returns-in_err-put_file-clause-stopped : goal.returns-in_err-put_file-clause-stopped
 returns-in_err-put_file-clause-stopped g c = let is : c.from_residual-in_err-put_file.result ≡ Err stop.Memory = err-is _ _ c.from_residual-in_err-put_file.ensures.1 in rw is memory
+
+-- ---- what follows from the calls alone
+
+pub returns-in_err-bytes-clause-same : goal.returns-in_err-bytes-clause-same
+returns-in_err-bytes-clause-same g c = c.read_version.ensures.same
+
+pub returns-in_err-bytes-clause-later : goal.returns-in_err-bytes-clause-later
+returns-in_err-bytes-clause-later g c = c.read_version.ensures.later
+
+pub returns-in_err-put_file-clause-same : goal.returns-in_err-put_file-clause-same
+returns-in_err-put_file-clause-same g c = c.read_version.ensures.same
+
+pub returns-in_err-put_file-clause-later : goal.returns-in_err-put_file-clause-later
+returns-in_err-put_file-clause-later g c = c.read_version.ensures.later
+
+pub returns-clause-same : goal.returns-clause-same
+returns-clause-same g c = c.read_version.ensures.same
+
+pub returns-clause-later : goal.returns-clause-later
+returns-clause-later g c = c.read_version.ensures.later

@@ -3,7 +3,7 @@ use Rattle.ae_machine.specs.declared.verdict.Verdict.{Verdict}
 use Rattle.ae_exec.specs.Next.{IfAccepted, MayFollow}
 use Rattle.ae_exec.specs.Writing.{MayBePut}
 use Rattle.ae_exec.proofs.RanSo.{of_ok}
-use Rattle.ae_exec.proofs.RunReady.{ok-then}
+use Rattle.ae_exec.proofs.Stores.{if_ok}
 use Rattle.ae_exec.proofs.runs_plan.plan_accepted.Goals as goal
 
 pub prepare-requires-clause-follow : goal.prepare-requires-clause-follow
@@ -25,4 +25,4 @@ unreachable-requires c =
     cc
 
 pub returns : goal.returns
-returns c = ok-then _ _ (λ plan made. (c.in-Accept.events, (λ bytes shows. c.in_ok-events.ensures.is bytes shows ∙ c.in-Accept.is), made)) c.prepare.result c.prepare.ensures
+returns c = if_ok _ _ c.prepare.result c.prepare.ensures (λ plan made. (c.in-Accept.events, (λ bytes shows. c.in_ok-events.ensures.is bytes shows ∙ c.in-Accept.is), made))

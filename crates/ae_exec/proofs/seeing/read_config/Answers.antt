@@ -44,3 +44,17 @@ returns-clause-told g c = λ tells bytes have.
     let text : c.of.result ≡ c.in_ok-bytes.bytes.items = search rules in
     let same : c.of.result ≡ bytes c.row.inside.version.number = text ∙ c.in_ok-bytes.ensures.files tells ∙ sym (have c.row.inside.version (list-in (live c.args.state.now.files c.args.state.now.changes) c.row.inside.version (config-lives c.args.state.now c.args.command.now file found))) in
     ap (λ (b : List ℕ). (c.row.inside.path, Bytes b) ∷ []) same ∙ ap (config_row bytes) (sym found)
+
+-- ---- what follows from the calls alone
+
+pub returns-in_err-bytes-clause-same : goal.returns-in_err-bytes-clause-same
+returns-in_err-bytes-clause-same g c = c.read_version.ensures.same
+
+pub returns-in_err-bytes-clause-later : goal.returns-in_err-bytes-clause-later
+returns-in_err-bytes-clause-later g c = c.read_version.ensures.later
+
+pub returns-clause-same : goal.returns-clause-same
+returns-clause-same g c = c.read_version.ensures.same
+
+pub returns-clause-later : goal.returns-clause-later
+returns-clause-later g c = c.read_version.ensures.later

@@ -27,3 +27,29 @@ returns-in-Some-clause-seen g c =
 pub returns-in_ok-look-in-None-clause-short : goal.returns-in_ok-look-in-None-clause-short
 returns-in_ok-look-in-None-clause-short g c =
     subst (All (λ (row : List ℕ × Content). IsAtMost most_file_bytes row.1)) (sym c.in_ok-look-in-None.ensures.nothing) (All-nil (λ (row : List ℕ × Content). IsAtMost most_file_bytes row.1))
+
+-- ---- what follows from the calls alone
+
+pub returns-in-Some-clause-short : goal.returns-in-Some-clause-short
+returns-in-Some-clause-short g c = c.see_files.ensures.short
+
+pub returns-in-Some-clause-same : goal.returns-in-Some-clause-same
+returns-in-Some-clause-same g c = c.see_files.ensures.same
+
+pub returns-in-Some-clause-stopped : goal.returns-in-Some-clause-stopped
+returns-in-Some-clause-stopped g c = c.see_files.ensures.stopped
+
+pub returns-in-Some-clause-later : goal.returns-in-Some-clause-later
+returns-in-Some-clause-later g c = c.see_files.ensures.later
+
+pub returns-in_err-look-in-None-clause-same : goal.returns-in_err-look-in-None-clause-same
+returns-in_err-look-in-None-clause-same g c = c.look.ensures.same
+
+pub returns-in_err-look-in-None-clause-later : goal.returns-in_err-look-in-None-clause-later
+returns-in_err-look-in-None-clause-later g c = c.look.ensures.cause.later
+
+pub returns-in_ok-look-in-None-clause-same : goal.returns-in_ok-look-in-None-clause-same
+returns-in_ok-look-in-None-clause-same g c = c.look.ensures.same
+
+pub returns-in_ok-look-in-None-clause-later : goal.returns-in_ok-look-in-None-clause-later
+returns-in_ok-look-in-None-clause-later g c = c.look.ensures.cause.later
