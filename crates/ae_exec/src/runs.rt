@@ -1,8 +1,8 @@
 // The runs of a command: what is said of them, and which fail.
-ghost use Rattle.std.specs.Prelude.{◌≡◌, ◌++◌, [], codes, if◌then◌else◌, IfOk, option_copied};
+ghost use Rattle.std.specs.Prelude.{◌≡◌, ◌++◌, [], codes, if◌then◌else◌, IfOk, OnOk, option_copied};
 ghost use Rattle.ae_types.specs.Runs.{wanted};
 ghost use Rattle.ae_log.specs.Runs.{run_status, same_rows};
-ghost use Rattle.ae_machine.specs.Replies.{exit_text, quoted_path, run_noun, run_text};
+ghost use Rattle.ae_machine.specs.Replies.{exit_text, quoted, quoted_path, run_noun, run_text};
 ghost use Rattle.ae_exec.specs.Said.{a_run_failed, has_failed_run, run_passes};
 
 use ae_base::{Kind, Path};
@@ -73,26 +73,36 @@ fn noun(kind: Kind) -> &'static [u8]
     }
 }
 
-// The path of a test, in quotes.
-fn path_text(alloc: Global, path: Option<&Path>) -> Result<Vec<u8>, AllocError>
-    ensures { IfOk result (λ text. text.items ≡ quoted_path (option_copied path.entry)) }
+/// A name, in quotes, is put at the end.
+pub(crate) fn put_quoted(text: &mut Vec<u8>, name: &[u8]) -> Result<(), AllocError>
+    ensures { OnOk result (text.new.items ≡ text.old.items ++ quoted name.now) }
 {
-    let Some(path) = path else {
-        return Ok(Vec::new(alloc));
-    };
-    let mut text = Vec::from_slice(alloc, b"\"")?;
-    text.extend_from_slice(path.bytes())?;
     text.extend_from_slice(b"\"")?;
-    Ok(text)
+    text.extend_from_slice(name)?;
+    text.extend_from_slice(b"\"")
 }
 
-// How it ended.
-fn exit_text(alloc: Global, exit: Exit) -> Result<Vec<u8>, AllocError>
-    ensures { IfOk result (λ text. text.items ≡ exit_text exit) }
+// The path of a test, in quotes, is put at the end.
+fn put_path(text: &mut Vec<u8>, path: Option<&Path>) -> Result<(), AllocError>
+    ensures { OnOk result (text.new.items ≡ text.old.items ++ quoted_path (option_copied path.entry)) }
+{
+    match path {
+        Some(path) => put_quoted(text, path.bytes()),
+        None => Ok(()),
+    }
+}
+
+// How it ended is put at the end.
+fn put_exit(alloc: Global, text: &mut Vec<u8>, exit: Exit) -> Result<(), AllocError>
+    ensures { OnOk result (text.new.items ≡ text.old.items ++ exit_text exit) }
 {
     match exit {
-        Exit::Code(code) => Ok(format!(in alloc; ": status {code}")?.into_bytes()),
-        Exit::Signal(signal) => Ok(format!(in alloc; ": signal {signal}")?.into_bytes()),
+        Exit::Code(code) => {
+            text.extend_from_slice(format!(in alloc; ": status {code}")?.as_bytes())
+        }
+        Exit::Signal(signal) => {
+            text.extend_from_slice(format!(in alloc; ": signal {signal}")?.as_bytes())
+        }
     }
 }
 
@@ -112,8 +122,8 @@ pub(crate) fn run_text(alloc: Global, run: &RunEvent) -> Result<Vec<u8>, AllocEr
     ensures { IfOk result (λ text. text.items ≡ run_text run.now) }
 {
     let mut text = Vec::from_slice(alloc, noun(run.kind))?;
-    text.extend_from_slice(path_text(alloc, run.path.as_ref())?.as_slice())?;
-    text.extend_from_slice(exit_text(alloc, run.exit)?.as_slice())?;
+    put_path(&mut text, run.path.as_ref())?;
+    put_exit(alloc, &mut text, run.exit)?;
     text.extend_from_slice(files_text(run))?;
     Ok(text)
 }
