@@ -1,5 +1,5 @@
 -- The answer to a command with runs: before its files are read, before its runs are made, and with them.
-use Rattle.std.specs.Prelude.{◌≡◌, ℕ, Bool, true, false, not, if◌then◌else◌, List, [], ◌∷◌, ◌++◌, Option, Some, None}
+use Rattle.std.specs.Prelude.{◌≡◌, ℕ, Bool, true, false, not, if◌then◌else◌, List, [], ◌∷◌, ◌++◌, ◌⊎◌, Option, Some, None}
 use Rattle.std.specs.List.{find}
 use Rattle.std.specs.Option.{option_and_then, option_map, option_or}
 use Rattle.std.specs.Str.{bytes_eq}
@@ -201,3 +201,13 @@ module _ (files : Option Image) (o : Observation) (called : Called) (makes : mak
         ∙ differs bytes have;
     kept = λ passes. kept;
   }
+
+  -- one or the other, where this was seen of its files
+  pub either-refused : (seen : View) → seen ≡ files_alone o called
+      → (files_refused (given_before o no_bytes called seen) ≡ Some refusal) ⊎ ((files_refused (given_before o no_bytes called seen) ≡ None)
+      × ((bytes : ℕ → List ℕ) → HaveBytes files (Some o) bytes → first_differing seen (with_bytes bytes (compared_for called.command o)) ≡ Some refusal) × AreKept files (asked_of called.command (Some o)))
+      → FilesRefuse files o called refusal
+  either-refused seen alone (inl is) = refused-alone (ap (λ (v : View). files_refused (given_before o no_bytes called v)) (sym alone) ∙ is)
+  either-refused seen alone (inr differs) =
+      refused-differing (ap (λ (v : View). files_refused (given_before o no_bytes called v)) (sym alone) ∙ differs.0)
+      (λ bytes have. ap (λ (v : View). first_differing v (with_bytes bytes (compared_for called.command o))) (sym alone) ∙ differs.1 bytes have) differs.2

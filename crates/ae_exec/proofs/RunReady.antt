@@ -1,5 +1,5 @@
 -- The runs of an accepted command, made ready.
-use Rattle.std.specs.Prelude.{◌≡◌, ℕ, List, [], Option, Some, None, Result, Ok, Err, IfOk}
+use Rattle.std.specs.Prelude.{◌≡◌, ℕ, List, [], Option, Some, None, Result, Ok, Err, IfOk, OnOk}
 use Rattle.std.specs.Result.{IsErrAnd}
 use Rattle.std.proofs.Common.{ap, refl, sym, subst, ◌∙◌}
 use Rattle.ae_base.specs.declared.refusal.Refusal.{Refusal}
@@ -18,6 +18,11 @@ use Rattle.ae_machine.specs.Versions.{rows_based, rows_refreshed, rows_under}
 -- what is ensured of a result holds of its value
 pub of-ok : {A E : Type 0} (P : A → Type 0) (result : Result A E) (value : A) → result ≡ Ok value → IfOk result P → P value
 of-ok P result value is holds = subst (λ (r : Result _ _). IfOk r P) is holds
+
+-- what holds in any case holds where all went well
+pub on-ok : {A E : Type 0} (P : Type 0) (result : Result A E) → P → OnOk result P
+on-ok P (Ok value) holds = holds
+on-ok P (Err error) holds = tt
 
 -- an error of which this is ensured is this one
 pub err-is : {A E : Type 0} (result : Result A E) (why : E) → IsErrAnd result (λ (error : E). error ≡ why) → result ≡ Err why

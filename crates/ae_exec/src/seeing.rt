@@ -10,13 +10,15 @@ ghost use Rattle.ae_dirs.specs.declared.error.DirsError.{DirsError};
 ghost use Rattle.ae_vault.specs.Commit.{IsClean};
 ghost use Rattle.ae_vault.specs.Vault.{effective};
 ghost use Rattle.ae_machine.specs.Accepted.{RowsShort};
-ghost use Rattle.ae_machine.specs.Call.{call_of, change_named};
+ghost use Rattle.ae_machine.specs.Call.{call_of, change_named, given_of};
 ghost use Rattle.ae_machine.specs.Called.{called, files_seen, given_at, given_before};
 ghost use Rattle.ae_machine.specs.Fits.{config_row, makes_runs, path_of_row, paths_asked, reads_files};
-ghost use Rattle.ae_machine.specs.Versions.{ShowsVersions, config_version, files_refused};
+ghost use Rattle.ae_machine.specs.Sight.{with_bytes};
+ghost use Rattle.ae_machine.specs.Space.{placing};
+ghost use Rattle.ae_machine.specs.Versions.{ShowsVersions, config_version, files_refused, first_differing};
 ghost use Rattle.ae_exec.specs.Bytes.{HaveBytes};
 ghost use Rattle.ae_exec.specs.Endings.{EndsAs, StopsReading, outcome_of_stop};
-ghost use Rattle.ae_exec.specs.Reading.{AreKept, IsLostAmong, asked_of, versions_of};
+ghost use Rattle.ae_exec.specs.Reading.{AreKept, IsLostAmong, asked_of, compared_for, versions_of};
 ghost use Rattle.ae_exec.specs.Seen.{FilesRefuse, files_alone, no_bytes, seen_alone};
 
 use crate::comparing::compare;
@@ -126,6 +128,33 @@ fn with_row(view: View, row: Option<(Path, Content)>) -> Result<View, AllocError
     Ok(view)
 }
 
+// The row of the baseline's aegis.conf, if it is read, once the files of this view have refused nothing and were compared.
+fn asked_row<D: Disk>(
+    alloc: Global,
+    state: &State,
+    disk: &mut D,
+    command: &Command,
+    view: &View,
+) -> Result<Option<(Path, Content)>, Stop>
+    requires clean { D.tells → IsClean (D.state disk.old) }
+    requires runs { makes_runs command.now.function ≡ true }
+    ensures row { IfOk result (λ row. (bytes : List ℕ) × (cons_option row [] ≡ config_row (λ number. bytes) (config_version (call_of state.now command.now []) (change_named state.now command.now.change)))) }
+    ensures told { IfOk result (λ row. D.tells → (bytes : ℕ → List ℕ) → HaveBytes (effective (reads (D.state disk.old))) (Some state.now) bytes → cons_option row [] ≡ config_row bytes (config_version (call_of state.now command.now []) (change_named state.now command.now.change))) }
+    ensures some { OnOk result ((bytes : ℕ → List ℕ) × (first_differing view.now (with_bytes bytes (compared_for command.now state.now)) ≡ None)) }
+    ensures none { OnOk result (D.tells → (bytes : ℕ → List ℕ) → HaveBytes (effective (reads (D.state disk.old))) (Some state.now) bytes → first_differing view.now (with_bytes bytes (compared_for command.now state.now)) ≡ None) }
+    ensures kept { OnOk result (D.tells → AreKept (effective (reads (D.state disk.old))) (asked_of command.now (Some state.now))) }
+    ensures same { D.tells → GoesOn IsSame (D.state disk.old) (D.state disk.new) }
+    ensures stopped { (who : List ℕ) (when : ℕ) → let refused = files_refused (given_of placing state.now no_bytes command.now who when view.now) in
+        IfErr result (λ stop. EndsAs ⊥ ⊥ (λ refusal. D.tells → (refused ≡ Some refusal) ⊎ ((refused ≡ None) × ((bytes : ℕ → List ℕ) → HaveBytes (effective (reads (D.state disk.old))) (Some state.now) bytes → first_differing view.now (with_bytes bytes (compared_for command.now state.now)) ≡ Some refusal) × AreKept (effective (reads (D.state disk.old))) (asked_of command.now (Some state.now)))) (λ name. D.tells → (refused ≡ None) × IsLostAmong (reads (D.state disk.old)) (asked_of command.now (Some state.now)) name) (HasRisen (D.faults disk.old) (D.faults disk.new)) ⊥ (outcome_of_stop stop)) }
+    ensures later { D.faults disk.old ≤ D.faults disk.new }
+{
+    if let Some(refusal) = files_refused(alloc, state, command, view)? {
+        return Err(Stop::Refused(refusal));
+    }
+    compare(alloc, state, disk, command, view)?;
+    read_config(alloc, state, disk, command)
+}
+
 /// What the command sees before its runs: the files of its change that it reads, and after them the baseline's aegis.conf, where
 /// the commands of its runs are taken from it. It is refused before that is read, in development where one of the files is
 /// missing or too long, in integration where one differs from the candidate's version.
@@ -151,11 +180,7 @@ pub(crate) fn see<D: Disk, S: Site>(
     ensures site_later { S.faults site.old ≤ S.faults site.new }
 {
     let view = see_files(alloc, state, site, command)?;
-    if let Some(refusal) = files_refused(alloc, state, command, &view)? {
-        return Err(Stop::Refused(refusal));
-    }
-    compare(alloc, state, disk, command, &view)?;
-    let row = read_config(alloc, state, disk, command)?;
+    let row = asked_row(alloc, state, disk, command, &view)?;
     let seen = with_row(view, row)?;
     Ok(seen)
 }

@@ -22,7 +22,7 @@ use Rattle.ae_exec.proofs.Attempting.{risen_later}
 use Rattle.ae_exec.proofs.Compared.{asked-kept-so, bytes-for-both, lost-config}
 use Rattle.ae_exec.proofs.Endings.{ends_for}
 use Rattle.ae_exec.proofs.FirstSeen.{asked-row, rows-show}
-use Rattle.ae_exec.proofs.RunAnswers.{refused-alone, refused-differing}
+use Rattle.ae_exec.proofs.RunAnswers.{either-refused}
 use Rattle.ae_exec.proofs.RunReady.{err-is}
 use Rattle.ae_exec.proofs.seeing.see.Goals as goal
 
@@ -31,68 +31,30 @@ returns-in_err-view-clause-stopped g c = λ who when.
     let is : c.from_residual.result ≡ Err c.in_err-view.field-0.0 = err-is _ _ c.from_residual.ensures.1 in
     rw is (ends_for _ c.in_err-view.ensures.stopped (λ none. none) (λ refusal none. absurd none) (λ name none. absurd none) (λ none. absurd none) (λ rose. rose.0))
 
-pub returns-in_err-refusal-clause-stopped : goal.returns-in_err-refusal-clause-stopped
-returns-in_err-refusal-clause-stopped g c = λ who when. let is : c.from_residual-in_err-refusal.result ≡ Err stop.Memory = err-is _ _ c.from_residual-in_err-refusal.ensures.1 in rw is memory
-
-pub returns-in-Some-clause-stopped : goal.returns-in-Some-clause-stopped
-returns-in-Some-clause-stopped g c = λ who when. refused c.in-Some.refusal (λ tells seen.
-    refused-alone (effective (reads (g.D.Disk.state c.args.disk.now))) c.args.state.now (called c.args.command.now who when (g.S.Site.state c.args.site.now) (g.S.Site.state c.args.site.now)) c.requires.runs c.in-Some.refusal
-    (ap (λ (v : View). files_refused (given_of placing c.args.state.now no_bytes c.args.command.now who when v)) (sym (c.in_ok-view.ensures.alone seen who when))
-    ∙ sym (c.in_ok-refusal.ensures placing no_bytes who when) ∙ c.in-Some.is))
-
-pub returns-in_err-compare-clause-stopped : goal.returns-in_err-compare-clause-stopped
-returns-in_err-compare-clause-stopped g c = λ who when.
-    let is : c.from_residual-in_err-compare.result ≡ Err c.in_err-compare.field-0.0 = err-is _ _ c.from_residual-in_err-compare.ensures.1 in
-    rw is (ends_for _ c.in_err-compare.ensures.stopped (λ none. none)
-    (λ refusal differs tells seen.
-    refused-differing (effective (reads (g.D.Disk.state c.args.disk.now))) c.args.state.now (called c.args.command.now who when (g.S.Site.state c.args.site.now) (g.S.Site.state c.args.site.now)) c.requires.runs refusal
-    (ap (λ (v : View). files_refused (given_of placing c.args.state.now no_bytes c.args.command.now who when v)) (sym (c.in_ok-view.ensures.alone seen who when)) ∙ sym (c.in_ok-refusal.ensures placing no_bytes who when) ∙ c.in_default.is)
-    (λ bytes have. ap (λ (v : View). first_differing v (with_bytes bytes (compared_for c.args.command.now c.args.state.now))) (sym (c.in_ok-view.ensures.alone seen who when)) ∙ (differs tells).0 bytes have)
-    (differs tells).1)
-    (λ name lost tells seen. (
-      ap (λ (v : View). files_refused (given_of placing c.args.state.now no_bytes c.args.command.now who when v)) (sym (c.in_ok-view.ensures.alone seen who when)) ∙ sym (c.in_ok-refusal.ensures placing no_bytes who when) ∙ c.in_default.is,
-      lost tells,
-    )) (λ rose. rose) (λ none. absurd none))
-
 pub returns-in_err-row-clause-stopped : goal.returns-in_err-row-clause-stopped
 returns-in_err-row-clause-stopped g c = λ who when.
+    let call : Called = called c.args.command.now who when (g.S.Site.state c.args.site.now) (g.S.Site.state c.args.site.now) in
     let is : c.from_residual-in_err-row.result ≡ Err c.in_err-row.field-0.0 = err-is _ _ c.from_residual-in_err-row.ensures.1 in
-    rw is (ends_for _ c.in_err-row.ensures.stopped (λ none. none) (λ refusal none. absurd none)
+    rw is (ends_for _ (c.in_err-row.ensures.stopped who when) (λ none. none)
+    (λ refusal why tells seen. either-refused (effective (reads (g.D.Disk.state c.args.disk.now))) c.args.state.now call c.requires.runs refusal c.in_ok-view.view (c.in_ok-view.ensures.alone seen who when) (why tells))
     (λ name lost tells seen. (
-      ap (λ (v : View). files_refused (given_of placing c.args.state.now no_bytes c.args.command.now who when v)) (sym (c.in_ok-view.ensures.alone seen who when)) ∙ sym (c.in_ok-refusal.ensures placing no_bytes who when) ∙ c.in_default.is,
-      lost-config c.args.state.now c.args.command.now c.requires.runs (reads (g.D.Disk.state c.args.disk.now)) (reads (g.D.Disk.state c.compare.new.disk)) name
-          (ap effective (same_reads (g.D.Disk.state c.args.disk.now) (g.D.Disk.state c.compare.new.disk) (c.compare.ensures.same tells))) (c.in_ok-compare.ensures.kept tells) (lost tells),
-    )) (λ rose. risen_later _ _ _ c.compare.ensures.later rose) (λ none. absurd none))
-
-pub returns-in_err-row-clause-same : goal.returns-in_err-row-clause-same
-returns-in_err-row-clause-same g c = λ tells. same_on (g.D.Disk.state c.args.disk.now) (g.D.Disk.state c.compare.new.disk) (g.D.Disk.state c.read_config.new.disk) (c.compare.ensures.same tells) (c.read_config.ensures.same tells)
+      ap (λ (v : View). files_refused (given_of placing c.args.state.now no_bytes c.args.command.now who when v)) (sym (c.in_ok-view.ensures.alone seen who when)) ∙ (lost tells).0,
+      (lost tells).1,
+    )) (λ rose. rose) (λ none. absurd none))
 
 pub returns-in_err-seen-clause-stopped : goal.returns-in_err-seen-clause-stopped
 returns-in_err-seen-clause-stopped g c = λ who when. let is : c.from_residual-in_err-seen.result ≡ Err stop.Memory = err-is _ _ c.from_residual-in_err-seen.ensures.1 in rw is memory
 
-pub returns-in_err-seen-clause-same : goal.returns-in_err-seen-clause-same
-returns-in_err-seen-clause-same g c = λ tells. same_on (g.D.Disk.state c.args.disk.now) (g.D.Disk.state c.compare.new.disk) (g.D.Disk.state c.read_config.new.disk) (c.compare.ensures.same tells) (c.read_config.ensures.same tells)
-
-pub returns-clause-same : goal.returns-clause-same
-returns-clause-same g c = λ tells. same_on (g.D.Disk.state c.args.disk.now) (g.D.Disk.state c.compare.new.disk) (g.D.Disk.state c.read_config.new.disk) (c.compare.ensures.same tells) (c.read_config.ensures.same tells)
-
-pub returns-clause-kept : goal.returns-clause-kept
-returns-clause-kept g c = λ tells.
-    let same : effective (reads (g.D.Disk.state c.compare.new.disk)) ≡ effective (reads (g.D.Disk.state c.args.disk.now)) = ap effective (same_reads (g.D.Disk.state c.args.disk.now) (g.D.Disk.state c.compare.new.disk) (c.compare.ensures.same tells)) in
-    asked-kept-so c.args.state.now c.args.command.now c.requires.runs (effective (reads (g.D.Disk.state c.args.disk.now))) (c.in_ok-compare.ensures.kept tells)
-    (subst (λ (x : Option Image). AreKept x (versions_of (cons_option (config_version (call_of c.args.state.now c.args.command.now []) (change_named c.args.state.now c.args.command.now.change)) []))) same (c.in_ok-row.ensures.kept tells))
-
 pub returns-clause-seen : goal.returns-clause-seen
 returns-clause-seen g c = λ tells seen bytes who when have.
-    let same : effective (reads (g.D.Disk.state c.compare.new.disk)) ≡ effective (reads (g.D.Disk.state c.args.disk.now)) = ap effective (same_reads (g.D.Disk.state c.args.disk.now) (g.D.Disk.state c.compare.new.disk) (c.compare.ensures.same tells)) in
     let call : Called = called c.args.command.now who when (g.S.Site.state c.args.site.now) (g.S.Site.state c.args.site.now) in
     let alone : c.in_ok-view.view ≡ files_alone c.args.state.now call = c.in_ok-view.ensures.alone seen who when in
-    let row = c.in_ok-row.ensures.told tells bytes (subst (λ (x : Option Image). HaveBytes x (Some c.args.state.now) bytes) (sym same) have) ∙ sym (asked-row (given_before c.args.state.now bytes call nothing_seen) (change_named c.args.state.now c.args.command.now.change)) in
+    let row = c.in_ok-row.ensures.told tells bytes have ∙ sym (asked-row (given_before c.args.state.now bytes call nothing_seen) (change_named c.args.state.now c.args.command.now.change)) in
     c.in_ok-seen.ensures ∙ (λ i. record (alone i) { develop = (alone i).develop ++ row i })
 
 pub returns-clause-shown : goal.returns-clause-shown
 returns-clause-shown g c =
-    let both = bytes-for-both c.args.state.now c.args.command.now c.in_ok-view.view (cons_option c.in_ok-row.row []) c.in_ok-compare.ensures.some c.in_ok-row.ensures.row in (
+    let both = bytes-for-both c.args.state.now c.args.command.now c.in_ok-view.view (cons_option c.in_ok-row.row []) c.in_ok-row.ensures.some c.in_ok-row.ensures.row in (
       both.0,
       λ who. rows-show c.args.state.now both.0 c.args.command.now who c.in_ok-seen.seen c.in_ok-view.view c.requires.runs
           (ap (λ (v : View). v.develop) c.in_ok-seen.ensures ∙ ap (λ (more : List (List ℕ × Content)). c.in_ok-view.view.develop ++ more) both.2) c.in_ok-view.ensures.paths both.1,
@@ -100,11 +62,10 @@ returns-clause-shown g c =
 
 pub returns-clause-shows : goal.returns-clause-shows
 returns-clause-shows g c = λ tells bytes who have.
-    let same : effective (reads (g.D.Disk.state c.compare.new.disk)) ≡ effective (reads (g.D.Disk.state c.args.disk.now)) = ap effective (same_reads (g.D.Disk.state c.args.disk.now) (g.D.Disk.state c.compare.new.disk) (c.compare.ensures.same tells)) in
     rows-show c.args.state.now bytes c.args.command.now who c.in_ok-seen.seen c.in_ok-view.view c.requires.runs
     (ap (λ (v : View). v.develop) c.in_ok-seen.ensures
-    ∙ ap (λ (more : List (List ℕ × Content)). c.in_ok-view.view.develop ++ more) (c.in_ok-row.ensures.told tells bytes (subst (λ (x : Option Image). HaveBytes x (Some c.args.state.now) bytes) (sym same) have)))
-    c.in_ok-view.ensures.paths (c.in_ok-compare.ensures.none tells bytes have)
+    ∙ ap (λ (more : List (List ℕ × Content)). c.in_ok-view.view.develop ++ more) (c.in_ok-row.ensures.told tells bytes have))
+    c.in_ok-view.ensures.paths (c.in_ok-row.ensures.none tells bytes have)
 
 pub returns-clause-files : goal.returns-clause-files
 returns-clause-files g c = λ seen. (
@@ -119,24 +80,6 @@ returns-in_err-view-clause-site_same g c = c.see_files.ensures.same
 
 pub returns-in_err-view-clause-site_later : goal.returns-in_err-view-clause-site_later
 returns-in_err-view-clause-site_later g c = c.see_files.ensures.later
-
-pub returns-in_err-refusal-clause-site_same : goal.returns-in_err-refusal-clause-site_same
-returns-in_err-refusal-clause-site_same g c = c.see_files.ensures.same
-
-pub returns-in_err-refusal-clause-site_later : goal.returns-in_err-refusal-clause-site_later
-returns-in_err-refusal-clause-site_later g c = c.see_files.ensures.later
-
-pub returns-in-Some-clause-site_same : goal.returns-in-Some-clause-site_same
-returns-in-Some-clause-site_same g c = c.see_files.ensures.same
-
-pub returns-in-Some-clause-site_later : goal.returns-in-Some-clause-site_later
-returns-in-Some-clause-site_later g c = c.see_files.ensures.later
-
-pub returns-in_err-compare-clause-site_same : goal.returns-in_err-compare-clause-site_same
-returns-in_err-compare-clause-site_same g c = c.see_files.ensures.same
-
-pub returns-in_err-compare-clause-site_later : goal.returns-in_err-compare-clause-site_later
-returns-in_err-compare-clause-site_later g c = c.see_files.ensures.later
 
 pub returns-in_err-row-clause-site_same : goal.returns-in_err-row-clause-site_same
 returns-in_err-row-clause-site_same g c = c.see_files.ensures.same
@@ -156,17 +99,23 @@ returns-clause-site_same g c = c.see_files.ensures.same
 pub returns-clause-site_later : goal.returns-clause-site_later
 returns-clause-site_later g c = c.see_files.ensures.later
 
-pub returns-in_err-compare-clause-same : goal.returns-in_err-compare-clause-same
-returns-in_err-compare-clause-same g c = c.compare.ensures.same
-
-pub returns-in_err-compare-clause-disk_later : goal.returns-in_err-compare-clause-disk_later
-returns-in_err-compare-clause-disk_later g c = c.compare.ensures.later
+pub returns-in_err-row-clause-same : goal.returns-in_err-row-clause-same
+returns-in_err-row-clause-same g c = c.asked_row.ensures.same
 
 pub returns-in_err-row-clause-disk_later : goal.returns-in_err-row-clause-disk_later
-returns-in_err-row-clause-disk_later g c = le_trans c.compare.ensures.later c.read_config.ensures.later
+returns-in_err-row-clause-disk_later g c = c.asked_row.ensures.later
+
+pub returns-in_err-seen-clause-same : goal.returns-in_err-seen-clause-same
+returns-in_err-seen-clause-same g c = c.asked_row.ensures.same
 
 pub returns-in_err-seen-clause-disk_later : goal.returns-in_err-seen-clause-disk_later
-returns-in_err-seen-clause-disk_later g c = le_trans c.compare.ensures.later c.read_config.ensures.later
+returns-in_err-seen-clause-disk_later g c = c.asked_row.ensures.later
+
+pub returns-clause-same : goal.returns-clause-same
+returns-clause-same g c = c.asked_row.ensures.same
 
 pub returns-clause-disk_later : goal.returns-clause-disk_later
-returns-clause-disk_later g c = le_trans c.compare.ensures.later c.read_config.ensures.later
+returns-clause-disk_later g c = c.asked_row.ensures.later
+
+pub returns-clause-kept : goal.returns-clause-kept
+returns-clause-kept g c = c.in_ok-row.ensures.kept
