@@ -1,3 +1,4 @@
+use Rattle.std.proofs.Math.Nat.{le_trans}
 use Rattle.std.proofs.Common.{rules, arith, refl, ap, subst, List, inl, inr}
 use Rattle.ae_vault.specs.declared.piece.Piece.{Piece}
 use Rattle.ae_exec.specs.Exact.{ChangesExactly, with_records}
@@ -164,3 +165,26 @@ returns-clause-reply g c = λ is_done tells seen x bytes shows.
 
 pub returns-clause-no_reply : goal.returns-clause-no_reply
 returns-clause-no_reply g c = λ not_done. absurd (not_done (is-done _))
+
+-- ---- what follows from the calls alone
+
+pub returns-in_err-open_store-clause-disk_faults : goal.returns-in_err-open_store-clause-disk_faults
+returns-in_err-open_store-clause-disk_faults g c = c.open_store.ensures.later
+
+pub returns-in_err-batch-clause-disk_faults : goal.returns-in_err-batch-clause-disk_faults
+returns-in_err-batch-clause-disk_faults g c = le_trans c.open_store.ensures.later c.make_plan.ensures.disk_later
+
+pub returns-in_err-put_batch-clause-disk_faults : goal.returns-in_err-put_batch-clause-disk_faults
+returns-in_err-put_batch-clause-disk_faults g c = le_trans (le_trans c.open_store.ensures.later c.make_plan.ensures.disk_later) c.put_batch.ensures.cause.later
+
+pub returns-clause-disk_faults : goal.returns-clause-disk_faults
+returns-clause-disk_faults g c = le_trans (le_trans c.open_store.ensures.later c.make_plan.ensures.disk_later) c.put_batch.ensures.cause.later
+
+pub returns-in_err-batch-clause-site_faults : goal.returns-in_err-batch-clause-site_faults
+returns-in_err-batch-clause-site_faults g c = c.make_plan.ensures.site_later
+
+pub returns-in_err-put_batch-clause-site_faults : goal.returns-in_err-put_batch-clause-site_faults
+returns-in_err-put_batch-clause-site_faults g c = c.make_plan.ensures.site_later
+
+pub returns-clause-site_faults : goal.returns-clause-site_faults
+returns-clause-site_faults g c = c.make_plan.ensures.site_later
