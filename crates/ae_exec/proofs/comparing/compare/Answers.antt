@@ -61,3 +61,34 @@ returns-clause-none g c = λ tells bytes have.
     let files : Option Image = effective (reads (g.D.Disk.state c.args.disk.now)) in
     ap (first_differing c.args.view.now) (sym (c.in_ok-files.ensures.rows tells ∙ ap (rows_at files) are ∙ compared-have c.args.state.now files bytes have c.args.command.now))
     ∙ sym c.in_ok-refusal.ensures ∙ c.in-None.is
+
+-- ---- what follows from the calls alone
+
+pub returns-in_err-files-clause-same : goal.returns-in_err-files-clause-same
+returns-in_err-files-clause-same g c = c.files_of_rows.ensures.same
+
+pub returns-in_err-files-clause-later : goal.returns-in_err-files-clause-later
+returns-in_err-files-clause-later g c = c.files_of_rows.ensures.later
+
+pub returns-in_err-refusal-clause-same : goal.returns-in_err-refusal-clause-same
+returns-in_err-refusal-clause-same g c = c.files_of_rows.ensures.same
+
+pub returns-in_err-refusal-clause-later : goal.returns-in_err-refusal-clause-later
+returns-in_err-refusal-clause-later g c = c.files_of_rows.ensures.later
+
+pub returns-in-Some-clause-same : goal.returns-in-Some-clause-same
+returns-in-Some-clause-same g c = c.files_of_rows.ensures.same
+
+pub returns-in-Some-clause-later : goal.returns-in-Some-clause-later
+returns-in-Some-clause-later g c = c.files_of_rows.ensures.later
+
+pub returns-clause-same : goal.returns-clause-same
+returns-clause-same g c = c.files_of_rows.ensures.same
+
+pub returns-clause-later : goal.returns-clause-later
+returns-clause-later g c = c.files_of_rows.ensures.later
+
+pub returns-clause-kept : goal.returns-clause-kept
+returns-clause-kept g c = λ tells.
+    let are : c.as_slice.result.now ≡ compared_for c.args.command.now c.args.state.now = let e = c.in_ok-rows.ensures [] in search rules in
+    subst (λ (rows : List TreeRow). AreKept (effective (reads (g.D.Disk.state c.args.disk.now))) (versions_of rows)) are (c.in_ok-files.ensures.kept tells)
