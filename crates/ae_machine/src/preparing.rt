@@ -1,24 +1,27 @@
 // The files that the runs of a build or a test are to leave as they are, and what is made of the directories before them.
-ghost use Rattle.std.specs.Prelude.{◌≡◌, ◌++◌, ◌∷◌, [], ℕ, List, Some, map, filter, true, IfOk, OnOk};
+ghost use Rattle.std.specs.Prelude.{◌≡◌, ◌++◌, ◌∷◌, [], ℕ, List, Some, if◌then◌else◌, map, filter, true, IfOk, OnOk};
 ghost use Rattle.std.specs.List.{list_any};
 ghost use Rattle.std.specs.Str.{bytes_eq};
-ghost use Rattle.ae_base.specs.Rows.{paths_of};
+ghost use Rattle.ae_base.specs.Rows.{Ascends, paths_of};
 ghost use Rattle.ae_types.specs.Runs.{tests_of};
+ghost use Rattle.ae_types.specs.Found.{change_at};
+ghost use Rattle.ae_types.specs.Phases.{is_integrating};
 ghost use Rattle.ae_types.specs.Trees.{tree_path};
-ghost use Rattle.ae_outside.specs.declared.dir.Dir.TheVariants.{Develop};
-ghost use Rattle.ae_machine.specs.declared.directories.DirChange.TheVariants.{Put};
+ghost use Rattle.ae_outside.specs.declared.dir.Dir.TheVariants.{Base, Develop};
+ghost use Rattle.ae_machine.specs.declared.directories.DirChange.TheVariants.{Fill, Put};
+ghost use Rattle.ae_words.specs.declared.command.Command.{Command};
 ghost use Rattle.ae_machine.specs.declared.view.View.{View};
 ghost use Rattle.ae_machine.specs.Call.{Placing, call_of, change_of, given_of};
 ghost use Rattle.ae_machine.specs.Directories.{dir_changes};
 ghost use Rattle.ae_machine.specs.Fits.{makes_runs, tracked_in};
-ghost use Rattle.ae_machine.specs.Sight.{only_tests, overlaid, with_bytes};
+ghost use Rattle.ae_machine.specs.Sight.{bytes_of, only_tests, overlaid, paths_read, read_at, with_bytes};
 ghost use Rattle.ae_machine.specs.Versions.{is_test_at, removed_among, rows_based, rows_refreshed};
 
-use crate::reading::{paths_read, tree_read};
+use crate::reading::{paths_read, push_row, text_copy, tree_read};
 use crate::refusing::change_of;
 use crate::runs::{is_integrating, kind_of};
 use crate::{DirChange, DirChangeList, FileList, View};
-use ae_base::{Action, Kind, Path, Snapshot, Text, Usage};
+use ae_base::{Action, ChangeNo, Kind, Path, Snapshot, Text, Usage};
 use ae_outside::Dir;
 use ae_types::{Change, ChangeFile, State};
 use ae_words::Command;
@@ -48,15 +51,6 @@ fn is_own_test(change: &Change, path: &Path) -> bool
     has_test_at(change.files.as_slice(), path)
 }
 
-fn bytes_copy(alloc: Global, bytes: &Option<Text>) -> Result<Option<Text>, AllocError>
-    ensures { IfOk result (λ copy. copy ≡ bytes.now) }
-{
-    match bytes {
-        Some(bytes) => Ok(Some(bytes.copy(alloc)?)),
-        None => Ok(None),
-    }
-}
-
 // Puts a row over a tree, where it is of a test of the change.
 fn put_test(
     alloc: Global,
@@ -67,7 +61,7 @@ fn put_test(
     ensures { OnOk result (tree.new ≡ overlaid tree.old (only_tests change.now (row.now ∷ []))) }
 {
     if is_own_test(change, &row.0) {
-        tree.put(row.0.copy(alloc)?, bytes_copy(alloc, &row.1)?)
+        tree.put(row.0.copy(alloc)?, text_copy(alloc, row.1.as_ref())?)
     } else {
         Ok(())
     }
@@ -88,6 +82,36 @@ fn put_tests(
     Ok(())
 }
 
+// What was read of the files that the change reads.
+fn files_read(
+    alloc: Global,
+    state: &State,
+    number: ChangeNo,
+    change: &Change,
+    view: &View,
+) -> Result<Snapshot, AllocError>
+    requires named { change_at state.now number ≡ Some change.now }
+    ensures { (command : Command) (who : List ℕ) → IfOk result (λ tree. tree ≡ map (λ path. (path, bytes_of (read_at view.now path))) (paths_read (call_of state.now command who) change.now)) }
+{
+    let paths = paths_read(alloc, state, number, change)?;
+    tree_read(alloc, view, paths.as_slice())
+}
+
+// These files, with what was read of the change's tests over them.
+fn with_tests(
+    alloc: Global,
+    change: &Change,
+    based: FileList,
+    read: &Snapshot,
+) -> Result<Snapshot, AllocError>
+    requires { Ascends based }
+    ensures { IfOk result (λ tree. tree ≡ overlaid based (only_tests change.now read.now)) }
+{
+    let mut tree = Snapshot::of(based.into_vec());
+    put_tests(alloc, &mut tree, change, read.as_slice())?;
+    Ok(tree)
+}
+
 /// The files that its runs are to leave as they are. `based` are the versions of `rows_based`, with their bytes.
 pub fn tracked(
     alloc: Global,
@@ -105,19 +129,16 @@ pub fn tracked(
 {
     state.note_sound();
     let Some(number) = command.change else {
+        drop(based);
         return Ok(Snapshot::new(alloc));
     };
     let Some(change) = state.change(number) else {
+        drop(based);
         return Ok(Snapshot::new(alloc));
     };
-    let paths = paths_read(alloc, state, number, change)?;
-    let read = tree_read(alloc, view, paths.as_slice())?;
+    let read = files_read(alloc, state, number, change, view)?;
     match kind_of(command) {
-        Kind::BaselineTest => {
-            let mut tree = Snapshot::of(based.into_vec());
-            put_tests(alloc, &mut tree, change, read.as_slice())?;
-            Ok(tree)
-        }
+        Kind::BaselineTest => with_tests(alloc, change, based, &read),
         Kind::Build => Ok(read),
         Kind::Test => Ok(read),
         Kind::RegressionTest => Ok(read),
@@ -133,10 +154,7 @@ fn push_removed(
     ensures { OnOk result (rows.new.items ≡ rows.old.items ++ removed_among (file.now ∷ [])) }
 {
     match file.action {
-        Action::Remove => {
-            rows.push((file.path.copy(alloc)?, None))?;
-            Ok(())
-        }
+        Action::Remove => push_row(alloc, rows, &file.path, None),
         _ => Ok(()),
     }
 }
@@ -165,14 +183,45 @@ fn refresh(alloc: Global, change: &Change, refreshed: FileList) -> Result<DirCha
     Ok(DirChange::Put(Dir::Develop(change.number), FileList::of(rows)))
 }
 
+// The develop directory is refreshed, unless the change is being integrated.
+fn before_runs(
+    alloc: Global,
+    change: &Change,
+    refreshed: FileList,
+) -> Result<DirChangeList, AllocError>
+    ensures { let rows = removed_among change.now.files ++ refreshed in
+        IfOk result (λ changes. changes ≡ if is_integrating change.now.phase then [] else Put (Develop change.now.number) rows ∷ []) }
+{
+    let mut changes = DirChangeList::new(alloc);
+    if is_integrating(change.phase) {
+        drop(refreshed);
+        return Ok(changes);
+    }
+    changes.push(refresh(alloc, change, refreshed)?)?;
+    Ok(changes)
+}
+
 fn tree_copy(alloc: Global, tree: &Snapshot) -> Result<FileList, AllocError>
     ensures { IfOk result (λ copy. copy ≡ tree.now) }
 {
     let mut rows = Vec::new(alloc);
     for row in tree.as_slice() {
-        rows.push((row.0.copy(alloc)?, bytes_copy(alloc, &row.1)?))?;
+        push_row(alloc, &mut rows, &row.0, row.1.as_ref())?;
     }
     Ok(FileList::of(rows))
+}
+
+// The base directory is filled with the tree.
+fn fill_base(
+    alloc: Global,
+    changes: &mut DirChangeList,
+    change: &Change,
+    tree: &Snapshot,
+) -> Result<(), AllocError>
+    ensures { OnOk result (changes.new ≡ changes.old ++ Fill (Base change.now.number) tree.now ∷ []) }
+{
+    let files = tree_copy(alloc, tree)?;
+    changes.push(DirChange::Fill(Dir::Base(change.number), files))
 }
 
 /// What it makes of the directories before its runs. `refreshed` are the versions of `rows_refreshed`, with their bytes;
@@ -195,15 +244,9 @@ pub fn run_changes(
         drop(refreshed);
         return Ok(DirChangeList::new(alloc));
     };
-    let mut changes = DirChangeList::new(alloc);
-    if is_integrating(change.phase) {
-        drop(refreshed);
-    } else {
-        changes.push(refresh(alloc, change, refreshed)?)?;
-    }
+    let mut changes = before_runs(alloc, change, refreshed)?;
     if kind_of(command) == Kind::BaselineTest {
-        let files = tree_copy(alloc, tracked)?;
-        changes.push(DirChange::Fill(Dir::Base(change.number), files))?;
+        fill_base(alloc, &mut changes, change, tracked)?;
     }
     Ok(changes)
 }

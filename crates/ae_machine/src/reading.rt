@@ -22,13 +22,28 @@ use ae_outside::Content;
 use ae_types::{Change, ChangeFile, State};
 use std::alloc::{AllocError, Global};
 
-fn text_copy(alloc: Global, text: Option<&Text>) -> Result<Option<Text>, AllocError>
+/// A copy of the text, where there is one.
+pub(crate) fn text_copy(alloc: Global, text: Option<&Text>) -> Result<Option<Text>, AllocError>
     ensures { IfOk result (λ copy. copy ≡ option_copied text.entry) }
 {
     match text {
         Some(text) => Ok(Some(text.copy(alloc)?)),
         None => Ok(None),
     }
+}
+
+/// Adds a path with its bytes, or with none.
+pub(crate) fn push_row(
+    alloc: Global,
+    rows: &mut Vec<(Path, Option<Text>)>,
+    path: &Path,
+    bytes: Option<&Text>,
+) -> Result<(), AllocError>
+    ensures { OnOk result (rows.new.items ≡ rows.old.items ++ ((path.now, option_copied bytes.entry) ∷ [])) }
+{
+    let bytes = text_copy(alloc, bytes)?;
+    rows.push((path.copy(alloc)?, bytes))?;
+    Ok(())
 }
 
 // ---- the paths that are read
@@ -144,19 +159,18 @@ pub(crate) fn tree_read(alloc: Global, view: &View, paths: &[Path]) -> Result<Sn
     let seen = Seen::of(view);
     let mut rows = Vec::new(alloc);
     for path in paths {
-        let bytes = text_copy(alloc, seen.bytes_at(path.bytes()))?;
-        rows.push((path.copy(alloc)?, bytes))?;
+        push_row(alloc, &mut rows, path, seen.bytes_at(path.bytes()))?;
     }
     Ok(Snapshot::of(rows))
 }
 
 // The bytes that were read of a file, none where the change removes it.
-fn bytes_read(alloc: Global, seen: &Seen, file: &ChangeFile) -> Result<Option<Text>, AllocError>
-    ensures { IfOk result (λ bytes. bytes ≡ bytes_read seen.now.view.now file.now) }
+fn bytes_read<'a>(seen: &Seen<'a>, file: &ChangeFile) -> Option<&'a Text>
+    ensures { option_copied result ≡ bytes_read seen.now.view.now file.now }
 {
     match file.action {
-        Action::Remove => Ok(None),
-        _ => text_copy(alloc, seen.bytes_at(file.path.bytes())),
+        Action::Remove => None,
+        _ => seen.bytes_at(file.path.bytes()),
     }
 }
 
@@ -172,7 +186,7 @@ pub(crate) fn change_tree(
     let seen = Seen::of(view);
     let mut rows = Vec::new(alloc);
     for file in files {
-        rows.push((file.path.copy(alloc)?, bytes_read(alloc, &seen, file)?))?;
+        push_row(alloc, &mut rows, &file.path, bytes_read(&seen, file))?;
     }
     Ok(Snapshot::of(rows))
 }
