@@ -7,7 +7,7 @@ ghost use Rattle.ae_types.specs.Runs.{Needed};
 ghost use Rattle.ae_machine.specs.declared.jobs.Job.{Job};
 ghost use Rattle.ae_machine.specs.declared.verdict.Verdict.TheVariants.{Accept};
 ghost use Rattle.ae_machine.specs.Call.{Placing, given_in, given_of};
-ghost use Rattle.ae_machine.specs.Commands.{AnswersRun, AnswersRuns, GivesCommands, command_told, run_told};
+ghost use Rattle.ae_machine.specs.Commands.{AnswersRun, AnswersRuns, GivesCommands, command_told, config_read, config_seen, run_told};
 ghost use Rattle.ae_machine.specs.Jobs.{AnswersJobs, IsCommand};
 ghost use Rattle.ae_machine.specs.Fits.{makes_runs};
 ghost use Rattle.ae_machine.specs.Runs.{needed_of};
@@ -15,7 +15,7 @@ ghost use Rattle.ae_machine.specs.Verdict.{event_of, events_of};
 ghost use Rattle.ae_machine.specs.Versions.{ShowsVersions};
 
 use crate::commands::{ConfigRead, command_from, config_read};
-use crate::events::event;
+use crate::events::push_event;
 use crate::reading::{config_seen, subject};
 use crate::runs::{delta_of_run, group, part_of, values_of};
 use crate::{RunRow, Verdict, View};
@@ -36,8 +36,6 @@ pub struct Job {
 
 /// Runs that are to be made, one after another.
 pub type JobList = Rows<Job>;
-
-type RunEventList = Rows<RunEvent>;
 
 fn path_copy(alloc: Global, path: Option<&Path>) -> Result<Option<Path>, AllocError>
     ensures { IfOk result (λ copy. copy ≡ option_copied path.entry) }
@@ -113,6 +111,22 @@ fn make_jobs(
     Ok(Ok(jobs))
 }
 
+// What aegis.conf gives, as far as the command sees it.
+fn config_of(
+    alloc: Global,
+    state: &State,
+    number: ChangeNo,
+    change: &Change,
+    view: &View,
+) -> Result<ConfigRead, AllocError>
+    requires named { change_at state.now number ≡ Some change.now }
+    ensures read { IfOk result (λ read. read ≡ config_read (config_seen state.now change.now view.now)) }
+    ensures commands { IfOk result GivesCommands }
+{
+    let bytes = config_seen(alloc, state, number, change, view)?;
+    config_read(alloc, bytes)
+}
+
 /// The runs that the command is to make for this change, each with its command, or why one has none.
 pub(crate) fn jobs_of(
     alloc: Global,
@@ -132,8 +146,7 @@ pub(crate) fn jobs_of(
 {
     let project = state.project();
     let runs = group(alloc, state, command, change)?;
-    let bytes = config_seen(alloc, state, number, change, view)?;
-    let read = config_read(alloc, bytes)?;
+    let read = config_of(alloc, state, number, change, view)?;
     let delta = delta_of_run(state, change);
     make_jobs(alloc, &project.name, change, delta, &read, runs.as_slice())
 }
@@ -183,7 +196,10 @@ fn command_run(
         run.path.as_ref(),
     )? {
         Ok(command) => Ok(command),
-        Err(_) => Ok(Text::of(Vec::new(alloc))),
+        Err(refusal) => {
+            drop(refusal);
+            Ok(Text::of(Vec::new(alloc)))
+        }
     }
 }
 
@@ -204,14 +220,14 @@ fn run_event(
     read: &ConfigRead,
     subject: [u8; 32],
     run: &RunRow,
-) -> Result<RunEvent, AllocError>
+) -> Result<EventKind, AllocError>
     requires { GivesCommands read.now }
-    ensures { IfOk result (λ event. event ≡ run_told project.now change.now delta read.now subject run.now) }
+    ensures { IfOk result (λ kind. kind ≡ on.Run (run_told project.now change.now delta read.now subject run.now)) }
 {
     let command = command_run(alloc, project, change, delta, read, run)?;
     let path = path_copy(alloc, run.path.as_ref())?;
     let (before, after) = trees_of(alloc, run)?;
-    Ok(RunEvent {
+    Ok(EventKind::Run(RunEvent {
         during: part_of(change.phase),
         kind: run.kind,
         path,
@@ -220,42 +236,29 @@ fn run_event(
         before,
         after,
         subject,
-    })
+    }))
 }
 
-// The runs as they are recorded.
-fn run_events(
+// Accepted, with an event for each run.
+fn accept_runs(
     alloc: Global,
+    command: &Command,
+    who: &User,
+    when: u64,
     project: &ProjectName,
     change: &Change,
     delta: Delta,
     read: &ConfigRead,
     subject: [u8; 32],
     runs: &[RunRow],
-) -> Result<RunEventList, AllocError>
-    requires { GivesCommands read.now }
-    ensures { IfOk result (λ events. events ≡ map (run_told project.now change.now delta read.now subject) runs.now) }
-{
-    let mut events = RunEventList::new(alloc);
-    for run in runs {
-        events.push(run_event(alloc, project, change, delta, read, subject, run)?)?;
-    }
-    Ok(events)
-}
-
-// Accepted, with an event for each run.
-fn accept_runs(
-    alloc: Global,
-    who: &User,
-    when: u64,
-    change: Option<ChangeNo>,
-    runs: RunEventList,
 ) -> Result<Verdict, AllocError>
-    ensures { IfOk result (λ verdict. verdict ≡ Accept (map (event_of who.now when change) (map on.Run runs))) }
+    requires { GivesCommands read.now }
+    ensures { IfOk result (λ verdict. verdict ≡ Accept (map (event_of who.now when command.now.change) (map on.Run (map (run_told project.now change.now delta read.now subject) runs.now)))) }
 {
     let mut events = EventList::new(alloc);
-    for run in runs.into_vec() {
-        events.push(event(alloc, who, when, change, EventKind::Run(run))?)?;
+    for run in runs {
+        let what = run_event(alloc, project, change, delta, read, subject, run)?;
+        push_event(alloc, &mut events, who, when, command.change, what)?;
     }
     Ok(Verdict::Accept(events))
 }
@@ -279,10 +282,11 @@ pub(crate) fn accept_seen(
 {
     let project = state.project();
     let subject = subject(alloc, state, number, change, view)?;
-    let bytes = config_seen(alloc, state, number, change, view)?;
-    let read = config_read(alloc, bytes)?;
+    let read = config_of(alloc, state, number, change, view)?;
     let delta = delta_of_run(state, change);
+    let name = &project.name;
     let runs = view.runs.as_slice();
-    let events = run_events(alloc, &project.name, change, delta, &read, subject, runs)?;
-    accept_runs(alloc, who, when, command.change, events)
+    accept_runs(
+        alloc, command, who, when, name, change, delta, &read, subject, runs,
+    )
 }

@@ -19,7 +19,7 @@ ghost use Rattle.ae_machine.specs.Sight.{row_at};
 ghost use Rattle.ae_machine.specs.Verdict.{event_of};
 
 use crate::Verdict;
-use crate::events::event;
+use crate::events::push_event;
 use crate::path_clash::clash_refused_behind;
 use ae_base::limits::MOST_CHANGE_FILES;
 use ae_base::{Action, ChangeNo, Delta, Path, PathList, Refusal, Usage, User, Which};
@@ -420,7 +420,7 @@ pub(crate) fn accept_files(
     let mut events = EventList::new(alloc);
     for path in command.paths.as_slice() {
         let what = path_event(alloc, state, command, path)?;
-        events.push(event(alloc, who, when, command.change, what)?)?;
+        push_event(alloc, &mut events, who, when, command.change, what)?;
     }
     Ok(Verdict::Accept(events))
 }
