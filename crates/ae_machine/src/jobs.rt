@@ -17,7 +17,7 @@ ghost use Rattle.ae_machine.specs.Versions.{ShowsVersions};
 use crate::commands::{ConfigRead, command_from, config_read};
 use crate::events::push_event;
 use crate::reading::{config_seen, subject};
-use crate::runs::{delta_of_run, group, part_of, values_of};
+use crate::runs::{delta_of_run, group, named_copy, part_of, values_of};
 use crate::{RunRow, Verdict, View};
 use ae_base::{ChangeNo, Delta, Kind, Path, ProjectName, Refusal, Snapshot, Text, User};
 use ae_evidence::RunKey;
@@ -36,15 +36,6 @@ pub struct Job {
 
 /// Runs that are to be made, one after another.
 pub type JobList = Rows<Job>;
-
-fn path_copy(alloc: Global, path: Option<&Path>) -> Result<Option<Path>, AllocError>
-    ensures { IfOk result (λ copy. copy ≡ option_copied path.entry) }
-{
-    match path {
-        Some(path) => Ok(Some(path.copy(alloc)?)),
-        None => Ok(None),
-    }
-}
 
 // The command of a run of this kind and path, or why there is none.
 fn command_told(
@@ -81,7 +72,7 @@ fn make_job(
     match command_told(alloc, project, change, delta, read, run.kind, path)? {
         Ok(command) => Ok(Ok(Job {
             kind: run.kind,
-            path: path_copy(alloc, path)?,
+            path: named_copy(alloc, path)?,
             command,
         })),
         Err(refusal) => Ok(Err(refusal)),
@@ -225,7 +216,7 @@ fn run_event(
     ensures { IfOk result (λ kind. kind ≡ on.Run (run_told project.now change.now delta read.now subject run.now)) }
 {
     let command = command_run(alloc, project, change, delta, read, run)?;
-    let path = path_copy(alloc, run.path.as_ref())?;
+    let path = named_copy(alloc, run.path.as_ref())?;
     let (before, after) = trees_of(alloc, run)?;
     Ok(EventKind::Run(RunEvent {
         during: part_of(change.phase),

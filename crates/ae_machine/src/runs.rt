@@ -140,7 +140,8 @@ pub(crate) fn delta_of_run(state: &State, change: &Change) -> Delta
     }
 }
 
-fn named_copy(alloc: Global, path: Option<&Path>) -> Result<Option<Path>, AllocError>
+/// A copy of the path, where there is one.
+pub(crate) fn named_copy(alloc: Global, path: Option<&Path>) -> Result<Option<Path>, AllocError>
     ensures copy { IfOk result (λ copy. copy ≡ option_copied path.entry) }
     ensures is_path { IfOk result (λ copy. IfSome copy IsPath) }
 {

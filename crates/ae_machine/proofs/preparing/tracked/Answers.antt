@@ -1,12 +1,12 @@
 use Rattle.std.proofs.Common.{rules, ◌≡◌, ◌∙◌, sym, ap, subst, map, Some, []}
-use Rattle.ae_base.specs.Rows.{Ascends, text_cmp}
+use Rattle.ae_base.specs.Rows.{text_cmp}
 use Rattle.ae_log.proofs.AppliedSteps.{if-ok}
 use Rattle.ae_types.specs.Ordered.{itself}
 use Rattle.ae_types.specs.Ordered as order
 use Rattle.ae_types.specs.Trees.{baseline_of, last_delta, tree_path}
 use Rattle.ae_files.proofs.TreesAscend.{tree-ascends}
 use Rattle.ae_machine.specs.Call.{Call, Given, call_of, change_of, given_of}
-use Rattle.ae_machine.specs.Sight.{bytes_of, only_tests, overlaid, read_at, with_bytes}
+use Rattle.ae_machine.specs.Sight.{only_tests, overlaid, with_bytes}
 use Rattle.ae_machine.proofs.AskedFor.{based-asked, tracked-base, tracked-build, tracked-test, tracked-regression}
 use Rattle.ae_machine.proofs.Picked.{keys-ascend}
 use Rattle.ae_machine.proofs.SnapshotRows.{paths-ascend}
