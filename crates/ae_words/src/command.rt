@@ -308,11 +308,14 @@ fn bad_unless(taken: bool, at: usize) -> Result<(), Stop>
 fn next_number(before: usize, word: &[u8]) -> Option<u64>
     ensures { result ≡ next_number before word.now }
 {
-    match before {
-        0 => read_number(20, 0, u64::MAX, word),
-        1 => read_number(20, 1, 200, word),
-        2 => read_number(20, 1, 99, word),
-        _ => None,
+    if before == 0 {
+        read_number(20, 0, u64::MAX, word)
+    } else if before == 1 {
+        read_number(20, 1, 200, word)
+    } else if before == 2 {
+        read_number(20, 1, 99, word)
+    } else {
+        None
     }
 }
 
