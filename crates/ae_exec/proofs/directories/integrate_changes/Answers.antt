@@ -1,21 +1,12 @@
-use Rattle.std.proofs.Common.{rules, ◌≡◌, ◌∙◌, ◌+◌, ap, sym, subst, [], ◌∷◌, ◌++◌, List, true, Some, None, Err}
-use Rattle.ae_outside.specs.State.{reads}
+use Rattle.std.proofs.Common.{rules, ◌≡◌, ◌∙◌, sym, [], ◌∷◌, Some, Err}
 use Rattle.std.specs.Option.{option_and_then}
 use Rattle.ae_outside.specs.declared.dir.Dir.TheVariants.{Integrate}
 use Rattle.ae_types.specs.declared.change.Change.{Change}
 use Rattle.ae_types.specs.Found.{change_at}
-use Rattle.ae_types.specs.Trees.{last_delta}
-use Rattle.ae_machine.specs.declared.directories.DirChange.{DirChange}
 use Rattle.ae_machine.specs.declared.directories.DirChange.TheVariants.{Fill}
 use Rattle.ae_exec.specs.declared.stop.Stop.TheVariants as stop
 use Rattle.ae_exec.specs.Endings.{memory}
-use Rattle.ae_base.specs.Rows.{Rows}
-use Rattle.ae_types.specs.declared.version.VersionRef.{VersionRef}
-use Rattle.ae_vault.specs.Vault.{effective}
-use Rattle.ae_exec.specs.Reading.{AreKept, IsLostAmong}
-use Rattle.ae_exec.proofs.Endings.{ends_for}
 use Rattle.ae_exec.proofs.OwnDirs.{named-at, one-own, integrate-own, integrated-changes}
-use Rattle.ae_exec.proofs.PathRows.{integrate-read, reads-none}
 use Rattle.ae_exec.proofs.RunVersions.{candidate-have}
 use Rattle.ae_exec.proofs.RunReady.{err-is}
 use Rattle.ae_exec.proofs.directories.integrate_changes.Goals as goal

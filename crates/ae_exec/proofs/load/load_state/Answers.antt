@@ -1,4 +1,4 @@
-use Rattle.std.proofs.Common.{rules, refl, ◌≡◌, ap, Err}
+use Rattle.std.proofs.Common.{refl, ◌≡◌, ap, Err}
 use Rattle.ae_exec.specs.Stopping.{stop_of_store}
 use Rattle.ae_exec.proofs.Stores.{named_at}
 use Rattle.ae_exec.proofs.Unloaded.{store_ends}

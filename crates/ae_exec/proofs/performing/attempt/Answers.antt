@@ -1,5 +1,5 @@
 use Rattle.std.proofs.Math.Nat.{le_trans}
-use Rattle.std.proofs.Common.{rules, arith, refl, ap, subst, List, inl, inr}
+use Rattle.std.proofs.Common.{arith, refl, ap, subst, List, inl, inr}
 use Rattle.ae_vault.specs.declared.piece.Piece.{Piece}
 use Rattle.ae_exec.specs.Exact.{ChangesExactly, with_records}
 use Rattle.ae_outside.specs.Site.{SiteState}

@@ -1,5 +1,5 @@
 use Rattle.std.proofs.Math.Nat.{le_trans}
-use Rattle.std.proofs.Common.{rules, ◌≡◌, subst, Err}
+use Rattle.std.proofs.Common.{◌≡◌, subst, Err}
 use Rattle.std.specs.Prelude.{option_copied}
 use Rattle.ae_outside.specs.Site.{SiteState}
 use Rattle.ae_outside.specs.State.{reads}

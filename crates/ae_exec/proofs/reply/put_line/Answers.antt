@@ -1,5 +1,4 @@
 use Rattle.std.proofs.Common.{ℕ, ap, refl}
-use Rattle.std.specs.Prelude.{option_copied}
 use Rattle.ae_machine.specs.Replies.{event_text}
 use Rattle.ae_exec.proofs.Lines.{line_is, same_line}
 use Rattle.ae_exec.proofs.reply.put_line.Goals as goal

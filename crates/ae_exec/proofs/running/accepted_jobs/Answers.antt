@@ -1,4 +1,4 @@
-use Rattle.std.proofs.Common.{rules, ◌≡◌, subst}
+use Rattle.std.proofs.Common.{subst}
 use Rattle.ae_machine.specs.Call.{Given, given_of}
 use Rattle.ae_machine.specs.Jobs.{AnswersJobs}
 use Rattle.ae_machine.specs.Space.{placing}

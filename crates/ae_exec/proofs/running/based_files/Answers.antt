@@ -1,4 +1,4 @@
-use Rattle.std.proofs.Common.{rules, ◌≡◌, sym, subst, All, List, [], Err}
+use Rattle.std.proofs.Common.{rules, ◌≡◌, sym, subst, All, [], Err}
 use Rattle.ae_types.specs.Trees.{TreeRow}
 use Rattle.ae_machine.specs.Call.{call_of, change_named}
 use Rattle.ae_machine.specs.Versions.{rows_based}

@@ -1,4 +1,4 @@
-use Rattle.std.proofs.Common.{rules, ◌≡◌, ◌∙◌, ap, sym, subst, arith, drop, List, [], ◌∷◌, ◌++◌, Option, Err}
+use Rattle.std.proofs.Common.{◌≡◌, ◌∙◌, ap, sym, subst, arith, drop, List, [], ◌∷◌, ◌++◌, Option, Err}
 use Rattle.std.proofs.lemmas.List.{drop_all, map_more}
 use Rattle.ae_outside.specs.State.{reads}
 use Rattle.ae_outside.specs.Image.{Image}

@@ -1,4 +1,4 @@
-use Rattle.std.proofs.Common.{rules, ◌≡◌, ◌∙◌, ap, sym, subst, [], Option, Some, Err}
+use Rattle.std.proofs.Common.{◌≡◌, ◌∙◌, ap, subst, [], Option, Err}
 use Rattle.ae_outside.specs.Image.{Image}
 use Rattle.ae_outside.specs.State.{reads}
 use Rattle.ae_outside.specs.Time.{same_reads}

@@ -1,4 +1,4 @@
-use Rattle.std.proofs.Common.{rules, ◌≡◌, ◌∙◌, ap, List}
+use Rattle.std.proofs.Common.{◌≡◌, ◌∙◌, ap, List}
 use Rattle.ae_base.specs.Rows.{Rows}
 use Rattle.ae_machine.specs.declared.directories.DirChange.{DirChange}
 use Rattle.ae_machine.specs.Call.{Given, change_named, change_of, given_of}

@@ -1,4 +1,4 @@
-use Rattle.std.proofs.Common.{rules, ◌≡◌, ◌∙◌, sym, subst, Some}
+use Rattle.std.proofs.Common.{◌∙◌, sym, subst, Some}
 use Rattle.ae_machine.specs.declared.verdict.Verdict.{Verdict}
 use Rattle.ae_exec.specs.Next.{IfAccepted, MayFollow}
 use Rattle.ae_exec.specs.Writing.{MayBePut}

@@ -1,5 +1,5 @@
 use Rattle.std.proofs.Math.Nat.{le_trans}
-use Rattle.std.proofs.Common.{rules, refl, ◌≡◌, ◌∙◌, ap, sym, subst, inr, ℕ, List, Option, Some, Err}
+use Rattle.std.proofs.Common.{refl, ◌≡◌, ◌∙◌, ap, sym, subst, inr, ℕ, List, Option, Some, Err}
 use Rattle.ae_outside.specs.Image.{Image}
 use Rattle.ae_outside.specs.Site.{SiteState}
 use Rattle.ae_outside.specs.State.{reads}
@@ -16,10 +16,7 @@ use Rattle.ae_base.specs.Rows.{paths_of}
 use Rattle.ae_machine.specs.Space.{placing}
 use Rattle.ae_machine.specs.Versions.{ShowsVersions}
 use Rattle.ae_exec.specs.Bytes.{HaveBytes}
-use Rattle.ae_exec.specs.Next.{IfAccepted, MayFollow}
-use Rattle.ae_exec.specs.Writing.{MayBePut}
 use Rattle.ae_exec.proofs.FirstSeen.{runs-read-files}
-use Rattle.ae_machine.specs.declared.verdict.Verdict.{Verdict}
 use Rattle.ae_machine.specs.Verdict.{verdict}
 use Rattle.ae_exec.specs.Reading.{AreKept, versions_for_runs}
 use Rattle.ae_exec.specs.Runs.{HaveRun}
@@ -34,7 +31,7 @@ use Rattle.ae_exec.proofs.Ended.{dirs_err}
 use Rattle.ae_exec.proofs.OwnDirs.{dirs_ends, dirs_touch, early-so, early-still, no-disk-fault, leaves-runs, leaves-still}
 use Rattle.ae_exec.proofs.Following.{same_answer}
 use Rattle.ae_exec.proofs.RunAnswers.{accepted-configured, accepted-with}
-use Rattle.ae_exec.proofs.RanSo.{all-kept, lost-later, of_ok, ran-both, refused-so, unrun-answer}
+use Rattle.ae_exec.proofs.RanSo.{all-kept, lost-later, ran-both, refused-so, unrun-answer}
 use Rattle.ae_exec.proofs.RunReady.{err-is}
 use Rattle.ae_exec.proofs.runs_plan.plan_runs_on.Goals as goal
 

@@ -1,4 +1,4 @@
-use Rattle.std.proofs.Common.{rules, ◌≡◌, ◌∙◌, ap, sym, subst, inl, inr, ℕ, List, [], Option, Some, None, Err}
+use Rattle.std.proofs.Common.{◌≡◌, ◌∙◌, ap, sym, subst, inl, inr, [], Option, Some, None, Err}
 use Rattle.std.proofs.Math.Nat.{le_trans}
 use Rattle.std.specs.List.{cons_option}
 use Rattle.ae_outside.specs.Image.{Image}

@@ -1,25 +1,17 @@
-use Rattle.std.proofs.Math.Nat.{le_trans}
-use Rattle.std.proofs.Common.{rules, ◌≡◌, ◌∙◌, ap, sym, subst, ℕ, List, [], ◌++◌, Option, Some, Err}
+use Rattle.std.proofs.Common.{◌≡◌, ◌∙◌, ap, sym, ℕ, List, [], ◌++◌, Err}
 use Rattle.std.specs.List.{cons_option}
 use Rattle.ae_outside.specs.declared.dir.Content.{Content}
-use Rattle.ae_outside.specs.Image.{Image}
 use Rattle.ae_outside.specs.State.{reads}
-use Rattle.ae_outside.specs.Time.{same_on, same_reads}
 use Rattle.ae_vault.specs.Vault.{effective}
 use Rattle.ae_machine.specs.declared.view.View.{View}
 use Rattle.ae_machine.specs.Call.{change_named, given_of}
 use Rattle.ae_machine.specs.Called.{Called, called, given_before, nothing_seen}
-use Rattle.ae_machine.specs.Sight.{with_bytes}
 use Rattle.ae_machine.specs.Space.{placing}
-use Rattle.ae_machine.specs.Versions.{config_version, files_refused, first_differing}
-use Rattle.ae_machine.specs.Call.{call_of}
+use Rattle.ae_machine.specs.Versions.{files_refused}
 use Rattle.ae_exec.specs.declared.stop.Stop.TheVariants as stop
-use Rattle.ae_exec.specs.Bytes.{HaveBytes}
-use Rattle.ae_exec.specs.Endings.{memory, refused}
-use Rattle.ae_exec.specs.Reading.{AreKept, compared_for, versions_of}
+use Rattle.ae_exec.specs.Endings.{memory}
 use Rattle.ae_exec.specs.Seen.{files_alone, no_bytes}
-use Rattle.ae_exec.proofs.Attempting.{risen_later}
-use Rattle.ae_exec.proofs.Compared.{asked-kept-so, bytes-for-both, lost-config}
+use Rattle.ae_exec.proofs.Compared.{bytes-for-both}
 use Rattle.ae_exec.proofs.Endings.{ends_for}
 use Rattle.ae_exec.proofs.FirstSeen.{asked-row, rows-show}
 use Rattle.ae_exec.proofs.RunAnswers.{either-refused}
