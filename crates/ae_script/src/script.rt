@@ -130,13 +130,6 @@ pub fn run_script<D: Disk, S: Site, I: Source, O: Sink>(
     if now > LAST_MOMENT {
         return tell_bad_words(alloc, 0, out);
     }
-    do_lines(
-        alloc,
-        Manner::Script,
-        Standing { who, now },
-        disk,
-        site,
-        input,
-        out,
-    )
+    let standing = Standing { who, now };
+    do_lines(alloc, Manner::Script, standing, disk, site, input, out)
 }

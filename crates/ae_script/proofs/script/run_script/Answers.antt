@@ -29,3 +29,23 @@ returns-clause-nobody g c = λ nobody.
 pub returns-clause-complete : goal.returns-clause-complete
 returns-clause-complete g c = λ may tells shown fed held log was is_script no_disk no_site no_source no_sink.
     script_complete _ _ _ _ _ _ _ no_disk no_site no_source no_sink is_script (c.do_lines.ensures.done tells shown fed held log was)
+
+-- ---- what follows from the lines alone
+
+pub returns-clause-causes : goal.returns-clause-causes
+returns-clause-causes g c = c.do_lines.ensures.causes
+
+pub returns-clause-disk : goal.returns-clause-disk
+returns-clause-disk g c = c.do_lines.ensures.disk
+
+pub returns-clause-disk_faults : goal.returns-clause-disk_faults
+returns-clause-disk_faults g c = c.do_lines.ensures.disk_faults
+
+pub returns-clause-site_faults : goal.returns-clause-site_faults
+returns-clause-site_faults g c = c.do_lines.ensures.site_faults
+
+pub returns-clause-input_faults : goal.returns-clause-input_faults
+returns-clause-input_faults g c = c.do_lines.ensures.input_faults
+
+pub returns-clause-out_faults : goal.returns-clause-out_faults
+returns-clause-out_faults g c = c.do_lines.ensures.out_faults
