@@ -4,5 +4,3 @@ pub mod PathParts
 pub mod WordTables
 pub mod WordsFound
 pub mod Ascii
-pub mod UserLists
-pub mod UsersDiffer

@@ -5,5 +5,4 @@ pub mod Numbers
 pub mod Outcomes
 pub mod Refusals
 pub mod Rows
-pub mod Users
 pub mod Words

@@ -12,7 +12,6 @@ mod refusal;
 mod snapshot;
 mod text;
 mod user;
-mod user_set;
 mod words;
 
 pub use lists::{PathList, SnapshotList, UserList};
@@ -24,5 +23,4 @@ pub use refusal::Refusal;
 pub use snapshot::Snapshot;
 pub use text::Text;
 pub use user::User;
-pub use user_set::UserSet;
 pub use words::{Action, Cause, Ground, Kind, Phase, Role, Usage, What, Which};

@@ -15,7 +15,7 @@ use Rattle.ae_outside.specs.Trees.{Tree, no_files, parts, with_rows, within}
 use Rattle.ae_outside.specs.declared.dir.Content.{Content}
 use Rattle.ae_outside.specs.declared.dir.Dir.{Dir}
 use Rattle.ae_outside.specs.declared.dir.Dir.TheVariants.{Base, Develop, Integrate}
-use Rattle.ae_outside.proofs.FileRowLaws.{dir_eq_refl}
+use Rattle.ae_outside.proofs.DirLaws.{dir_eq_refl}
 use Rattle.ae_types.specs.declared.change.Change.{Change}
 use Rattle.ae_types.specs.Observation.{Observation}
 use Rattle.ae_types.specs.Ordered as ordered

@@ -4,11 +4,12 @@ ghost use Rattle.ae_log.specs.After.{new_project, started};
 ghost use Rattle.ae_log.specs.Applies.{IsProject};
 
 use crate::{Event, EventKind};
-use ae_base::{ProjectName, User, UserSet};
+use ae_base::{ProjectName, User};
 use ae_types::{
     Attributes, ChangeList, DeltaList, FileRows, LockList, NumberList, Parts, Project, State,
     TryCopy,
 };
+use ae_users::UserSet;
 use std::alloc::{AllocError, Global};
 
 // The set of this user alone.

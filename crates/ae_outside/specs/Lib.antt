@@ -1,11 +1,7 @@
-pub mod Calls
 pub mod Causes
+pub mod Dirs
 pub mod DiskNames
-pub mod FileRows
 pub mod Image
-pub mod MemSites
-pub mod MemStreams
-pub mod Scripts
 pub mod Site
 pub mod State
 pub mod Streams
@@ -13,9 +9,3 @@ pub mod Time
 pub mod TreeLaws
 pub mod Trees
 pub mod Untold
-pub mod DiskFiles
-pub mod DiskLog
-pub mod DiskLaws
-pub mod DiskShort
-pub mod DiskPick
-pub mod MemDisk

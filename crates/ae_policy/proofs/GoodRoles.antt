@@ -6,7 +6,7 @@ use Rattle.std.specs.Str.{bytes_eq}
 use Rattle.std.specs.Cmp.Lexicographic.{nat_list_eq_equiv}
 use Rattle.std.proofs.lemmas.Bool.{cases_lt}
 use Rattle.std.proofs.lemmas.Map.Made.{length-remove_key}
-use Rattle.ae_base.specs.Users.{AllDiffer, without}
+use Rattle.ae_users.specs.Users.{AllDiffer, without}
 use Rattle.ae_base.specs.declared.refusal.Refusal.TheVariants.{UserThere, UserNotThere, LastAdministrator, Limit}
 use Rattle.ae_base.specs.declared.words.Which.TheVariants.{RoleUsers}
 use Rattle.ae_base.specs.declared.words.Role.{Role}

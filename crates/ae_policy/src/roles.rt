@@ -6,8 +6,9 @@ ghost use Rattle.ae_policy.specs.Answers.{IsAnswer};
 
 use crate::PolicyError;
 use ae_base::limits::MOST_ROLE_USERS;
-use ae_base::{Refusal, Role, User, UserSet, Which};
+use ae_base::{Refusal, Role, User, Which};
 use ae_types::Project;
+use ae_users::UserSet;
 use std::alloc::Global;
 
 // How many users a role may have.

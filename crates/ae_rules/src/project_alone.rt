@@ -3,9 +3,10 @@ ghost use Rattle.std.specs.Prelude.{◌≡◌};
 ghost use Rattle.ae_types.specs.Rules.{is_moment, role_is_good, roles_are_good, deltas_are_numbered, deltas_have_moments, next_version_is_good, project_is_good};
 
 use crate::order::numbers_ascend;
+use ae_base::ChangeNo;
 use ae_base::limits::{LAST_MOMENT, MOST_NEXT_VERSION, MOST_ROLE_USERS};
-use ae_base::{ChangeNo, UserSet};
 use ae_types::{DeltaRow, Project};
+use ae_users::UserSet;
 
 // The users differ, since they are a set.
 fn role_is_good(users: &UserSet) -> bool

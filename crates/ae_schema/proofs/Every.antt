@@ -12,7 +12,7 @@ use Rattle.ae_text.specs.Grammar.{Reads}
 use Rattle.ae_text.proofs.Complete.{members_list, members_list-back}
 use Rattle.ae_text.proofs.EveryText.{every_text}
 use Rattle.ae_base.specs.Names.{IsPath, IsUser, IsProjectName, is_path, is_user, is_project_name}
-use Rattle.ae_base.specs.Users.{AllDiffer}
+use Rattle.ae_users.specs.Users.{AllDiffer}
 use Rattle.ae_base.specs.Words.{phase_word, phases, action_word, actions, usage_word, usages, cause_word, causes, ground_word, grounds, kind_word, kinds, what_word, events_of_history}
 use Rattle.ae_base.specs.declared.words.Phase.{Phase}
 use Rattle.ae_base.specs.declared.words.Phase.TheVariants as phase_is

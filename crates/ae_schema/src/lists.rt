@@ -5,9 +5,10 @@ ghost use Rattle.ae_schema.specs.Spelled.{list_of};
 
 use crate::parts::list_in;
 use crate::value::Value;
-use ae_base::{User, UserList, UserSet};
+use ae_base::{User, UserList};
 use ae_text::{Field, Tree, TreeList};
 use ae_types::Rows;
+use ae_users::UserSet;
 use std::alloc::{AllocError, Global};
 
 // The rows that the trees spell, one each.

@@ -16,9 +16,10 @@ use crate::lists::put_list;
 use crate::record::read_record;
 use crate::structure::{read_structure, structure_of};
 use crate::value::{Value, put_both, put_field};
-use ae_base::{ChangeNo, Delta, ProjectName, Text, User, UserSet};
+use ae_base::{ChangeNo, Delta, ProjectName, Text, User};
 use ae_text::{Field, Tree, print_tree};
 use ae_types::{Attributes, DeltaList, DeltaRow, EndAction, NumberList, Project};
+use ae_users::UserSet;
 use std::alloc::{AllocError, Global};
 
 /// The format of the state files: 1.

@@ -6,7 +6,7 @@ use Rattle.std.specs.Ordering.{nat_cmp}
 use Rattle.std.specs.Str.{bytes_eq}
 use Rattle.ae_base.specs.declared.words.Role.{Role}
 use Rattle.ae_base.specs.declared.words.Role.TheVariants.{Administrator, Developer, Reviewer, Integrator}
-use Rattle.ae_base.specs.Users.{AllDiffer}
+use Rattle.ae_users.specs.Users.{AllDiffer}
 use Rattle.ae_types.specs.declared.change.Change.{Change}
 use Rattle.ae_types.specs.declared.change.ChangeFile.{ChangeFile}
 use Rattle.ae_types.specs.declared.change.Evidence.{Evidence}

@@ -3,7 +3,7 @@ use Rattle.std.specs.Prelude.{◌≡◌, ℕ, ◌<◌, ◌≤◌, true, false, �
 use Rattle.std.specs.Option.{option_map}
 use Rattle.std.specs.Ordering.{nat_cmp}
 use Rattle.ae_base.specs.Limits.{last_moment, most_change_files, most_deltas, most_file_bytes, most_next_version, most_role_users, most_units}
-use Rattle.ae_base.specs.Users.{AllDiffer}
+use Rattle.ae_users.specs.Users.{AllDiffer}
 use Rattle.ae_base.specs.declared.words.Phase.{Phase}
 use Rattle.ae_base.specs.declared.words.Role.{Role}
 use Rattle.ae_types.specs.declared.change.Change.{Change}

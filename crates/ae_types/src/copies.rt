@@ -2,7 +2,8 @@
 ghost use Rattle.std.specs.Prelude.{◌≡◌, IfOk};
 
 use crate::TryCopy;
-use ae_base::{Path, User, UserSet};
+use ae_base::{Path, User};
+use ae_users::UserSet;
 use std::alloc::{AllocError, Global};
 
 impl TryCopy for User {

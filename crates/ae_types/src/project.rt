@@ -1,7 +1,8 @@
 // A project: its settings, the users of its roles, and its deltas.
 use crate::copies::copy_five;
 use crate::{Rows, TryCopy};
-use ae_base::{ChangeNo, Delta, ProjectName, Text, User, UserSet};
+use ae_base::{ChangeNo, Delta, ProjectName, Text, User};
+use ae_users::UserSet;
 use std::alloc::{AllocError, Global};
 
 /// What follows the end of development.

@@ -1,0 +1,3 @@
+pub mod FileRowLaws
+pub mod Pieces
+pub mod ScriptLaws

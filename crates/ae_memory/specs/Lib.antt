@@ -1,0 +1,5 @@
+pub mod Calls
+pub mod FileRows
+pub mod MemSites
+pub mod MemStreams
+pub mod Scripts

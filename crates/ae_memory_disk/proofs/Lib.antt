@@ -1,0 +1,4 @@
+pub mod DiskFilesLemmas
+pub mod DiskReplay
+pub mod DiskPicked
+pub mod DiskCalls

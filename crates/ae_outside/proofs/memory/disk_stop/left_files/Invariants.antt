@@ -1,7 +1,0 @@
-use Rattle.std.proofs.Common.{◌≡◌, drop}
-use Rattle.ae_outside.specs.DiskFiles.{bytes_of}
-use Rattle.ae_outside.specs.DiskPick.{picked, picked_from}
-use Rattle.ae_outside.proofs.memory.disk_stop.left_files.Given as goal
-
-abbrev pub invariant-loop-entry : goal.invariant-loop-entry
-invariant-loop-entry l = picked_from l.pick (bytes_of l.read) (bytes_of l.left) (drop l.entry-index l.log) ≡ picked l.pick (bytes_of l.start) l.log
