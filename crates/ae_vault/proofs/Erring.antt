@@ -2,7 +2,8 @@
 use Rattle.std.specs.Prelude.{◌≡◌, ℕ, ◌≤◌, Result, Ok, Err, IfOk, OnOk, IsErrOf}
 use Rattle.std.specs.Result.{IsErrAnd}
 use Rattle.std.proofs.Common.{sym, ◌∙◌, arith, refl}
-use Rattle.ae_outside.specs.Causes.{HasRisen}
+use Rattle.std.proofs.Math.Nat.{le_trans}
+use Rattle.ae_outside.specs.Causes.{HasRisen, Counted}
 use Rattle.ae_outside.specs.declared.failed.ReadError.{ReadError}
 use Rattle.ae_outside.specs.declared.failed.ReadError.TheVariants as reading
 use Rattle.ae_vault.specs.Errors.{read_error}
@@ -39,3 +40,13 @@ reading_failed reading.Memory is = cc
 -- what rose later has risen
 pub risen_later : (before mid now : ℕ) → before ≤ mid → HasRisen mid now → HasRisen before now
 risen_later before mid now later rose = omega (arith, later, rose)
+
+pub fault_is_no_memory : vault.DiskFault ≡ vault.Memory → ⊥
+fault_is_no_memory is = cc
+
+-- a failure of a later call has its cause
+pub counted_on : (before mid now : ℕ) (F G : Type 0) → before ≤ mid → (F → G) → Counted mid now G → Counted before now F
+counted_on before mid now F G earlier was counted = record {
+  later = le_trans earlier counted.later;
+  rose = λ is. risen_later before mid now earlier (counted.rose (was is));
+}

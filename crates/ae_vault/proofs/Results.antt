@@ -15,3 +15,8 @@ on_ok_from (Err e) P Q gives holds = tt
 pub if_ok_from : {T E : Type 0} (r : Result T E) (P Q : T → Type 0) → ((v : T) → P v → Q v) → IfOk r P → IfOk r Q
 if_ok_from (Ok v) P Q gives holds = gives v holds
 if_ok_from (Err e) P Q gives holds = tt
+
+-- what follows from two facts that hold at Ok
+pub on_ok_both : {T E : Type 0} (r : Result T E) (P Q R : Type 0) → (P → Q → R) → OnOk r P → OnOk r Q → OnOk r R
+on_ok_both (Ok v) P Q R gives first second = gives first second
+on_ok_both (Err e) P Q R gives first second = tt

@@ -1,12 +1,13 @@
-use Rattle.std.proofs.Common.{◌≡◌, true, List, ap, sym, ◌∙◌, subst, rules}
+use Rattle.std.proofs.Common.{◌≡◌, true, List, ap, refl, sym, ◌∙◌, subst, arith}
 use Rattle.ae_outside.specs.Image.{Image}
 use Rattle.ae_outside.specs.State.{reads, MayLeave, GoesOn}
-use Rattle.ae_outside.specs.Time.{continues_then}
+use Rattle.ae_outside.specs.Time.{continues_refl, continues_then}
 use Rattle.ae_vault.specs.declared.piece.Piece.{Piece}
 use Rattle.ae_vault.specs.Batch.{BatchRecord}
-use Rattle.ae_vault.specs.Pieces.{pack, no_entry_is_pack, HasPieces, PackedOver}
+use Rattle.ae_vault.specs.Pieces.{pack, no_entry_is_pack, are_pieces, HasPieces, PackedOver}
 use Rattle.ae_vault.proofs.BatchPhases.{through_pieces, through_entries, all_after, read_after, one_read}
 use Rattle.ae_vault.proofs.Results.{on_ok_from}
+use Rattle.ae_vault.proofs.Erring.{on_ok_of_err, counted_on}
 use Rattle.ae_vault.proofs.vault.Vault.commit.Goals as goal
 
 pub returns-in_err-write_pieces-clause-any_moment : goal.returns-in_err-write_pieces-clause-any_moment
@@ -46,7 +47,7 @@ returns-clause-read g c =
     read_after c.args.batch unnamed (g.D.Disk.state c.args.disk.now) (c.requires t) (g.D.Disk.state c.write_pieces.new.disk) goes has (reads (g.D.Disk.state c.put_batch.new.disk)) (read t)) c.put_batch.ensures.read
 
 pub returns-then-is_empty-clause-cause : goal.returns-then-is_empty-clause-cause
-returns-then-is_empty-clause-cause g c = search rules
+returns-then-is_empty-clause-cause g c = record { later = omega arith; rose = λ none. cc }
 
 pub returns-in_err-write_pieces-clause-one_of_two : goal.returns-in_err-write_pieces-clause-one_of_two
 returns-in_err-write_pieces-clause-one_of_two g c = λ t.
@@ -56,3 +57,35 @@ returns-in_err-write_pieces-clause-one_of_two g c = λ t.
 
 pub returns-clause-clean : goal.returns-clause-clean
 returns-clause-clean g c = c.put_batch.ensures.clean
+
+-- ---- what follows from the calls alone
+
+pub write_pieces-requires : goal.write_pieces-requires
+write_pieces-requires g c = ap are_pieces c.pieces.ensures.value ∙ c.pieces.ensures.pieces
+
+pub returns-in_err-write_pieces-clause-time : goal.returns-in_err-write_pieces-clause-time
+returns-in_err-write_pieces-clause-time g c = λ t. (c.write_pieces.ensures.change t).time
+
+pub returns-in_err-write_pieces-clause-clean : goal.returns-in_err-write_pieces-clause-clean
+returns-in_err-write_pieces-clause-clean g c = on_ok_of_err c.from_residual.result _ _ c.from_residual.ensures.1
+
+pub returns-in_err-write_pieces-clause-all : goal.returns-in_err-write_pieces-clause-all
+returns-in_err-write_pieces-clause-all g c = on_ok_of_err c.from_residual.result _ _ c.from_residual.ensures.1
+
+pub returns-in_err-write_pieces-clause-read : goal.returns-in_err-write_pieces-clause-read
+returns-in_err-write_pieces-clause-read g c = on_ok_of_err c.from_residual.result _ _ c.from_residual.ensures.1
+
+pub returns-in_err-write_pieces-clause-cause : goal.returns-in_err-write_pieces-clause-cause
+returns-in_err-write_pieces-clause-cause g c = record { later = c.write_pieces.ensures.cause.later; rose = λ is. c.in_err-write_pieces.ensures.cause.rose refl }
+
+pub returns-clause-time : goal.returns-clause-time
+returns-clause-time g c = λ t. continues_then _ _ _ (c.write_pieces.ensures.change t).time (c.put_batch.ensures.time t)
+
+pub returns-clause-cause : goal.returns-clause-cause
+returns-clause-cause g c = counted_on _ _ _ _ _ c.write_pieces.ensures.cause.later (λ is. is) c.put_batch.ensures.cause
+
+pub returns-then-is_empty-clause-time : goal.returns-then-is_empty-clause-time
+returns-then-is_empty-clause-time g c = λ t. continues_refl (g.D.Disk.state c.args.disk.now)
+
+pub returns-then-is_empty-clause-nothing : goal.returns-then-is_empty-clause-nothing
+returns-then-is_empty-clause-nothing g c = λ entries pieces. refl
