@@ -50,3 +50,12 @@ counted_on before mid now F G earlier was counted = record {
   later = le_trans earlier counted.later;
   rose = λ is. risen_later before mid now earlier (counted.rose (was is));
 }
+
+pub memory_is_no_damage : vault.Memory ≡ vault.Damaged → ⊥
+memory_is_no_damage is = cc
+
+pub memory_is_no_fault : vault.Memory ≡ vault.DiskFault → ⊥
+memory_is_no_fault is = cc
+
+pub damaged_is_no_fault : {T : Type 0} → IsErrOf {T = T} (Err vault.Damaged) vault.DiskFault → ⊥
+damaged_is_no_fault is = cc

@@ -1,8 +1,10 @@
-use Rattle.std.proofs.Common.{◌≤◌, ℕ, List, [], ◌∷◌, length, subst, arith}
+use Rattle.std.proofs.Common.{◌≤◌, ℕ, List, [], ◌∷◌, length, refl, subst, arith}
+use Rattle.std.proofs.Math.Nat.{le_trans}
 use Rattle.ae_outside.specs.Image.{WriteBegun, Overwritten}
 use Rattle.ae_outside.specs.State.{reads, GoesOn}
 use Rattle.ae_vault.specs.Pieces.{pack}
 use Rattle.ae_vault.proofs.Packs.{zeros_for, begun_on, wrote_piece, piece_there, piece_same}
+use Rattle.ae_vault.proofs.Erring.{on_ok_of_err, if_ok_of_err, counted_on}
 use Rattle.ae_vault.proofs.packed.put_piece.Goals as goal
 
 pub returns-in_err-fill-clause-change : goal.returns-in_err-fill-clause-change
@@ -33,3 +35,38 @@ returns-clause-change g c = λ t.
     let wrote : GoesOn (WriteBegun pack c.args.piece.now.at (length c.args.piece.now.bytes)) (g.D.Disk.state c.fill.new.disk) (g.D.Disk.state c.write_at.new.self) =
     subst (λ (b : List ℕ). GoesOn (WriteBegun pack c.args.piece.now.at (length b)) (g.D.Disk.state c.fill.new.disk) (g.D.Disk.state c.write_at.new.self)) c.bytes-bytes.ensures.value (c.write_at.ensures.change t) in
     begun_on (c.args.piece.now ∷ []) c.args.size _ _ _ (zeros_for c.args.piece.now c.args.size _ _ (c.fill.ensures.change t)) (wrote_piece c.args.size c.args.piece.now _ _ wrote)
+
+-- ---- what follows from the calls alone
+
+pub returns-in_err-fill-clause-size : goal.returns-in_err-fill-clause-size
+returns-in_err-fill-clause-size g c = if_ok_of_err c.from_residual.result _ _ c.from_residual.ensures.1
+
+pub returns-in_err-fill-clause-no_shorter : goal.returns-in_err-fill-clause-no_shorter
+returns-in_err-fill-clause-no_shorter g c = if_ok_of_err c.from_residual.result _ _ c.from_residual.ensures.1
+
+pub returns-in_err-fill-clause-has : goal.returns-in_err-fill-clause-has
+returns-in_err-fill-clause-has g c = on_ok_of_err c.from_residual.result _ _ c.from_residual.ensures.1
+
+pub returns-in_err-fill-clause-same : goal.returns-in_err-fill-clause-same
+returns-in_err-fill-clause-same g c = on_ok_of_err c.from_residual.result _ _ c.from_residual.ensures.1
+
+pub returns-in_err-fill-clause-cause : goal.returns-in_err-fill-clause-cause
+returns-in_err-fill-clause-cause g c = record { later = c.fill.ensures.cause.later; rose = λ is. c.in_err-fill.ensures.cause.rose refl }
+
+pub returns-in_err-write_at-clause-size : goal.returns-in_err-write_at-clause-size
+returns-in_err-write_at-clause-size g c = if_ok_of_err c.from_residual-in_err-write_at.result _ _ c.from_residual-in_err-write_at.ensures.1
+
+pub returns-in_err-write_at-clause-no_shorter : goal.returns-in_err-write_at-clause-no_shorter
+returns-in_err-write_at-clause-no_shorter g c = if_ok_of_err c.from_residual-in_err-write_at.result _ _ c.from_residual-in_err-write_at.ensures.1
+
+pub returns-in_err-write_at-clause-has : goal.returns-in_err-write_at-clause-has
+returns-in_err-write_at-clause-has g c = on_ok_of_err c.from_residual-in_err-write_at.result _ _ c.from_residual-in_err-write_at.ensures.1
+
+pub returns-in_err-write_at-clause-same : goal.returns-in_err-write_at-clause-same
+returns-in_err-write_at-clause-same g c = on_ok_of_err c.from_residual-in_err-write_at.result _ _ c.from_residual-in_err-write_at.ensures.1
+
+pub returns-in_err-write_at-clause-cause : goal.returns-in_err-write_at-clause-cause
+returns-in_err-write_at-clause-cause g c = counted_on _ _ _ _ _ c.fill.ensures.cause.later (λ is. refl) c.in_err-write_at.ensures.cause
+
+pub returns-clause-cause : goal.returns-clause-cause
+returns-clause-cause g c = record { later = le_trans c.fill.ensures.cause.later c.write_at.ensures.cause.later; rose = λ none. cc }

@@ -1,7 +1,8 @@
-use Rattle.std.proofs.Common.{◌≤◌, length, arith}
+use Rattle.std.proofs.Common.{◌≤◌, length, refl, arith}
 use Rattle.ae_outside.specs.State.{reads}
 use Rattle.ae_vault.specs.Pieces.{pack}
 use Rattle.ae_vault.proofs.Packs.{piece_on, has_one_more}
+use Rattle.ae_vault.proofs.Erring.{on_ok_of_err, counted_on}
 use Rattle.ae_vault.proofs.packed.put_pieces.Goals as goal
 
 pub returns-in_err-size-clause-change : goal.returns-in_err-size-clause-change
@@ -20,3 +21,20 @@ loop-piece-preserved g c = record {
       piece_on c.args.pieces.now c.loop-piece.piece-index c.piece-item.result c.loop-piece.size c.args.size _ _ _ (omega arith) c.piece-item.is c.loop-piece.invariant.no_shorter (c.loop-piece.invariant.change t) (c.put_piece.ensures.change t);
   faults = omega (arith, c.loop-piece.invariant.faults, c.put_piece.ensures.cause.later);
 }
+
+-- ---- what follows from the calls alone
+
+pub returns-in_err-size-clause-has : goal.returns-in_err-size-clause-has
+returns-in_err-size-clause-has g c = on_ok_of_err c.from_residual.result _ _ c.from_residual.ensures.1
+
+pub returns-in_err-size-clause-cause : goal.returns-in_err-size-clause-cause
+returns-in_err-size-clause-cause g c = counted_on _ _ _ _ _ c.loop-piece.invariant.faults (λ is. refl) c.in_err-size.ensures.cause
+
+pub returns-clause-change : goal.returns-clause-change
+returns-clause-change g c = c.loop-piece.invariant.change
+
+pub returns-clause-cause : goal.returns-clause-cause
+returns-clause-cause g c = record { later = c.loop-piece.invariant.faults; rose = λ none. cc }
+
+pub put_piece-requires-clause-size : goal.put_piece-requires-clause-size
+put_piece-requires-clause-size g c = c.loop-piece.invariant.size
