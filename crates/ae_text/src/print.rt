@@ -31,8 +31,7 @@ fn put_string(out: &mut Vec<u8>, s: &[u8]) -> Result<(), AllocError>
     for b in s {
         put_piece(out, *b)?;
     }
-    out.push(b'"')?;
-    Ok(())
+    out.extend_from_slice(b"\"")
 }
 
 fn put_number(out: &mut Vec<u8>, n: u64) -> Result<(), AllocError>
@@ -55,8 +54,7 @@ fn put_value(out: &mut Vec<u8>, tree: &Tree) -> Result<(), AllocError>
         Tree::List(list) => {
             out.push(b'[')?;
             put_items(out, list.items.as_slice())?;
-            out.push(b']')?;
-            Ok(())
+            out.extend_from_slice(b"]")
         }
         Tree::Fields(fields) => {
             out.push(b'{')?;
@@ -100,8 +98,7 @@ fn put_field(out: &mut Vec<u8>, field: &Field) -> Result<(), AllocError>
     out.extend_from_slice(field.name.bytes())?;
     out.extend_from_slice(b" = ")?;
     put_value(out, &field.value)?;
-    out.push(b';')?;
-    Ok(())
+    out.extend_from_slice(b";")
 }
 
 fn put_fields(out: &mut Vec<u8>, fields: &[Field]) -> Result<(), AllocError>

@@ -116,7 +116,10 @@ fn done_fields(alloc: Global, place: Place) -> FieldList
 {
     match place {
         Place::Done(fields) => fields.close(),
-        _ => FieldList::of(Vec::new(alloc)),
+        other => {
+            drop(other);
+            FieldList::of(Vec::new(alloc))
+        }
     }
 }
 

@@ -24,9 +24,10 @@ put_spaced_fields-loop-field-preserved n c =
 
 pub put_field-returns-clause-text : goal.put_field-returns-clause-text
 put_field-returns-clause-text n c =
+    where_put c.extend_from_slice-3.result _ _ _ _ c.extend_from_slice-3.ensures.items (λ put.
     four_put c.args.out.now.items c.args.field.now.name _ _ _ _ _ _ _
     (c.in_ok-extend_from_slice.ensures.items ∙ ap (λ (l : List ℕ). c.args.out.now.items ++ l) c.bytes.ensures.value)
-    c.in_ok-extend_from_slice-2.ensures.items c.in_ok-put_value.ensures.text c.in_ok-push.ensures.items
+    c.in_ok-extend_from_slice-2.ensures.items c.in_ok-put_value.ensures.text put)
 
 pub put_value-returns-in_ok-put_spaced_fields-in-Fields-clause-text : goal.put_value-returns-in_ok-put_spaced_fields-in-Fields-clause-text
 put_value-returns-in_ok-put_spaced_fields-in-Fields-clause-text n c =
@@ -37,10 +38,11 @@ put_value-returns-in_ok-put_spaced_fields-in-Fields-clause-text n c =
     put
     ∙ ap (λ (n : Node). out ++ value_text n) (sym (seen_fields c.args.tree.now c.in-Fields.fields c.as_slice-in-Fields.result.now c.in-Fields.is c.as_slice-in-Fields.ensures.value)))
 
-pub put_value-returns-in_ok-push-in-List-2-clause-text : goal.put_value-returns-in_ok-push-in-List-2-clause-text
-put_value-returns-in_ok-push-in-List-2-clause-text n c =
+pub put_value-returns-in_ok-put_items-in-List-clause-text : goal.put_value-returns-in_ok-put_items-in-List-clause-text
+put_value-returns-in_ok-put_items-in-List-clause-text n c =
     let out = c.args.out.now.items in
+    where_put c.extend_from_slice-in-List.result _ _ _ _ c.extend_from_slice-in-List.ensures.items (λ put.
     three_put out _ _ _ _ _ _ c.in_ok-push-in-List.ensures.items
     c.in_ok-put_items-in-List.ensures.text
-    c.in_ok-push-in-List-2.ensures.items
-    ∙ ap (λ (n : Node). out ++ value_text n) (sym (seen_list c.args.tree.now c.in-List.list c.as_slice.result.now c.in-List.is c.as_slice.ensures.value))
+    put
+    ∙ ap (λ (n : Node). out ++ value_text n) (sym (seen_list c.args.tree.now c.in-List.list c.as_slice.result.now c.in-List.is c.as_slice.ensures.value)))
