@@ -34,6 +34,10 @@ abbrev pub run_length : List ℕ → ℕ
 run_length [] = 0
 run_length (b ∷ bs) = if goes_on_word b then suc (run_length bs) else 0
 
+-- the number, where it stays below the limit
+abbrev pub fitting : ℕ → ℕ → Option ℕ
+fitting n limit = if nat_lt n limit then Some n else None
+
 -- the number that n and these digits make, where it stays below 2^64
 abbrev pub number_from : ℕ → List ℕ → Option ℕ
 number_from n [] = Some n

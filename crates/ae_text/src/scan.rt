@@ -1,10 +1,10 @@
 // The first token of bytes.
-ghost use Rattle.std.specs.Prelude.{◌≡◌, ◌<◌, ◌≤◌, ◌++◌, length, option_map, IfSome, IfOk, take, drop, slice_index, true};
+ghost use Rattle.std.specs.Prelude.{◌≡◌, ◌<◌, ◌≤◌, ◌+◌, ◌*◌, ◌^◌, ◌++◌, length, option_map, IfSome, IfOk, take, drop, slice_index, true};
 ghost use Rattle.ae_base.specs.Names.{is_digit};
 ghost use Rattle.ae_text.specs.WellFormed.{begins_word, goes_on_word};
 ghost use Rattle.ae_text.specs.Token.{is_blank, is_sign};
 ghost use Rattle.ae_text.specs.Steps.{token_of};
-ghost use Rattle.ae_text.specs.Scan.{after_end, after_one, skipped, run_length, number_from, is_octal, octal_value, octal_byte, octal_at, escape_at, piece_at, closed_string, string_at, number_token, string_token, token_at, gapless, is_moving};
+ghost use Rattle.ae_text.specs.Scan.{fitting, after_end, after_one, skipped, run_length, number_from, is_octal, octal_value, octal_byte, octal_at, escape_at, piece_at, closed_string, string_at, number_token, string_token, token_at, gapless, is_moving};
 
 use crate::pushdown::Token;
 use ae_base::Text;
@@ -90,6 +90,13 @@ fn run_of(bytes: &[u8]) -> usize
     bytes.len()
 }
 
+// The number with a digit more, where it fits.
+fn with_digit(n: u64, digit: u8) -> Option<u64>
+    ensures { result ≡ fitting (10 * n + digit) (2 ^ 64) }
+{
+    n.checked_mul(10)?.checked_add(u64::from(digit))
+}
+
 // The number of these digits, where it fits.
 fn number_of(bytes: &[u8]) -> Option<u64>
     ensures { result ≡ number_from 0 bytes.now }
@@ -99,9 +106,16 @@ fn number_of(bytes: &[u8]) -> Option<u64>
         if !is_digit_byte(*b) {
             return None;
         }
-        n = n.checked_mul(10)?.checked_add(u64::from(*b - b'0'))?;
+        n = with_digit(n, *b - b'0')?;
     }
     Some(n)
+}
+
+// The byte of this value, where there is one.
+fn byte_of(n: u16) -> Option<u8>
+    ensures { result ≡ fitting n 256 }
+{
+    if n < 256 { Some(n as u8) } else { None }
 }
 
 // The byte of three octal digits, where there is one.
@@ -111,8 +125,7 @@ fn octal_of(x: u8, y: u8, z: u8) -> Option<u8>
     if !is_octal_byte(x) || !is_octal_byte(y) || !is_octal_byte(z) {
         return None;
     }
-    let n = 64 * u16::from(x - b'0') + 8 * u16::from(y - b'0') + u16::from(z - b'0');
-    if n < 256 { Some(n as u8) } else { None }
+    byte_of(64 * u16::from(x - b'0') + 8 * u16::from(y - b'0') + u16::from(z - b'0'))
 }
 
 fn is_octal_byte(b: u8) -> bool
