@@ -5,7 +5,7 @@ use Rattle.ae_base.specs.declared.outcome.Outcome.{Outcome}
 use Rattle.ae_base.specs.declared.outcome.Outcome.TheVariants.{Done, RunFailed, Refused, Memory}
 use Rattle.ae_outside.specs.Site.{SiteState}
 use Rattle.ae_outside.specs.declared.dir.Dir.{Dir}
-use Rattle.ae_lines.specs.Cut.{lines_of}
+use Rattle.ae_reader.specs.Cut.{lines_of}
 use Rattle.ae_lines.specs.declared.line.Line.{Line}
 use Rattle.ae_lines.specs.declared.line.Line.TheVariants.{Nothing, As, At, Do, Put, Fill, Remove}
 use Rattle.ae_log.specs.Log.{Log}

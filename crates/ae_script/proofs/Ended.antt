@@ -6,9 +6,9 @@ use Rattle.ae_base.specs.declared.outcome.Outcome.TheVariants.{Done, RunFailed, 
 use Rattle.ae_outside.specs.Causes.{HasRisen}
 use Rattle.ae_outside.specs.Site.{SiteState}
 use Rattle.ae_outside.specs.State.{DiskState, Continues}
-use Rattle.ae_lines.specs.Cut.{lines_of, IsWithin}
+use Rattle.ae_reader.specs.Cut.{lines_of, IsWithin}
 use Rattle.ae_lines.specs.Line.{IsLine}
-use Rattle.ae_lines.specs.Reader.{IsNext, IsTooLong, IsPart}
+use Rattle.ae_reader.specs.Reader.{IsNext, IsTooLong, IsPart}
 use Rattle.ae_lines.specs.declared.line.Line.{Line}
 use Rattle.ae_telling.specs.Messages.{bad_line_text, input_fault_text, memory_text, message}
 use Rattle.ae_telling.specs.Telling.{goes_on, sink_use, IsSaid, IsTold, IsToldOrMemory, unless_told}

@@ -17,7 +17,7 @@ use Rattle.ae_machine.specs.declared.verdict.Verdict.TheVariants.{Accept, Refuse
 use Rattle.ae_exec.specs.Said.{a_run_failed}
 use Rattle.ae_exec.specs.Step.{outcome_done, outcome_of_answer}
 use Rattle.ae_telling.specs.Telling.{IsSaid, IsTried}
-use Rattle.ae_lines.specs.Cut.{lines_of}
+use Rattle.ae_reader.specs.Cut.{lines_of}
 use Rattle.ae_script.specs.Along.{is_fault}
 use Rattle.ae_script.specs.Ends.{IsGood, AreLines, size}
 use Rattle.ae_script.specs.Script.{Point, LineDone, CommandEnds, answered, disk_fault, site_fault, memory, EditEnds, edited, edit_fault, edit_memory, Passes, DoesCommand, DoesEdit, Does, DoesLine, Runs, stop, transcript, reached, reached_by}

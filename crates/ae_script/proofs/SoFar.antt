@@ -5,9 +5,9 @@ use Rattle.ae_base.specs.declared.outcome.Outcome.{Outcome}
 use Rattle.ae_base.specs.declared.outcome.Outcome.TheVariants.{Done, RunFailed, Refused, BadWords, BadScript, DiskFault, SiteFault, SinkFault, SourceFault, Damaged, Memory}
 use Rattle.ae_outside.specs.Site.{SiteState}
 use Rattle.ae_outside.specs.State.{DiskState, Continues}
-use Rattle.ae_lines.specs.Cut.{IsWithin, lines_of}
+use Rattle.ae_reader.specs.Cut.{IsWithin, lines_of}
 use Rattle.ae_lines.specs.Line.{IsLine}
-use Rattle.ae_lines.specs.Reader.{IsNext}
+use Rattle.ae_reader.specs.Reader.{IsNext}
 use Rattle.ae_lines.specs.declared.line.Line.{Line}
 use Rattle.ae_lines.specs.declared.line.Line.TheVariants.{Nothing, As, At, Do, Put, Fill, Remove}
 use Rattle.ae_log.specs.Log.{Log}

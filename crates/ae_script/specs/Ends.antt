@@ -3,9 +3,9 @@ use Rattle.std.specs.Prelude.{◌≡◌, ◌≢◌, ◌⊎◌, ◌+◌, ◌++◌
 use Rattle.ae_base.specs.declared.outcome.Outcome.{Outcome}
 use Rattle.ae_base.specs.declared.outcome.Outcome.TheVariants.{Done, BadScript, DiskFault, SinkFault, SourceFault, Memory}
 use Rattle.ae_outside.specs.State.{DiskState}
-use Rattle.ae_lines.specs.Cut.{lines_of, content_of, IsWithin}
+use Rattle.ae_reader.specs.Cut.{lines_of, content_of, IsWithin}
 use Rattle.ae_lines.specs.Line.{IsLine}
-use Rattle.ae_lines.specs.Reader.{IsPart}
+use Rattle.ae_reader.specs.Reader.{IsPart}
 use Rattle.ae_lines.specs.declared.line.Line.{Line}
 use Rattle.ae_log.specs.Log.{Log}
 use Rattle.ae_telling.specs.Messages.{bad_line_text, input_fault_text, memory_text}

@@ -16,8 +16,9 @@ use crate::doing::{Standing, do_line, tell_line};
 use crate::manner::Manner;
 use ae_base::limits::LAST_MOMENT;
 use ae_base::{Outcome, User};
-use ae_lines::{LineError, LineReader, read_line};
+use ae_lines::read_line;
 use ae_outside::{Disk, Sink, Site, Source};
+use ae_reader::{LineError, LineReader};
 use ae_telling::{tell_bad_line, tell_bad_words, tell_input_fault, tell_memory};
 use std::alloc::Global;
 

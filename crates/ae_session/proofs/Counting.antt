@@ -1,9 +1,9 @@
 -- The builds of a script, counted line by line.
 use Rattle.std.specs.Prelude.{◌++◌}
 use Rattle.std.proofs.Common.{◌≡◌, ◌+◌, ◌∙◌, ℕ, List, [], ◌∷◌, append-nil, refl, sym, ap, subst, arith}
-use Rattle.ae_lines.specs.Cut.{lines_of}
+use Rattle.ae_reader.specs.Cut.{lines_of}
 use Rattle.ae_lines.specs.Line.{IsLine, Means, Said, says, asks, wrong, said}
-use Rattle.ae_lines.specs.Reader.{IsNext}
+use Rattle.ae_reader.specs.Reader.{IsNext}
 use Rattle.ae_lines.specs.declared.line.Line.{Line}
 use Rattle.ae_lines.specs.declared.line.Line.TheVariants.{Do}
 use Rattle.ae_words.specs.declared.command.Command.{Command}

@@ -6,7 +6,7 @@ use Rattle.ae_base.specs.declared.outcome.Outcome.{Outcome}
 use Rattle.ae_base.specs.declared.outcome.Outcome.TheVariants.{Done, DiskFault, Memory, Refused}
 use Rattle.ae_base.specs.declared.refusal.Refusal.TheVariants.{NoProject}
 use Rattle.ae_lines.specs.Line.{IsLine}
-use Rattle.ae_lines.specs.Reader.{IsNext}
+use Rattle.ae_reader.specs.Reader.{IsNext}
 use Rattle.ae_lines.specs.declared.line.Line.{Line}
 use Rattle.ae_lines.specs.declared.line.Line.TheVariants.{Nothing, As, At, Do, Put, Fill, Remove}
 use Rattle.ae_types.specs.Observation.{Observation}

@@ -1,11 +1,12 @@
 // The builds of a script.
 ghost use Rattle.std.specs.Prelude.{◌≡◌, ◌<◌, ◌≤◌, ◌++◌, ◌∷◌, [], ℕ, List, IfOk, IfSome, IfNone, OnSome};
-ghost use Rattle.ae_lines.specs.Cut.{lines_of, most_bytes};
+ghost use Rattle.ae_reader.specs.Cut.{lines_of, most_bytes};
 ghost use Rattle.ae_script.specs.Ends.{IsBad};
 ghost use Rattle.ae_session.specs.Summary.{HasBuilds, IsCounted, builds_in};
 
 use crate::stored::Stored;
-use ae_lines::{Line, LineError, LineReader, read_line};
+use ae_lines::{Line, read_line};
+use ae_reader::{LineError, LineReader};
 use ae_words::Function;
 use std::alloc::{AllocError, Global};
 

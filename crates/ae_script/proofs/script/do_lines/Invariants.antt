@@ -1,6 +1,6 @@
 use Rattle.std.proofs.Common.{◌≡◌, ◌≤◌, ◌++◌, ℕ, List, ◌-◌}
 use Rattle.ae_outside.specs.Causes.{HasRisen}
-use Rattle.ae_lines.specs.Cut.{most_bytes}
+use Rattle.ae_reader.specs.Cut.{most_bytes}
 use Rattle.ae_log.specs.Log.{Log}
 use Rattle.ae_exec.specs.Holding.{HoldsLegal}
 use Rattle.ae_script.specs.Script.{point}

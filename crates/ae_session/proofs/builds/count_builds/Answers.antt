@@ -1,5 +1,5 @@
 use Rattle.std.proofs.Common.{◌≤◌, ◌<◌, ◌++◌, arith}
-use Rattle.ae_lines.specs.Cut.{most_bytes}
+use Rattle.ae_reader.specs.Cut.{most_bytes}
 use Rattle.ae_session.proofs.Counting.{counted_begin, counted_on, counted_all}
 use Rattle.ae_session.proofs.builds.count_builds.Goals as goal
 
