@@ -5,4 +5,5 @@ pub mod KindsRead
 pub mod OneAnswer
 pub mod NextItem
 pub mod PathMore
+pub mod MissingSign
 pub mod Rule
