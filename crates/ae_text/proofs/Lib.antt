@@ -1,4 +1,5 @@
 pub mod Shaped
+pub mod BadToken
 pub mod Complete
 pub mod Sound
 pub mod Viable
