@@ -3,7 +3,7 @@ use Rattle.ae_vault.specs.declared.entry.Entry.{Entry}
 use Rattle.ae_vault.specs.declared.error.VaultError.TheVariants.{DiskFault, Damaged, Memory}
 use Rattle.ae_vault.specs.Vault.{entries_read}
 use Rattle.ae_vault.proofs.BodyText.{behind, read_one, read_none}
-use Rattle.ae_vault.proofs.Erring.{if_ok_of_err, err_was, ok_is_no_err, memory_is_no_damage, memory_is_no_fault, damaged_is_no_fault}
+use Rattle.ae_vault.proofs.Erring.{if_ok_of_err, err_was, ok_is_no_err, memory_is_no_damage, memory_is_no_fault}
 use Rattle.ae_vault.proofs.body.read_entries.Goals as goal
 
 pub returns-in_err-entry-clause-damaged : goal.returns-in_err-entry-clause-damaged
@@ -33,12 +33,6 @@ returns-in_err-push-clause-damaged c = λ is. absurd (memory_is_no_damage (err_w
 
 pub returns-in_err-push-clause-no_fault : goal.returns-in_err-push-clause-no_fault
 returns-in_err-push-clause-no_fault c = λ is. memory_is_no_fault (err_was c.from_residual-in_err-push.result Memory DiskFault c.from_residual-in_err-push.ensures.1 is)
-
-pub returns-then-not-is_empty-clause-entries : goal.returns-then-not-is_empty-clause-entries
-returns-then-not-is_empty-clause-entries c = tt
-
-pub returns-then-not-is_empty-clause-no_fault : goal.returns-then-not-is_empty-clause-no_fault
-returns-then-not-is_empty-clause-no_fault c = λ is. damaged_is_no_fault is
 
 pub returns-clause-damaged : goal.returns-clause-damaged
 returns-clause-damaged c = λ is. absurd (ok_is_no_err _ _ is)
