@@ -1,8 +1,7 @@
 -- No two files of a candidate have versions of one number, so the bytes that were read of them are those of their numbers.
 use Rattle.std.specs.Prelude.{◌≡◌, ◌⊎◌, ℕ, Bool, true, false, not, nat_eq, nat_le, if◌then◌else◌, List, [], ◌∷◌, map, filter, filter_map, Option, Some, None, All, IsSome}
 use Rattle.std.specs.Option.{option_and_then, option_map}
-use Rattle.std.proofs.Common.{refl, sym, ap, subst, ◌∙◌, inl, inr, arith}
-use Rattle.std.proofs.lemmas.Bool.Decides.{nat_tests}
+use Rattle.std.proofs.Common.{refl, sym, ap, ◌∙◌, inl, inr}
 use Rattle.std.proofs.lemmas.List.Elements.{All-head, All-tail}
 use Rattle.ae_base.specs.Rows.{Row, Rows, paths_of, text_cmp}
 use Rattle.ae_types.specs.declared.change.Change.{Change}
@@ -10,7 +9,7 @@ use Rattle.ae_types.specs.declared.change.ChangeFile.{ChangeFile}
 use Rattle.ae_types.specs.declared.file_table.FileRow.{FileRow}
 use Rattle.ae_types.specs.declared.file_table.FileVersion.{FileVersion}
 use Rattle.ae_types.specs.declared.version.VersionRef.{VersionRef}
-use Rattle.ae_types.specs.Found.{change_in, entry_delta, entry_in, file_in, file_path, has_file, number_of_change, row_in, row_path}
+use Rattle.ae_types.specs.Found.{change_in, entry_delta, entry_in, file_in, file_path, has_file, row_in, row_path}
 use Rattle.ae_types.specs.Observation.{Observation}
 use Rattle.ae_types.specs.Ordered.{Above, Ascends}
 use Rattle.ae_types.specs.Phases.{is_integrating}

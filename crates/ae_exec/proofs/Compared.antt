@@ -1,12 +1,11 @@
 -- The files that a command with runs reads in integration are compared with the candidate's versions.
-use Rattle.std.specs.Prelude.{◌≡◌, ℕ, Bool, true, false, if◌then◌else◌, List, [], ◌∷◌, ◌++◌, Option, Some, None}
+use Rattle.std.specs.Prelude.{◌≡◌, ℕ, Bool, true, false, if◌then◌else◌, List, [], Option, Some, None}
 use Rattle.std.specs.List.{cons_option}
-use Rattle.std.proofs.Common.{refl, sym, ap, subst, ◌∙◌}
+use Rattle.std.proofs.Common.{refl, sym, subst, ◌∙◌}
 use Rattle.ae_base.specs.declared.refusal.Refusal.{Refusal}
 use Rattle.ae_outside.specs.Image.{Image}
 use Rattle.ae_outside.specs.declared.dir.Content.{Content}
 use Rattle.ae_types.specs.declared.change.Change.{Change}
-use Rattle.ae_types.specs.declared.version.VersionRef.{VersionRef}
 use Rattle.ae_types.specs.Observation.{Observation}
 use Rattle.ae_types.specs.Phases.{is_integrating}
 use Rattle.ae_types.specs.Trees.{TreeRow, baseline_of, candidate_of}
@@ -15,10 +14,10 @@ use Rattle.ae_words.specs.declared.command.Command.{Command}
 use Rattle.ae_machine.specs.declared.view.View.{View}
 use Rattle.ae_machine.specs.Call.{call_of, change_named}
 use Rattle.ae_machine.specs.Fits.{config_row, makes_runs}
-use Rattle.ae_machine.specs.Sight.{config_below, config_path, has_config, row_at, with_bytes}
+use Rattle.ae_machine.specs.Sight.{config_path, has_config, row_at, with_bytes}
 use Rattle.ae_machine.specs.Versions.{config_version, first_differing, rows_compared}
 use Rattle.ae_exec.specs.Bytes.{rows_at}
-use Rattle.ae_exec.specs.Reading.{AreKept, FirstIsLost, IsLostAmong, asked_of, compared_for, versions_for_answer, versions_of}
+use Rattle.ae_exec.specs.Reading.{AreKept, FirstIsLost, IsLostAmong, asked_of, compared_for, versions_of}
 use Rattle.ae_exec.proofs.ReadInOrder.{lost-left, lost-right}
 use Rattle.ae_exec.proofs.RunVersions.{answer-both, both-kept}
 

@@ -2,7 +2,7 @@
 use Rattle.std.specs.Prelude.{◌≡◌, ◌⊎◌, ℕ, true, false, Bool, List, [], ◌∷◌, Option, Some, None, IfSome, IsSome, IsSomeAnd, is_some, if◌then◌else◌, Result, Ok, Err, IfOk, All}
 use Rattle.std.specs.List.{list_all}
 use Rattle.std.proofs.Common.{inl, inr, refl, sym, ap, subst, ◌∙◌}
-use Rattle.std.proofs.lemmas.List.Elements.{All-nil, All-cons, All-map, All-same, All-tail}
+use Rattle.std.proofs.lemmas.List.Elements.{All-nil, All-cons, All-map, All-same}
 use Rattle.ae_base.specs.declared.refusal.Refusal.{Refusal}
 use Rattle.ae_outside.specs.Image.{Image}
 use Rattle.ae_vault.specs.Vault.{effective, content_of, put}
@@ -22,8 +22,8 @@ use Rattle.ae_machine.specs.declared.verdict.Verdict.{Verdict}
 use Rattle.ae_machine.specs.declared.verdict.Verdict.TheVariants.{Accept, Refuse}
 use Rattle.ae_machine.specs.Accepted.{AppliesAll, AreStart, IsDecided, decided, RowsShort, ends_development}
 use Rattle.ae_machine.specs.Call.{Given, call_of, change_of, given_of, first_of}
-use Rattle.ae_machine.specs.Called.{Called, answer_to, attributes_seen, occasion_after, only_attributes, answer_after, view}
-use Rattle.ae_machine.specs.Legal.{Legal, Occasion, verdict_after, is_one_command}
+use Rattle.ae_machine.specs.Called.{Called, answer_to, occasion_after, answer_after, view}
+use Rattle.ae_machine.specs.Legal.{Legal, Occasion, verdict_after}
 use Rattle.ae_machine.specs.Space.{placing}
 use Rattle.std.specs.Option.{option_or}
 use Rattle.ae_base.specs.declared.refusal.Refusal.TheVariants.{NoProject, ProjectExists}

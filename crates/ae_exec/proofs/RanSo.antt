@@ -1,5 +1,5 @@
 -- The answer to a command with runs, and what it leaves, from the facts of the calls that it makes.
-use Rattle.std.specs.Prelude.{◌≡◌, ℕ, true, List, ◌++◌, Option, Some, None, Result, Ok, IfOk}
+use Rattle.std.specs.Prelude.{◌≡◌, ℕ, true, List, ◌++◌, Option, Some, None}
 use Rattle.std.proofs.Common.{sym, ap, subst, ◌∙◌}
 use Rattle.ae_base.specs.Rows.{Ascends, Rows, paths_of}
 use Rattle.ae_base.specs.declared.refusal.Refusal.{Refusal}
@@ -37,10 +37,6 @@ use Rattle.ae_exec.proofs.RunLeft.{named-there, run-left, seen-with}
 use Rattle.ae_exec.proofs.RunVersions.{both-kept, runs-read}
 use Rattle.ae_exec.proofs.ShortConfig.{short-config}
 use Rattle.ae_exec.proofs.TrackedHolds.{tracked-holds}
-
--- what is ensured of a result holds of its value
-pub of_ok : {A E : Type 0} (P : A → Type 0) (result : Result A E) (value : A) → result ≡ Ok value → IfOk result P → P value
-of_ok P result value is holds = subst (λ (r : Result _ _). IfOk r P) is holds
 
 -- ---- before any run
 

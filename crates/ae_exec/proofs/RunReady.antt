@@ -1,7 +1,6 @@
 -- The runs of an accepted command, made ready.
-use Rattle.std.specs.Prelude.{◌≡◌, ℕ, List, [], Option, Some, None, Result, Ok, Err, IfOk, OnOk}
-use Rattle.std.specs.Result.{IsErrAnd}
-use Rattle.std.proofs.Common.{ap, refl, sym, subst, ◌∙◌}
+use Rattle.std.specs.Prelude.{◌≡◌, ℕ, List, [], Option, Some, None, Result, Err}
+use Rattle.std.proofs.Common.{refl, sym, subst, ◌∙◌}
 use Rattle.ae_base.specs.declared.refusal.Refusal.{Refusal}
 use Rattle.ae_base.specs.declared.words.Kind.{Kind}
 use Rattle.ae_base.specs.declared.words.Kind.TheVariants as kind
@@ -14,20 +13,6 @@ use Rattle.ae_machine.specs.Freezing.{configured}
 use Rattle.ae_machine.specs.Jobs.{AnswersJobs}
 use Rattle.ae_machine.specs.Runs.{kind_of}
 use Rattle.ae_machine.specs.Versions.{rows_based, rows_refreshed, rows_under}
-
--- what is ensured of a result holds of its value
-pub of-ok : {A E : Type 0} (P : A → Type 0) (result : Result A E) (value : A) → result ≡ Ok value → IfOk result P → P value
-of-ok P result value is holds = subst (λ (r : Result _ _). IfOk r P) is holds
-
--- what holds in any case holds where all went well
-pub on-ok : {A E : Type 0} (P : Type 0) (result : Result A E) → P → OnOk result P
-on-ok P (Ok value) holds = holds
-on-ok P (Err error) holds = tt
-
--- an error of which this is ensured is this one
-pub err-is : {A E : Type 0} (result : Result A E) (why : E) → IsErrAnd result (λ (error : E). error ≡ why) → result ≡ Err why
-err-is (Ok value) why none = absurd none
-err-is (Err error) why is = ap Err is
 
 -- each run has a command where `configured` refuses nothing
 pub no-refusal : (given : Given) (jobs : Result (List Job) Refusal) (refusal : Refusal) → jobs ≡ Err refusal → AnswersJobs given jobs → configured given ≡ None → ⊥

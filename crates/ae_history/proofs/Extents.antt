@@ -1,5 +1,5 @@
 -- The units of versions that meet nowhere.
-use Rattle.std.proofs.Common.{◌≡◌, ℕ, ◌+◌, ◌/◌, ◌<◌, ◌≤◌, Bool, true, false, cond, ◌&&◌, ◌||◌, not, List, [], ◌∷◌, map, refl, sym, ◌∙◌, ap, subst, arith}
+use Rattle.std.proofs.Common.{◌≡◌, ℕ, ◌+◌, ◌/◌, Bool, true, false, cond, ◌&&◌, ◌||◌, not, List, [], ◌∷◌, map, refl, ◌∙◌, arith}
 use Rattle.std.specs.Prelude.{nat_le, nat_lt, nat_eq, filter, length}
 use Rattle.std.specs.List.{list_all, list_any}
 use Rattle.std.proofs.lemmas.Bool.Decides.{nat_tests}
@@ -12,7 +12,6 @@ use Rattle.ae_types.proofs.Splits.{and2, and4, is-false, not-is, where-so}
 use Rattle.ae_types.proofs.RulesTogether.{facts-versions}
 use Rattle.ae_types.proofs.Placed.{InOrder}
 use Rattle.ae_rules.proofs.VersionsApart.{meet-with}
-use Rattle.ae_space.specs.declared.extent.Extent.{Extent}
 use Rattle.ae_space.specs.Fit.{region, is_outside, none_meet, is_inside, are_inside}
 use Rattle.ae_space.proofs.Between.{region-is}
 use Rattle.ae_history.specs.Placing.{extent_of, extents}

@@ -3,7 +3,7 @@ use Rattle.std.specs.Prelude.{ℕ, List, [], ◌∷◌, Bool, true, false, T, �
 use Rattle.std.specs.FinMap.Entries.{is_sorted, below_all}
 use Rattle.std.specs.Ordering.{is_lt}
 use Rattle.std.proofs.Common.{sym, subst}
-use Rattle.ae_base.specs.Rows.{Row, Rows, text_cmp}
+use Rattle.ae_base.specs.Rows.{Rows, text_cmp}
 use Rattle.ae_base.specs.Rows as base
 use Rattle.ae_types.specs.Ordered.{Above, Ascends, itself}
 

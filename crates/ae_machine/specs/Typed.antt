@@ -5,7 +5,6 @@ use Rattle.ae_base.specs.Names.{IsPath}
 use Rattle.ae_base.specs.Rows.{Ascends, Row, Rows}
 use Rattle.ae_outside.specs.declared.dir.Content.{Content}
 use Rattle.ae_outside.specs.declared.dir.Content.TheVariants.{Bytes}
-use Rattle.ae_outside.specs.declared.dir.Dir.{Dir}
 use Rattle.ae_outside.specs.declared.dir.Exit.{Exit}
 use Rattle.ae_outside.specs.declared.dir.Exit.TheVariants.{Code, Signal}
 use Rattle.ae_machine.specs.declared.view.RunRow.{RunRow}

@@ -1,5 +1,5 @@
 -- Rows of files in memory, each with its directory and its path, and the trees that they make.
-use Rattle.std.specs.Prelude.{◌≡◌, ◌≢◌, ℕ, Bool, true, false, ◌&&◌, nat_eq, if◌then◌else◌, List, [], ◌∷◌, Option, Some, None}
+use Rattle.std.specs.Prelude.{◌≡◌, ◌≢◌, ℕ, Bool, ◌&&◌, if◌then◌else◌, List, [], ◌∷◌, Option, Some, None}
 use Rattle.std.specs.Str.{bytes_eq}
 use Rattle.ae_outside.specs.Dirs.{dir_eq}
 use Rattle.ae_outside.specs.Trees.{Tree, with_file}

@@ -1,5 +1,5 @@
 -- The test whether two directories are one.
-use Rattle.std.specs.Prelude.{◌≡◌, ◌≢◌, Bool, true, false, refl}
+use Rattle.std.specs.Prelude.{◌≡◌, ◌≢◌, true, false, refl}
 use Rattle.std.proofs.Common.{inl, inr, sym, ap}
 use Rattle.std.proofs.lemmas.Bool.Decides.{Decides-eqb}
 use Rattle.ae_outside.specs.Dirs.{dir_eq}

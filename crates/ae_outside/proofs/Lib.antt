@@ -1,1 +1,3 @@
 pub mod DirLaws
+pub mod Results
+pub mod Rising

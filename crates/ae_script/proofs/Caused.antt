@@ -1,6 +1,6 @@
 -- The causes of faults.
-use Rattle.std.specs.Prelude.{◌≡◌, ◌⊎◌, ◌≤◌, ℕ, List, false}
-use Rattle.std.proofs.Common.{inl, inr, refl, sym, ap, subst, ◌∙◌}
+use Rattle.std.specs.Prelude.{◌≡◌, ◌⊎◌, ◌≤◌, ℕ, List}
+use Rattle.std.proofs.Common.{inl, inr, sym, subst}
 use Rattle.ae_base.specs.declared.outcome.Outcome.{Outcome}
 use Rattle.ae_base.specs.declared.outcome.Outcome.TheVariants.{Done, RunFailed, Refused, BadWords, BadScript, DiskFault, SiteFault, SinkFault, SourceFault, Damaged, Memory}
 use Rattle.ae_outside.specs.Causes.{HasRisen}
@@ -8,7 +8,6 @@ use Rattle.ae_exec.specs.Endings as performed
 use Rattle.ae_telling.specs.Messages.{message}
 use Rattle.ae_telling.specs.Telling.{IsTold, IsToldOrMemory, SinkUse, unless_told}
 use Rattle.ae_script.specs.Causes.{IsCaused}
-use Rattle.ae_script.specs.Manner.{leads_on}
 use Rattle.ae_script.specs.Step.{IsStoppedBy}
 use Rattle.ae_script.specs.declared.manner.Manner.{Manner}
 use Rattle.ae_script.proofs.Ended.{risen_from}

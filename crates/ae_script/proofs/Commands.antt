@@ -1,19 +1,16 @@
 -- A command that was performed, as one line.
-use Rattle.std.specs.Prelude.{◌≡◌, ◌≢◌, ◌⊎◌, ◌≤◌, ◌++◌, ℕ, zero, suc, true, false, Bool, List, [], ◌∷◌, codes, Contains}
+use Rattle.std.specs.Prelude.{◌≡◌, ◌⊎◌, ◌≤◌, ◌++◌, ℕ, true, false, Bool, List, [], ◌∷◌, Contains}
 use Rattle.std.specs.List.{concat}
 use Rattle.std.proofs.Common.{inl, inr, refl, sym, ap, subst, ◌∙◌, arith, append-nil}
 use Rattle.ae_base.specs.Refusals.{message_of}
 use Rattle.ae_base.specs.declared.refusal.Refusal.{Refusal}
 use Rattle.ae_base.specs.declared.outcome.Outcome.{Outcome}
-use Rattle.ae_base.specs.declared.outcome.Outcome.TheVariants.{Done, RunFailed, Refused, DiskFault, SiteFault, Damaged, Memory}
-use Rattle.ae_outside.specs.Image.{Image}
+use Rattle.ae_base.specs.declared.outcome.Outcome.TheVariants.{Done, RunFailed, Refused, DiskFault, SiteFault, Memory}
 use Rattle.ae_outside.specs.Site.{SiteState}
 use Rattle.ae_outside.specs.State.{DiskState, reads}
-use Rattle.ae_lines.specs.declared.line.Line.{Line}
 use Rattle.ae_lines.specs.declared.line.Line.TheVariants.{Do}
-use Rattle.ae_vault.specs.Kept.{Holds, Kept}
+use Rattle.ae_vault.specs.Kept.{Kept}
 use Rattle.ae_vault.specs.Vault.{effective}
-use Rattle.ae_log.specs.declared.event.Event.{Event}
 use Rattle.ae_log.specs.Files.{version_bytes}
 use Rattle.ae_log.specs.Log.{Log}
 use Rattle.ae_log.specs.Observed.{observation}
@@ -30,7 +27,7 @@ use Rattle.ae_exec.specs.Holding.{BaselineIsProvided, HoldsLegal, IsCarriedTo, M
 use Rattle.ae_exec.specs.Performs.{IsReply, LeavesDisk, Performs}
 use Rattle.ae_exec.specs.Refined.{MayBeUnsynced, Refined, SinceSync, held_by}
 use Rattle.ae_exec.specs.Refined as refined
-use Rattle.ae_exec.specs.Said.{a_run_failed, answer_lines, has_failed, reply_text, status_text}
+use Rattle.ae_exec.specs.Said.{a_run_failed, answer_lines, has_failed, status_text}
 use Rattle.ae_exec.specs.Stands.{StandsForLog}
 use Rattle.ae_exec.specs.Step.{log_after, outcome_done, outcome_of_answer, step}
 use Rattle.ae_exec.proofs.Completing.{completes}
@@ -38,11 +35,11 @@ use Rattle.ae_exec.proofs.Held.{only_one}
 use Rattle.ae_exec.proofs.Shown.{log-shown}
 use Rattle.ae_exec.proofs.Standing.{by_files}
 use Rattle.ae_telling.specs.Messages.{command_text, disk_fault_text, site_fault_text, memory_text, status_line}
-use Rattle.ae_script.specs.Along.{KeptAlong, held_along, is_fault}
-use Rattle.ae_script.specs.Manner.{leads_on, line_text, tells_status}
-use Rattle.ae_script.specs.Refined.{RefinedAlong, HoldsAfter, NoneSynced}
+use Rattle.ae_script.specs.Along.{KeptAlong, is_fault}
+use Rattle.ae_script.specs.Manner.{line_text, tells_status}
+use Rattle.ae_script.specs.Refined.{RefinedAlong, NoneSynced}
 use Rattle.ae_script.specs.Refined as along
-use Rattle.ae_script.specs.Script.{Point, point, LineDone, CommandEnds, answered, disk_fault, site_fault, memory, answer_text, reached}
+use Rattle.ae_script.specs.Script.{Point, point, LineDone, CommandEnds, answered, disk_fault, site_fault, memory, answer_text}
 use Rattle.ae_script.specs.Step.{KeptSoFar, fresh, since, StepDone}
 use Rattle.ae_script.specs.Uses.{disk_use, site_use}
 use Rattle.ae_script.specs.declared.manner.Manner.{Manner}

@@ -1,8 +1,8 @@
 -- How a script in the grammar ends where nothing outside fails.
-use Rattle.std.specs.Prelude.{◌≡◌, ◌⊎◌, ◌+◌, ℕ, true, false, Bool, List, [], ◌∷◌, ◌++◌, Option, map, length}
+use Rattle.std.specs.Prelude.{◌≡◌, ◌⊎◌, ◌+◌, ℕ, true, false, Bool, List, [], ◌∷◌, ◌++◌, Option, length}
 use Rattle.std.proofs.Common.{inl, inr, refl, sym, ap, subst, ◌∙◌, arith, add_assoc}
 use Rattle.ae_base.specs.declared.outcome.Outcome.{Outcome}
-use Rattle.ae_base.specs.declared.outcome.Outcome.TheVariants.{Done, RunFailed, Refused, Memory}
+use Rattle.ae_base.specs.declared.outcome.Outcome.TheVariants.{Done, Memory}
 use Rattle.ae_outside.specs.Site.{SiteState}
 use Rattle.ae_outside.specs.declared.dir.Dir.{Dir}
 use Rattle.ae_reader.specs.Cut.{lines_of}
@@ -14,7 +14,7 @@ use Rattle.ae_machine.specs.declared.verdict.Verdict.{Verdict}
 use Rattle.ae_machine.specs.declared.verdict.Verdict.TheVariants.{Accept, Refuse}
 use Rattle.ae_exec.specs.Said.{a_run_failed}
 use Rattle.ae_exec.specs.Step.{outcome_done, outcome_of_answer}
-use Rattle.ae_telling.specs.Telling.{SinkUse, goes_on, unless_told}
+use Rattle.ae_telling.specs.Telling.{SinkUse, goes_on}
 use Rattle.ae_script.specs.Ends.{IsGood, AreLines, IsScript, size, ScriptEnds, read, bad_line, source, memory, stopped, cut, ScriptDone}
 use Rattle.ae_script.specs.Script.{Point, LineDone, CommandEnds, answered, disk_fault, site_fault, EditEnds, edited, edit_fault, edit_memory, Does, DoesLine, Runs, stop}
 use Rattle.ae_script.specs.Script as script

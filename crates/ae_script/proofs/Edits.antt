@@ -1,6 +1,6 @@
 -- A line that is no command.
-use Rattle.std.specs.Prelude.{◌≡◌, ◌++◌, ℕ, true, false, Bool, List, [], ◌∷◌, Option, Some, None, replicate, if◌then◌else◌}
-use Rattle.std.proofs.Common.{inl, inr, refl, sym, ap, subst, ◌∙◌, append-nil}
+use Rattle.std.specs.Prelude.{◌≡◌, ℕ, true, false, Bool, List, [], ◌∷◌, Option, Some, None, replicate, if◌then◌else◌}
+use Rattle.std.proofs.Common.{refl, sym, ap, subst, ◌∙◌, append-nil}
 use Rattle.ae_base.specs.declared.outcome.Outcome.{Outcome}
 use Rattle.ae_base.specs.declared.outcome.Outcome.TheVariants.{Done, SiteFault, Memory}
 use Rattle.ae_outside.specs.Site.{SiteState, ChangesOnly}
@@ -8,7 +8,7 @@ use Rattle.ae_outside.specs.State.{DiskState}
 use Rattle.ae_outside.specs.declared.dir.Dir.{Dir}
 use Rattle.ae_lines.specs.Line.{is_part_of_script}
 use Rattle.ae_lines.specs.declared.line.Line.{Line}
-use Rattle.ae_lines.specs.declared.line.Line.TheVariants.{Nothing, As, At, Do, Put, Fill, Remove}
+use Rattle.ae_lines.specs.declared.line.Line.TheVariants.{Nothing, As, At, Put, Fill, Remove}
 use Rattle.ae_log.specs.Log.{Log}
 use Rattle.ae_words.specs.declared.table.Function.{Function}
 use Rattle.ae_words.specs.declared.table.Function.TheVariants as function
@@ -20,8 +20,8 @@ use Rattle.ae_exec.proofs.Standing.{alike, by_files}
 use Rattle.ae_telling.specs.Messages.{site_fault_text, memory_text}
 use Rattle.ae_telling.specs.Telling.{told_text}
 use Rattle.ae_script.specs.Along.{is_fault}
-use Rattle.ae_script.specs.Manner.{is_done, leads_on, line_text}
-use Rattle.ae_script.specs.Script.{Point, point, LineDone, EditEnds, edited, edit_fault, edit_memory, IsEdited, Does}
+use Rattle.ae_script.specs.Manner.{is_done, line_text}
+use Rattle.ae_script.specs.Script.{Point, point, EditEnds, edited, edit_fault, edit_memory, IsEdited, Does}
 use Rattle.ae_script.specs.Refined.{IsUnsynced}
 use Rattle.ae_script.specs.Step.{fresh, StepDone}
 use Rattle.ae_script.specs.Uses.{disk_use, site_use}

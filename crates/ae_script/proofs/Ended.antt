@@ -1,21 +1,21 @@
 -- How the lines end, from what its calls answered.
-use Rattle.std.specs.Prelude.{◌≡◌, ◌⊎◌, ◌+◌, ◌≤◌, ℕ, true, false, Bool, List, [], ◌∷◌, ◌++◌, map, length}
+use Rattle.std.specs.Prelude.{◌≡◌, ◌⊎◌, ◌+◌, ◌≤◌, ℕ, true, false, Bool, List, [], ◌∷◌, ◌++◌}
 use Rattle.std.proofs.Common.{inl, inr, refl, sym, ap, subst, ◌∙◌, arith, append-nil}
 use Rattle.ae_base.specs.declared.outcome.Outcome.{Outcome}
 use Rattle.ae_base.specs.declared.outcome.Outcome.TheVariants.{Done, RunFailed, Refused, BadWords, BadScript, DiskFault, SiteFault, SinkFault, SourceFault, Damaged, Memory}
 use Rattle.ae_outside.specs.Causes.{HasRisen}
 use Rattle.ae_outside.specs.Site.{SiteState}
 use Rattle.ae_outside.specs.State.{DiskState, Continues}
-use Rattle.ae_reader.specs.Cut.{lines_of, IsWithin}
+use Rattle.ae_reader.specs.Cut.{lines_of}
 use Rattle.ae_lines.specs.Line.{IsLine}
 use Rattle.ae_reader.specs.Reader.{IsNext, IsTooLong, IsPart}
 use Rattle.ae_lines.specs.declared.line.Line.{Line}
 use Rattle.ae_telling.specs.Messages.{bad_line_text, input_fault_text, memory_text, message}
 use Rattle.ae_telling.specs.Telling.{goes_on, sink_use, IsSaid, IsTold, IsToldOrMemory, unless_told}
 use Rattle.ae_script.specs.Along.{is_fault}
-use Rattle.ae_script.specs.Ends.{IsGood, IsBad, ScriptEnds, read, bad_line, source, memory, stopped, cut, ScriptDone}
+use Rattle.ae_script.specs.Ends.{IsBad, ScriptEnds, read, bad_line, source, memory, stopped, cut, ScriptDone}
 use Rattle.ae_script.specs.Manner.{leads_on}
-use Rattle.ae_script.specs.Script.{Point, point, LineDone, AllLeadOn, stop}
+use Rattle.ae_script.specs.Script.{Point, point, stop}
 use Rattle.ae_script.specs.Step.{StepDone, IsStoppedBy}
 use Rattle.ae_script.specs.Uses.{disk_use, site_use, source_use}
 use Rattle.ae_script.specs.declared.manner.Manner.{Manner}

@@ -1,7 +1,6 @@
 -- The lines so far and one more, on the disk.
-use Rattle.std.specs.Prelude.{◌≡◌, ◌⊎◌, ℕ, ◌≤◌, zero, suc, true, false, Bool, List, [], ◌∷◌, ◌++◌, Contains}
-use Rattle.std.proofs.Common.{inl, inr, refl, sym, ap, subst, ◌∙◌, arith, append-nil, append_assoc}
-use Rattle.std.specs.List.{flat_map}
+use Rattle.std.specs.Prelude.{◌≡◌, ℕ, ◌≤◌, true, false, Bool, List, [], ◌∷◌, ◌++◌, Contains}
+use Rattle.std.proofs.Common.{inl, inr, refl, sym, ap, subst, ◌∙◌, arith, append_assoc}
 use Rattle.std.proofs.lemmas.Bool.{cases_lt}
 use Rattle.std.proofs.lemmas.List.Elements.{Contains-append_left}
 use Rattle.ae_base.specs.declared.outcome.Outcome.{Outcome}
@@ -13,16 +12,16 @@ use Rattle.ae_lines.specs.declared.line.Line.TheVariants.{Nothing, As, At, Do, P
 use Rattle.ae_vault.specs.Kept.{Holds, StandsForOne}
 use Rattle.ae_log.specs.Log.{Log}
 use Rattle.ae_exec.specs.Stands.{StandsForLog}
-use Rattle.ae_exec.specs.Stops.{StopsBetween, Leaves}
+use Rattle.ae_exec.specs.Stops.{Leaves}
 use Rattle.ae_exec.specs.Refined.{SinceSync, MayBeUnsynced}
 use Rattle.ae_exec.proofs.Leaving.{leaves_then, leaves_more, holds_more}
-use Rattle.ae_exec.proofs.Held.{only_one, stops_join}
+use Rattle.ae_exec.proofs.Held.{only_one}
 use Rattle.ae_exec.proofs.Standing.{alike, by_files}
 use Rattle.ae_telling.specs.Telling.{goes_on}
 use Rattle.ae_script.specs.Along.{KeptAlong, held_along, is_fault}
 use Rattle.ae_script.specs.Manner.{leads_on}
-use Rattle.ae_script.specs.Script.{Point, LineDone, AllLeadOn, stop, reached, reached_by}
-use Rattle.ae_script.specs.Refined.{RefinedAlong, unsynced, synced, NoneSynced, IsUnsynced, HoldsAfter}
+use Rattle.ae_script.specs.Script.{LineDone, AllLeadOn, reached, reached_by}
+use Rattle.ae_script.specs.Refined.{RefinedAlong, unsynced, synced, NoneSynced, IsUnsynced}
 use Rattle.ae_script.specs.Step.{KeptSoFar, fresh, since}
 use Rattle.ae_script.specs.declared.manner.Manner.{Manner}
 use Rattle.ae_script.specs.declared.manner.Manner.TheVariants.{Alone, Script, Generator}

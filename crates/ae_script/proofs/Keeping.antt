@@ -1,6 +1,6 @@
 -- What calls leave of a disk, one after another.
-use Rattle.std.specs.Prelude.{◌≡◌, ℕ, List, Option, Some, None}
-use Rattle.std.proofs.Common.{refl, sym, subst, ◌∙◌}
+use Rattle.std.specs.Prelude.{Option, Some, None}
+use Rattle.std.proofs.Common.{refl, subst, ◌∙◌}
 use Rattle.ae_outside.specs.Image.{Image}
 use Rattle.ae_outside.specs.State.{DiskState, reads}
 use Rattle.ae_outside.specs.Time.{continues_refl, continues_then}

@@ -1,16 +1,12 @@
 -- Lines that are done, one after another, and what is written of them.
-use Rattle.std.specs.Prelude.{◌≡◌, ◌⊎◌, ◌+◌, ◌≤◌, ℕ, true, false, Bool, List, [], ◌∷◌, ◌++◌, Option, map, length, take}
+use Rattle.std.specs.Prelude.{◌≡◌, ◌+◌, ℕ, true, false, Bool, List, [], ◌∷◌, ◌++◌, Option, map, length, take}
 use Rattle.std.proofs.Common.{inl, inr, refl, sym, ap, subst, ◌∙◌, arith, append-nil, append_assoc, length-append, zero-add, suc-add, add_assoc, zero, suc}
-use Rattle.std.specs.List.{flat_map}
-use Rattle.std.proofs.lemmas.List.{flat_map_more, map-append}
 use Rattle.ae_base.specs.declared.outcome.Outcome.{Outcome}
 use Rattle.ae_base.specs.declared.outcome.Outcome.TheVariants.{Done, RunFailed, Refused, BadWords, BadScript, DiskFault, SiteFault, SinkFault, SourceFault, Damaged, Memory}
-use Rattle.ae_outside.specs.Causes.{HasRisen}
 use Rattle.ae_outside.specs.Site.{SiteState}
 use Rattle.ae_outside.specs.Streams.{TakesPrefix}
 use Rattle.ae_outside.specs.declared.dir.Dir.{Dir}
 use Rattle.ae_log.specs.Log.{Log}
-use Rattle.ae_words.specs.declared.command.Command.{Command}
 use Rattle.ae_machine.specs.Called.{Called, answer_after}
 use Rattle.ae_machine.specs.declared.verdict.Verdict.{Verdict}
 use Rattle.ae_machine.specs.declared.verdict.Verdict.TheVariants.{Accept, Refuse}
@@ -18,9 +14,8 @@ use Rattle.ae_exec.specs.Said.{a_run_failed}
 use Rattle.ae_exec.specs.Step.{outcome_done, outcome_of_answer}
 use Rattle.ae_telling.specs.Telling.{IsSaid, IsTried}
 use Rattle.ae_reader.specs.Cut.{lines_of}
-use Rattle.ae_script.specs.Along.{is_fault}
 use Rattle.ae_script.specs.Ends.{IsGood, AreLines, size}
-use Rattle.ae_script.specs.Script.{Point, LineDone, CommandEnds, answered, disk_fault, site_fault, memory, EditEnds, edited, edit_fault, edit_memory, Passes, DoesCommand, DoesEdit, Does, DoesLine, Runs, stop, transcript, reached, reached_by}
+use Rattle.ae_script.specs.Script.{Point, LineDone, CommandEnds, answered, disk_fault, site_fault, memory, EditEnds, edited, edit_fault, edit_memory, DoesEdit, Does, DoesLine, Runs, stop, transcript, reached, reached_by}
 use Rattle.ae_lines.specs.declared.line.Line.{Line}
 use Rattle.ae_lines.specs.declared.line.Line.TheVariants.{Nothing, As, At, Do, Put, Fill, Remove}
 use Rattle.ae_script.specs.declared.manner.Manner.{Manner}

@@ -1,8 +1,8 @@
 -- How what is told of a line is written in each manner.
-use Rattle.std.specs.Prelude.{◌≡◌, ◌⊎◌, ◌++◌, ℕ, Bool, true, false, List, [], Option, Some, None, IfSome, OnSome, if◌then◌else◌}
+use Rattle.std.specs.Prelude.{◌≡◌, ◌++◌, ℕ, Bool, true, false, List, [], Option, Some, None, IfSome, OnSome, if◌then◌else◌}
 use Rattle.std.proofs.Common.{inl, inr, refl, sym, ap, subst, ◌∙◌, append-nil}
 use Rattle.ae_base.specs.declared.outcome.Outcome.{Outcome}
-use Rattle.ae_telling.specs.Telling.{SinkUse, IsSaid, IsStopped, IsTold, unless_told}
+use Rattle.ae_telling.specs.Telling.{SinkUse, IsStopped, IsTold}
 use Rattle.ae_script.specs.Manner.{is_done, leads_on, line_text}
 use Rattle.ae_script.specs.Step.{IsStoppedBy}
 use Rattle.ae_script.specs.declared.manner.Manner.{Manner}

@@ -2,7 +2,6 @@
 use Rattle.std.specs.Prelude.{◌≡◌, ◌≢◌, ◌⊎◌, ◌+◌, ◌++◌, ℕ, List, [], ◌∷◌, false, map, length, Contains}
 use Rattle.ae_base.specs.declared.outcome.Outcome.{Outcome}
 use Rattle.ae_base.specs.declared.outcome.Outcome.TheVariants.{Done, BadScript, DiskFault, SinkFault, SourceFault, Memory}
-use Rattle.ae_outside.specs.State.{DiskState}
 use Rattle.ae_reader.specs.Cut.{lines_of, content_of, IsWithin}
 use Rattle.ae_lines.specs.Line.{IsLine}
 use Rattle.ae_reader.specs.Reader.{IsPart}

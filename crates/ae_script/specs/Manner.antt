@@ -1,7 +1,7 @@
 -- The manners in which lines are done: those of a script, those that the generator makes, and a command alone.
 use Rattle.std.specs.Prelude.{ℕ, Bool, true, false, if◌then◌else◌, List, []}
 use Rattle.ae_base.specs.declared.outcome.Outcome.{Outcome}
-use Rattle.ae_base.specs.declared.outcome.Outcome.TheVariants.{Done, RunFailed, Refused, BadWords, BadScript, DiskFault, SiteFault, SinkFault, SourceFault, Damaged, Memory}
+use Rattle.ae_base.specs.declared.outcome.Outcome.TheVariants.{Done}
 use Rattle.ae_telling.specs.Telling.{goes_on}
 use Rattle.ae_script.specs.declared.manner.Manner.{Manner}
 use Rattle.ae_script.specs.declared.manner.Manner.TheVariants.{Alone, Script, Generator}

@@ -21,7 +21,7 @@ use Rattle.ae_script.specs.declared.manner.Manner.TheVariants.{Generator}
 use Rattle.ae_script.proofs.Runs.{runs_on, said_more}
 use Rattle.ae_session.specs.Called.{LinesDone, ProjectDone, lines_said, stops, tells, fails, unmade}
 use Rattle.ae_session.specs.Summary as summary
-use Rattle.ae_session.specs.Summary.{FailsToRead, HasBuilds, IsSummary, SummaryTold, told, untold, builds, summary_text}
+use Rattle.ae_session.specs.Summary.{FailsToRead, HasBuilds, SummaryTold, told, untold, builds, summary_text}
 use Rattle.ae_session.proofs.Alone.{reads_either}
 use Rattle.ae_session.proofs.Making.{AllDone, done_is, ends_done, ends_unread, loaded_along, loaded_holds, meant_done, transcript_is_empty}
 use Rattle.ae_session.proofs.RunsMade.{runs_made}

@@ -21,7 +21,7 @@ use Rattle.ae_script.specs.Script.{Point, point, LineDone, DoesLine, Runs, stop,
 use Rattle.ae_script.specs.declared.manner.Manner.{Manner}
 use Rattle.ae_script.proofs.Along.{last_log}
 use Rattle.ae_script.proofs.Runs.{log_after}
-use Rattle.ae_session.specs.Stopped.{AreStopped, Attempt, ComesBy, Did, Disks, HoldsReached, IsFound, IsLeftBy, IsStopped, Sites, StopsRepeat, Streams, last, more}
+use Rattle.ae_session.specs.Stopped.{Attempt, Did, Disks, IsFound, IsLeftBy, IsStopped, Sites, StopsRepeat, Streams, last, more}
 
 -- ---- the first of some lines
 

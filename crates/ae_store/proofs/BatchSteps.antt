@@ -1,6 +1,5 @@
 -- One more file is looked at.
 use Rattle.std.proofs.Common.{◌≡◌, inl, inr, ℕ, refl, sym, ◌∙◌, ap, Bool, if◌then◌else◌, List, Option, Some, None}
-use Rattle.std.specs.Prelude.{Result, Ok, Err, OnOk}
 use Rattle.std.specs.Str.{bytes_eq}
 use Rattle.std.proofs.lemmas.Slice.Eq.{bytes_eq-Decides}
 use Rattle.ae_vault.proofs.Files.{bool_cases, option_cases}
@@ -53,11 +52,6 @@ kept_after wanted before after file goes name done = elim (option_cases (wanted 
 -- what a step puts, of the two texts
 abbrev pub Puts : List Entry → List Entry → List ℕ → List ℕ → List ℕ → Type 0
 Puts before after file told new = (name : List ℕ) → content_of after name ≡ or_else (content_of before name) (if bytes_eq file name then change_of told new else None)
-
--- what follows of a success from two facts about it
-pub on_ok : {A E P Q R : Type 0} (r : Result A E) → (P → Q → R) → OnOk r P → OnOk r Q → OnOk r R
-on_ok (Ok a) step p q = step p q
-on_ok (Err e) step p q = tt
 
 module _ (old : Option Observation) (new : Observation) (before after : List Entry) (name file told text : List ℕ) (is_name : name ≡ file) (is_old : told ≡ text_of old file) (is_new : text ≡ text_in new file) where
   goes_of : Puts before after name told text → Goes (entry_for old new) (content_of before) (content_of after) file

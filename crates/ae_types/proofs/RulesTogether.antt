@@ -1,5 +1,5 @@
 -- The tests of the project and of the file table beside the changes, and their facts say the same.
-use Rattle.std.proofs.Common.{◌≡◌, ◌⊎◌, inl, inr, ℕ, ◌+◌, ◌<◌, ◌≤◌, refl, sym, ◌∙◌, ap, subst, List, [], ◌∷◌, map, Option, Some, None, Bool, true, false, ◌&&◌, ◌||◌, not, nat_eq, eqb-true, arith}
+use Rattle.std.proofs.Common.{◌≡◌, inl, inr, ℕ, ◌<◌, ◌≤◌, refl, sym, ◌∙◌, ap, subst, List, [], ◌∷◌, map, Option, Some, None, Bool, true, false, ◌&&◌, ◌||◌, not, nat_eq, eqb-true, arith}
 use Rattle.std.specs.Prelude.{length, is_some, nat_le, nat_lt, IsSomeAnd}
 use Rattle.std.specs.List.{list_all, find}
 use Rattle.std.specs.Option.{option_map}

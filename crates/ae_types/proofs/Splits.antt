@@ -1,5 +1,5 @@
 -- What follows from tests of several parts, and from tests of what is found.
-use Rattle.std.proofs.Common.{◌≡◌, ℕ, ◌≤◌, ◌<◌, refl, sym, ◌∙◌, ap, Option, Some, None, Bool, true, false, ◌&&◌, ◌||◌, not, cond}
+use Rattle.std.proofs.Common.{◌≡◌, ℕ, ◌≤◌, ◌<◌, refl, sym, ◌∙◌, ap, Option, Some, None, Bool, true, false, ◌&&◌, ◌||◌, not}
 use Rattle.std.specs.Prelude.{is_some, nat_le, nat_lt, IfSome, IsSomeAnd}
 use Rattle.ae_types.specs.Found.{there_and, if_there}
 use Rattle.ae_types.specs.Rules.{same_bool}

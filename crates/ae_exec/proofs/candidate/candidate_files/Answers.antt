@@ -1,14 +1,14 @@
 use Rattle.std.proofs.Common.{rules, ◌≡◌, sym, subst, All, Err}
+use Rattle.ae_outside.proofs.Results.{err_is}
 use Rattle.ae_types.specs.Trees.{TreeRow, candidate_of}
 use Rattle.ae_exec.specs.declared.stop.Stop.TheVariants as stop
 use Rattle.ae_exec.specs.Endings.{memory}
 use Rattle.ae_exec.specs.Reading.{IsInside}
 use Rattle.ae_exec.proofs.RunVersions.{candidate-inside}
-use Rattle.ae_exec.proofs.RunReady.{err-is}
 use Rattle.ae_exec.proofs.candidate.candidate_files.Goals as goal
 
 pub returns-in_err-rows-clause-stopped : goal.returns-in_err-rows-clause-stopped
-returns-in_err-rows-clause-stopped g c = let is : c.from_residual.result ≡ Err stop.Memory = err-is _ _ c.from_residual.ensures.1 in rw is memory
+returns-in_err-rows-clause-stopped g c = let is : c.from_residual.result ≡ Err stop.Memory = err_is _ _ c.from_residual.ensures.1 in rw is memory
 
 pub files_of_rows-requires-clause-inside : goal.files_of_rows-requires-clause-inside
 files_of_rows-requires-clause-inside g c =

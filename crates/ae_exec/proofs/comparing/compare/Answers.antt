@@ -1,4 +1,5 @@
 use Rattle.std.proofs.Common.{rules, ◌≡◌, ◌∙◌, ap, sym, subst, All, List, [], map, Option, Some, None, Err}
+use Rattle.ae_outside.proofs.Results.{err_is}
 use Rattle.ae_outside.specs.Image.{Image}
 use Rattle.ae_outside.specs.State.{reads}
 use Rattle.ae_types.specs.Trees.{TreeRow, tree_path}
@@ -12,11 +13,10 @@ use Rattle.ae_exec.proofs.CandidateNumbers.{compared-bytes}
 use Rattle.ae_exec.proofs.Compared.{differing-kept, lost-compared}
 use Rattle.ae_exec.proofs.Endings.{ends_for}
 use Rattle.ae_exec.proofs.RunVersions.{compared-have, compared-inside}
-use Rattle.ae_exec.proofs.RunReady.{err-is}
 use Rattle.ae_exec.proofs.comparing.compare.Goals as goal
 
 pub returns-in_err-rows-clause-stopped : goal.returns-in_err-rows-clause-stopped
-returns-in_err-rows-clause-stopped g c = let is : c.from_residual.result ≡ Err stop.Memory = err-is _ _ c.from_residual.ensures.1 in rw is memory
+returns-in_err-rows-clause-stopped g c = let is : c.from_residual.result ≡ Err stop.Memory = err_is _ _ c.from_residual.ensures.1 in rw is memory
 
 pub files_of_rows-requires-clause-inside : goal.files_of_rows-requires-clause-inside
 files_of_rows-requires-clause-inside g c =
@@ -25,7 +25,7 @@ files_of_rows-requires-clause-inside g c =
 
 pub returns-in_err-files-clause-stopped : goal.returns-in_err-files-clause-stopped
 returns-in_err-files-clause-stopped g c =
-    let is : c.from_residual-in_err-files.result ≡ Err c.in_err-files.field-0.0 = err-is _ _ c.from_residual-in_err-files.ensures.1 in
+    let is : c.from_residual-in_err-files.result ≡ Err c.in_err-files.field-0.0 = err_is _ _ c.from_residual-in_err-files.ensures.1 in
     let are : c.as_slice.result.now ≡ compared_for c.args.command.now c.args.state.now = let e = c.in_ok-rows.ensures [] in search rules in
     rw is (ends_for _ c.in_err-files.ensures.stopped (λ none. none) (λ refusal none. absurd none)
     (λ name lost tells. lost-compared c.args.state.now c.args.command.now c.requires.runs (reads (g.D.Disk.state c.args.disk.now)) name
@@ -33,7 +33,7 @@ returns-in_err-files-clause-stopped g c =
     (λ rose. rose) (λ none. absurd none))
 
 pub returns-in_err-refusal-clause-stopped : goal.returns-in_err-refusal-clause-stopped
-returns-in_err-refusal-clause-stopped g c = let is : c.from_residual-in_err-refusal.result ≡ Err stop.Memory = err-is _ _ c.from_residual-in_err-refusal.ensures.1 in rw is memory
+returns-in_err-refusal-clause-stopped g c = let is : c.from_residual-in_err-refusal.result ≡ Err stop.Memory = err_is _ _ c.from_residual-in_err-refusal.ensures.1 in rw is memory
 
 pub returns-in-Some-clause-stopped : goal.returns-in-Some-clause-stopped
 returns-in-Some-clause-stopped g c =

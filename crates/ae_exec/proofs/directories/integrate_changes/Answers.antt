@@ -1,5 +1,6 @@
 use Rattle.std.proofs.Common.{rules, ◌≡◌, ◌∙◌, sym, [], ◌∷◌, Some, Err}
 use Rattle.std.specs.Option.{option_and_then}
+use Rattle.ae_outside.proofs.Results.{err_is}
 use Rattle.ae_outside.specs.declared.dir.Dir.TheVariants.{Integrate}
 use Rattle.ae_types.specs.declared.change.Change.{Change}
 use Rattle.ae_types.specs.Found.{change_at}
@@ -8,11 +9,10 @@ use Rattle.ae_exec.specs.declared.stop.Stop.TheVariants as stop
 use Rattle.ae_exec.specs.Endings.{memory}
 use Rattle.ae_exec.proofs.OwnDirs.{named-at, one-own, integrate-own, integrated-changes}
 use Rattle.ae_exec.proofs.RunVersions.{candidate-have}
-use Rattle.ae_exec.proofs.RunReady.{err-is}
 use Rattle.ae_exec.proofs.directories.integrate_changes.Goals as goal
 
 pub returns-in_err-one_change-clause-stopped : goal.returns-in_err-one_change-clause-stopped
-returns-in_err-one_change-clause-stopped g c = let is : c.from_residual-in_err-one_change.result ≡ Err stop.Memory = err-is _ _ c.from_residual-in_err-one_change.ensures.1 in rw is memory
+returns-in_err-one_change-clause-stopped g c = let is : c.from_residual-in_err-one_change.result ≡ Err stop.Memory = err_is _ _ c.from_residual-in_err-one_change.ensures.1 in rw is memory
 
 pub returns-clause-own : goal.returns-clause-own
 returns-clause-own g c =

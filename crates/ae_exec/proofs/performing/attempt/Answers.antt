@@ -1,5 +1,7 @@
 use Rattle.std.proofs.Math.Nat.{le_trans}
 use Rattle.std.proofs.Common.{arith, refl, ap, subst, List, inl, inr}
+use Rattle.ae_outside.proofs.Results.{err_is}
+use Rattle.ae_outside.proofs.Rising.{risen_later}
 use Rattle.ae_vault.specs.declared.piece.Piece.{Piece}
 use Rattle.ae_exec.specs.Exact.{ChangesExactly, with_records}
 use Rattle.ae_outside.specs.Site.{SiteState}
@@ -14,7 +16,7 @@ use Rattle.ae_exec.specs.Endings.{disk_fault, store}
 use Rattle.ae_exec.specs.Stands.{StandsForLog}
 use Rattle.ae_exec.specs.Step.{step}
 use Rattle.ae_exec.specs.declared.stop.Stop.TheVariants as stop
-use Rattle.ae_exec.proofs.Attempting.{batch_entries, batch_pieces, risen_later, refused_before_it, site_before, accepted_at, accepted_so, said_at, left_at, takes, planned_before}
+use Rattle.ae_exec.proofs.Attempting.{batch_entries, batch_pieces, refused_before_it, site_before, accepted_at, accepted_so, said_at, left_at, takes, planned_before}
 use Rattle.ae_exec.proofs.Ended.{Opened, opened-exact, still-exact, opened-disk, still-disk, put-disk, opened-versions, still-versions, put-versions, still-opened, stopped-performs, done-performs, done-changes, done-may-end, done-touches, is-done, fault-left, next-legal, still-legal, disk_err, dirs_attempt, performs_err}
 use Rattle.ae_exec.proofs.Endings.{ends_for, ends_err}
 use Rattle.ae_exec.proofs.OwnDirs.{leaves-still}
@@ -24,16 +26,15 @@ use Rattle.ae_log.specs.Observed.{observation}
 use Rattle.ae_exec.proofs.Refining.{opened_still, stopped_refined, fault_refined, done_refined}
 use Rattle.ae_exec.proofs.Standing.{by_files, alike}
 use Rattle.ae_exec.proofs.Stores.{read_before, damaged_for_files}
-use Rattle.ae_exec.proofs.RunReady.{err-is}
 use Rattle.ae_exec.proofs.performing.attempt.Goals as goal
 
 -- ---- the store couldn't be opened
 
 pub returns-in_err-open_store-clause-may_end : goal.returns-in_err-open_store-clause-may_end
-returns-in_err-open_store-clause-may_end g c = ends_err _ c.in_err-open_store.field-0.0 (err-is _ _ c.from_residual.ensures.1) (ends_for _ c.in_err-open_store.ensures.stopped (λ none. absurd none) (λ refusal none. absurd none) (λ name is. tt) (λ rose. rose) (λ none. absurd none))
+returns-in_err-open_store-clause-may_end g c = ends_err _ c.in_err-open_store.field-0.0 (err_is _ _ c.from_residual.ensures.1) (ends_for _ c.in_err-open_store.ensures.stopped (λ none. absurd none) (λ refusal none. absurd none) (λ name is. tt) (λ rose. rose) (λ none. absurd none))
 
 pub returns-in_err-open_store-clause-disk : goal.returns-in_err-open_store-clause-disk
-returns-in_err-open_store-clause-disk g c = λ tells. disk_err (g.D.Disk.state c.args.disk.now) (g.D.Disk.state c.open_store.new.disk) _ c.in_err-open_store.field-0.0 (err-is _ _ c.from_residual.ensures.1) (opened-disk (g.D.Disk.state c.args.disk.now) (g.D.Disk.state c.open_store.new.disk) _ (record { time = c.open_store.ensures.time tells; left = c.open_store.ensures.left tells; any_moment = c.open_store.ensures.any_moment tells; files = c.open_store.ensures.files tells; settled = c.open_store.ensures.settled tells }))
+returns-in_err-open_store-clause-disk g c = λ tells. disk_err (g.D.Disk.state c.args.disk.now) (g.D.Disk.state c.open_store.new.disk) _ c.in_err-open_store.field-0.0 (err_is _ _ c.from_residual.ensures.1) (opened-disk (g.D.Disk.state c.args.disk.now) (g.D.Disk.state c.open_store.new.disk) _ (record { time = c.open_store.ensures.time tells; left = c.open_store.ensures.left tells; any_moment = c.open_store.ensures.any_moment tells; files = c.open_store.ensures.files tells; settled = c.open_store.ensures.settled tells }))
 
 pub returns-in_err-open_store-clause-directories : goal.returns-in_err-open_store-clause-directories
 returns-in_err-open_store-clause-directories g c = λ seen. leaves-still _ (g.S.Site.state c.args.site.now) (g.S.Site.state c.args.site.now) _ refl
@@ -42,7 +43,7 @@ pub returns-in_err-open_store-clause-performs : goal.returns-in_err-open_store-c
 returns-in_err-open_store-clause-performs g c = λ tells seen.
     let call : Called = (called c.args.command.now c.args.who.now c.args.now (g.S.Site.state c.args.site.now) (g.S.Site.state c.args.site.now)) in
     let opened : Opened (g.D.Disk.state c.args.disk.now) (g.D.Disk.state c.open_store.new.disk) = (record { time = c.open_store.ensures.time tells; left = c.open_store.ensures.left tells; any_moment = c.open_store.ensures.any_moment tells; files = c.open_store.ensures.files tells; settled = c.open_store.ensures.settled tells }) in
-    performs_err (g.D.Disk.state c.args.disk.now) (g.D.Disk.state c.open_store.new.disk) call _ c.in_err-open_store.field-0.0 (err-is _ _ c.from_residual.ensures.1) (stopped-performs (g.D.Disk.state c.args.disk.now) (g.D.Disk.state c.open_store.new.disk) call c.in_err-open_store.field-0.0
+    performs_err (g.D.Disk.state c.args.disk.now) (g.D.Disk.state c.open_store.new.disk) call _ c.in_err-open_store.field-0.0 (err_is _ _ c.from_residual.ensures.1) (stopped-performs (g.D.Disk.state c.args.disk.now) (g.D.Disk.state c.open_store.new.disk) call c.in_err-open_store.field-0.0
     (ends_for _ c.in_err-open_store.ensures.stopped (λ none. absurd none) (λ refusal none. absurd none) (λ name is. store (is tells)) (λ rose. tt) (λ none. absurd none))
     (opened-exact (g.D.Disk.state c.args.disk.now) (g.D.Disk.state c.open_store.new.disk) call opened)
     (λ settled. inl (opened.any_moment settled))
@@ -52,19 +53,19 @@ returns-in_err-open_store-clause-performs g c = λ tells seen.
 -- ---- it was stopped before anything was put
 
 pub returns-in_err-batch-clause-may_end : goal.returns-in_err-batch-clause-may_end
-returns-in_err-batch-clause-may_end g c = ends_err _ c.in_err-batch.field-0.0 (err-is _ _ c.from_residual-in_err-batch.ensures.1) (ends_for _ c.in_err-batch.ensures.stopped (λ none. absurd none) (λ refusal is. tt) (λ name is. tt) (λ rose. risen_later _ _ _ c.open_store.ensures.later rose) (λ rose. rose.0))
+returns-in_err-batch-clause-may_end g c = ends_err _ c.in_err-batch.field-0.0 (err_is _ _ c.from_residual-in_err-batch.ensures.1) (ends_for _ c.in_err-batch.ensures.stopped (λ none. absurd none) (λ refusal is. tt) (λ name is. tt) (λ rose. risen_later _ _ _ c.open_store.ensures.later rose) (λ rose. rose.0))
 
 pub returns-in_err-batch-clause-disk : goal.returns-in_err-batch-clause-disk
-returns-in_err-batch-clause-disk g c = λ tells. disk_err (g.D.Disk.state c.args.disk.now) (g.D.Disk.state c.make_plan.new.disk) _ c.in_err-batch.field-0.0 (err-is _ _ c.from_residual-in_err-batch.ensures.1) (still-disk (g.D.Disk.state c.args.disk.now) (g.D.Disk.state c.open_store.new.disk) (g.D.Disk.state c.make_plan.new.disk) _ (record { time = c.open_store.ensures.time tells; left = c.open_store.ensures.left tells; any_moment = c.open_store.ensures.any_moment tells; files = c.open_store.ensures.files tells; settled = c.open_store.ensures.settled tells }) (c.make_plan.ensures.same tells))
+returns-in_err-batch-clause-disk g c = λ tells. disk_err (g.D.Disk.state c.args.disk.now) (g.D.Disk.state c.make_plan.new.disk) _ c.in_err-batch.field-0.0 (err_is _ _ c.from_residual-in_err-batch.ensures.1) (still-disk (g.D.Disk.state c.args.disk.now) (g.D.Disk.state c.open_store.new.disk) (g.D.Disk.state c.make_plan.new.disk) _ (record { time = c.open_store.ensures.time tells; left = c.open_store.ensures.left tells; any_moment = c.open_store.ensures.any_moment tells; files = c.open_store.ensures.files tells; settled = c.open_store.ensures.settled tells }) (c.make_plan.ensures.same tells))
 
 pub returns-in_err-batch-clause-directories : goal.returns-in_err-batch-clause-directories
-returns-in_err-batch-clause-directories g c = λ seen. dirs_attempt _ (g.S.Site.state c.args.site.now) (g.S.Site.state c.make_plan.new.site) _ c.in_err-batch.field-0.0 (err-is _ _ c.from_residual-in_err-batch.ensures.1) (c.in_err-batch.ensures.directories seen)
+returns-in_err-batch-clause-directories g c = λ seen. dirs_attempt _ (g.S.Site.state c.args.site.now) (g.S.Site.state c.make_plan.new.site) _ c.in_err-batch.field-0.0 (err_is _ _ c.from_residual-in_err-batch.ensures.1) (c.in_err-batch.ensures.directories seen)
 
 pub returns-in_err-batch-clause-performs : goal.returns-in_err-batch-clause-performs
 returns-in_err-batch-clause-performs g c = λ tells seen.
     let call : Called = (called c.args.command.now c.args.who.now c.args.now (g.S.Site.state c.args.site.now) (g.S.Site.state c.make_plan.new.site)) in
     let opened : Opened (g.D.Disk.state c.args.disk.now) (g.D.Disk.state c.open_store.new.disk) = (record { time = c.open_store.ensures.time tells; left = c.open_store.ensures.left tells; any_moment = c.open_store.ensures.any_moment tells; files = c.open_store.ensures.files tells; settled = c.open_store.ensures.settled tells }) in
-    performs_err (g.D.Disk.state c.args.disk.now) (g.D.Disk.state c.make_plan.new.disk) call _ c.in_err-batch.field-0.0 (err-is _ _ c.from_residual-in_err-batch.ensures.1) (stopped-performs (g.D.Disk.state c.args.disk.now) (g.D.Disk.state c.make_plan.new.disk) call c.in_err-batch.field-0.0
+    performs_err (g.D.Disk.state c.args.disk.now) (g.D.Disk.state c.make_plan.new.disk) call _ c.in_err-batch.field-0.0 (err_is _ _ c.from_residual-in_err-batch.ensures.1) (stopped-performs (g.D.Disk.state c.args.disk.now) (g.D.Disk.state c.make_plan.new.disk) call c.in_err-batch.field-0.0
     (ends_for _ c.in_err-batch.ensures.stopped (λ none. absurd none)
     (λ refusal is. refused_before_it (g.D.Disk.state c.args.disk.now) (g.D.Disk.state c.open_store.new.disk) call refusal (c.open_store.ensures.files tells) (is tells seen))
     (λ name is. damaged_for_files _ _ call name (c.open_store.ensures.files tells) (is tells seen)) (λ rose. tt)
@@ -81,21 +82,21 @@ returns-in_err-batch-clause-performs g c = λ tells seen.
 -- ---- the disk failed while the files were put
 
 pub returns-in_err-put_batch-clause-may_end : goal.returns-in_err-put_batch-clause-may_end
-returns-in_err-put_batch-clause-may_end g c = ends_err _ stop.DiskFault (err-is _ _ c.from_residual-in_err-put_batch.ensures.1) (disk_fault (risen_later _ _ _ c.open_store.ensures.later (risen_later _ _ _ c.make_plan.ensures.disk_later (c.in_err-put_batch.ensures.cause.rose refl))))
+returns-in_err-put_batch-clause-may_end g c = ends_err _ stop.DiskFault (err_is _ _ c.from_residual-in_err-put_batch.ensures.1) (disk_fault (risen_later _ _ _ c.open_store.ensures.later (risen_later _ _ _ c.make_plan.ensures.disk_later (c.in_err-put_batch.ensures.cause.rose refl))))
 
 pub returns-in_err-put_batch-clause-disk : goal.returns-in_err-put_batch-clause-disk
-returns-in_err-put_batch-clause-disk g c = λ tells. disk_err (g.D.Disk.state c.args.disk.now) (g.D.Disk.state c.put_batch.new.disk) _ stop.DiskFault (err-is _ _ c.from_residual-in_err-put_batch.ensures.1)
+returns-in_err-put_batch-clause-disk g c = λ tells. disk_err (g.D.Disk.state c.args.disk.now) (g.D.Disk.state c.put_batch.new.disk) _ stop.DiskFault (err_is _ _ c.from_residual-in_err-put_batch.ensures.1)
     (put-disk (g.D.Disk.state c.args.disk.now) (g.D.Disk.state c.open_store.new.disk) (g.D.Disk.state c.make_plan.new.disk) (g.D.Disk.state c.put_batch.new.disk) _ (λ none. none) (record { time = c.open_store.ensures.time tells; left = c.open_store.ensures.left tells; any_moment = c.open_store.ensures.any_moment tells; files = c.open_store.ensures.files tells; settled = c.open_store.ensures.settled tells }) (c.make_plan.ensures.same tells) (c.put_batch.ensures.time tells) (c.put_batch.ensures.settled tells) (c.put_batch.ensures.others tells c.in_ok-batch.ensures.planned.0 c.in_ok-batch.ensures.planned.2.made.next c.in_ok-batch.ensures.planned.2.made.step))
 
 pub returns-in_err-put_batch-clause-directories : goal.returns-in_err-put_batch-clause-directories
-returns-in_err-put_batch-clause-directories g c = λ seen. dirs_attempt _ (g.S.Site.state c.args.site.now) (g.S.Site.state c.make_plan.new.site) _ stop.DiskFault (err-is _ _ c.from_residual-in_err-put_batch.ensures.1) (record { untouched = λ none. absurd none; own = (c.in_ok-batch.ensures.directories seen).own })
+returns-in_err-put_batch-clause-directories g c = λ seen. dirs_attempt _ (g.S.Site.state c.args.site.now) (g.S.Site.state c.make_plan.new.site) _ stop.DiskFault (err_is _ _ c.from_residual-in_err-put_batch.ensures.1) (record { untouched = λ none. absurd none; own = (c.in_ok-batch.ensures.directories seen).own })
 
 pub returns-in_err-put_batch-clause-performs : goal.returns-in_err-put_batch-clause-performs
 returns-in_err-put_batch-clause-performs g c = λ tells seen.
     let call : Called = (called c.args.command.now c.args.who.now c.args.now (g.S.Site.state c.args.site.now) (g.S.Site.state c.make_plan.new.site)) in
     let o = c.in_ok-batch.ensures.planned.0 in
     let opened : Opened (g.D.Disk.state c.args.disk.now) (g.D.Disk.state c.open_store.new.disk) = (record { time = c.open_store.ensures.time tells; left = c.open_store.ensures.left tells; any_moment = c.open_store.ensures.any_moment tells; files = c.open_store.ensures.files tells; settled = c.open_store.ensures.settled tells }) in
-    performs_err (g.D.Disk.state c.args.disk.now) (g.D.Disk.state c.put_batch.new.disk) call _ stop.DiskFault (err-is _ _ c.from_residual-in_err-put_batch.ensures.1) (stopped-performs (g.D.Disk.state c.args.disk.now) (g.D.Disk.state c.put_batch.new.disk) call stop.DiskFault (disk_fault tt)
+    performs_err (g.D.Disk.state c.args.disk.now) (g.D.Disk.state c.put_batch.new.disk) call _ stop.DiskFault (err_is _ _ c.from_residual-in_err-put_batch.ensures.1) (stopped-performs (g.D.Disk.state c.args.disk.now) (g.D.Disk.state c.put_batch.new.disk) call stop.DiskFault (disk_fault tt)
     (λ settled x bytes events next shows answered follows.
     let plan = planned_before _ _ _ o call _ _ _ (λ told. c.open_store.ensures.files tells) c.in_ok-batch.ensures.planned.2 in
     let read = read_before (g.D.Disk.state c.args.disk.now) (g.D.Disk.state c.open_store.new.disk) o (c.open_store.ensures.files tells) (c.in_ok-batch.ensures.planned.1 tells) in

@@ -1,6 +1,8 @@
 use Rattle.std.proofs.Math.Nat.{le_trans}
 use Rattle.std.proofs.Common.{◌≡◌, subst, Err}
 use Rattle.std.specs.Prelude.{option_copied}
+use Rattle.ae_outside.proofs.Results.{err_is}
+use Rattle.ae_outside.proofs.Rising.{risen_later}
 use Rattle.ae_outside.specs.Site.{SiteState}
 use Rattle.ae_outside.specs.State.{reads}
 use Rattle.ae_vault.specs.Vault.{effective}
@@ -12,27 +14,25 @@ use Rattle.ae_exec.specs.Endings.{refused, memory}
 use Rattle.ae_exec.specs.Seen as seen_specs
 use Rattle.ae_exec.specs.Seen.{IsAnswer, changing, reading, seen_alone}
 use Rattle.ae_exec.proofs.RunVersions.{quiet-asked}
-use Rattle.ae_exec.proofs.Attempting.{risen_later}
 use Rattle.ae_exec.proofs.Endings.{ends_for}
 use Rattle.ae_exec.proofs.Following.{same_answer, seen_answer}
 use Rattle.ae_exec.proofs.Room.{delta-room}
 use Rattle.ae_exec.proofs.OwnDirs.{leaves-still}
 use Rattle.ae_exec.proofs.Ended.{leaves-done, leaves-stopped, leaves-unmade}
-use Rattle.ae_exec.proofs.RunReady.{err-is}
 use Rattle.ae_exec.proofs.plan.plan_quiet.Goals as goal
 
 pub returns-in_err-view-clause-stopped : goal.returns-in_err-view-clause-stopped
 returns-in_err-view-clause-stopped g c =
-    let is : c.from_residual.result ≡ Err c.in_err-view.field-0.0 = err-is _ _ c.from_residual.ensures.1 in
+    let is : c.from_residual.result ≡ Err c.in_err-view.field-0.0 = err_is _ _ c.from_residual.ensures.1 in
     rw is (ends_for _ c.in_err-view.ensures.stopped (λ none. none) (λ refusal none. absurd none) (λ name none. absurd none) (λ none. absurd none)
     (λ rose. (rose.0, λ tells seen. reading c.requires.passed rose.1)))
 
 pub returns-in_err-events-clause-stopped : goal.returns-in_err-events-clause-stopped
-returns-in_err-events-clause-stopped g c = let is : c.from_residual-in_err-events.result ≡ Err stop.Memory = err-is _ _ c.from_residual-in_err-events.ensures.1 in rw is memory
+returns-in_err-events-clause-stopped g c = let is : c.from_residual-in_err-events.result ≡ Err stop.Memory = err_is _ _ c.from_residual-in_err-events.ensures.1 in rw is memory
 
 pub returns-in_err-change_directories-in-Accept-clause-stopped : goal.returns-in_err-change_directories-in-Accept-clause-stopped
 returns-in_err-change_directories-in-Accept-clause-stopped g c =
-    let is : c.from_residual-in_err-change_directories-in-Accept.result ≡ Err c.in_err-change_directories-in-Accept.field-0.0 = err-is _ _ c.from_residual-in_err-change_directories-in-Accept.ensures.1 in
+    let is : c.from_residual-in_err-change_directories-in-Accept.result ≡ Err c.in_err-change_directories-in-Accept.field-0.0 = err_is _ _ c.from_residual-in_err-change_directories-in-Accept.ensures.1 in
     let call : Called = called c.args.command.now c.args.who.now c.args.now (g.S.Site.state c.args.site.now) (g.S.Site.state c.change_directories.new.site) in
     let accepted : g.S.Site.tells → IsAnswer (effective (reads (g.D.Disk.state c.args.disk.now))) (option_copied c.args.old) call (Accept c.in-Accept.events) = λ seen.
     seen_answer (effective (reads (g.D.Disk.state c.args.disk.now))) (option_copied c.args.old) call (Accept c.in-Accept.events) c.requires.quiet
@@ -42,7 +42,7 @@ returns-in_err-change_directories-in-Accept-clause-stopped g c =
     (λ rose. (risen_later _ _ _ c.see_quiet.ensures.later rose.0, λ tells seen. changing c.in-Accept.events (accepted seen) (rose.1 tells))))
 
 pub returns-in_err-prepare-in-Accept-clause-stopped : goal.returns-in_err-prepare-in-Accept-clause-stopped
-returns-in_err-prepare-in-Accept-clause-stopped g c = let is : c.from_residual-in_err-prepare-in-Accept.result ≡ Err stop.Memory = err-is _ _ c.from_residual-in_err-prepare-in-Accept.ensures.1 in rw is memory
+returns-in_err-prepare-in-Accept-clause-stopped g c = let is : c.from_residual-in_err-prepare-in-Accept.result ≡ Err stop.Memory = err_is _ _ c.from_residual-in_err-prepare-in-Accept.ensures.1 in rw is memory
 
 pub returns-in_ok-prepare-in-Accept-clause-planned : goal.returns-in_ok-prepare-in-Accept-clause-planned
 returns-in_ok-prepare-in-Accept-clause-planned g c =
@@ -117,10 +117,10 @@ pub returns-in_ok-prepare-in-Accept-clause-site_later : goal.returns-in_ok-prepa
 returns-in_ok-prepare-in-Accept-clause-site_later g c = le_trans c.see_quiet.ensures.later c.change_directories.ensures.site_later
 
 pub returns-in_err-change_directories-in-Accept-clause-directories : goal.returns-in_err-change_directories-in-Accept-clause-directories
-returns-in_err-change_directories-in-Accept-clause-directories g c = λ seen. leaves-stopped c.args.command.now (g.S.Site.state c.args.site.now) (g.S.Site.state c.see_quiet.new.site) (g.S.Site.state c.change_directories.new.site) c.change_directories.result _ c.in_err-change_directories-in-Accept.field-0.0 c.in_err-change_directories-in-Accept.was (err-is _ _ c.from_residual-in_err-change_directories-in-Accept.ensures.1) (c.see_quiet.ensures.same seen) (c.change_directories.ensures.directories seen)
+returns-in_err-change_directories-in-Accept-clause-directories g c = λ seen. leaves-stopped c.args.command.now (g.S.Site.state c.args.site.now) (g.S.Site.state c.see_quiet.new.site) (g.S.Site.state c.change_directories.new.site) c.change_directories.result _ c.in_err-change_directories-in-Accept.field-0.0 c.in_err-change_directories-in-Accept.was (err_is _ _ c.from_residual-in_err-change_directories-in-Accept.ensures.1) (c.see_quiet.ensures.same seen) (c.change_directories.ensures.directories seen)
 
 pub returns-in_err-prepare-in-Accept-clause-directories : goal.returns-in_err-prepare-in-Accept-clause-directories
-returns-in_err-prepare-in-Accept-clause-directories g c = λ seen. leaves-unmade c.args.command.now (g.S.Site.state c.args.site.now) (g.S.Site.state c.see_quiet.new.site) (g.S.Site.state c.change_directories.new.site) c.change_directories.result _ c.in_ok-change_directories-in-Accept.was (err-is _ _ c.from_residual-in_err-prepare-in-Accept.ensures.1) (c.see_quiet.ensures.same seen) (c.change_directories.ensures.directories seen)
+returns-in_err-prepare-in-Accept-clause-directories g c = λ seen. leaves-unmade c.args.command.now (g.S.Site.state c.args.site.now) (g.S.Site.state c.see_quiet.new.site) (g.S.Site.state c.change_directories.new.site) c.change_directories.result _ c.in_ok-change_directories-in-Accept.was (err_is _ _ c.from_residual-in_err-prepare-in-Accept.ensures.1) (c.see_quiet.ensures.same seen) (c.change_directories.ensures.directories seen)
 
 pub returns-in_ok-prepare-in-Accept-clause-directories : goal.returns-in_ok-prepare-in-Accept-clause-directories
 returns-in_ok-prepare-in-Accept-clause-directories g c = λ seen. leaves-done c.args.command.now (g.S.Site.state c.args.site.now) (g.S.Site.state c.see_quiet.new.site) (g.S.Site.state c.change_directories.new.site) c.change_directories.result c.in_ok-change_directories-in-Accept.was (c.see_quiet.ensures.same seen) (c.change_directories.ensures.directories seen)

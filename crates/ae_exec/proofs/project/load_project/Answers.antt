@@ -1,4 +1,4 @@
-use Rattle.ae_exec.proofs.Attempting.{risen_later}
+use Rattle.ae_outside.proofs.Rising.{risen_later}
 use Rattle.ae_exec.proofs.Ended.{opened-disk, still-disk}
 use Rattle.ae_exec.proofs.Endings.{ends_for}
 use Rattle.ae_exec.proofs.Loading.{loaded_log}

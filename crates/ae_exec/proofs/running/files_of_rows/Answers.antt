@@ -1,16 +1,16 @@
 use Rattle.std.proofs.Common.{◌≡◌, ◌∙◌, ap, sym, subst, arith, drop, List, [], ◌∷◌, ◌++◌, Option, Err}
 use Rattle.std.proofs.lemmas.List.{drop_all, map_more}
+use Rattle.ae_outside.proofs.Results.{err_is}
+use Rattle.ae_outside.proofs.Rising.{risen_later}
 use Rattle.ae_outside.specs.State.{reads}
 use Rattle.ae_outside.specs.Image.{Image}
 use Rattle.ae_outside.specs.Time.{same_on, same_reads}
 use Rattle.ae_types.specs.Trees.{TreeRow, tree_path}
 use Rattle.ae_vault.specs.Vault.{effective}
 use Rattle.ae_exec.specs.Reading.{AreKept, FirstIsLost, versions_of}
-use Rattle.ae_exec.proofs.Attempting.{risen_later}
 use Rattle.ae_exec.proofs.Endings.{ends_for}
 use Rattle.ae_exec.proofs.ReadInOrder.{kept-next, lost-next, lost-now}
 use Rattle.ae_exec.proofs.RunRows.{one-inside, rows-step, row-more}
-use Rattle.ae_exec.proofs.RunReady.{err-is}
 use Rattle.ae_exec.proofs.running.files_of_rows.Goals as goal
 
 pub push_row-requires-clause-inside : goal.push_row-requires-clause-inside
@@ -18,7 +18,7 @@ push_row-requires-clause-inside g c = one-inside c.args.rows.now c.loop-row.row-
 
 pub returns-in_err-push_row-clause-stopped : goal.returns-in_err-push_row-clause-stopped
 returns-in_err-push_row-clause-stopped g c =
-    let is : c.from_residual.result ≡ Err c.in_err-push_row.field-0.0 = err-is _ _ c.from_residual.ensures.1 in
+    let is : c.from_residual.result ≡ Err c.in_err-push_row.field-0.0 = err_is _ _ c.from_residual.ensures.1 in
     rw is (ends_for _ c.in_err-push_row.ensures.stopped (λ none. none) (λ refusal none. none)
     (λ name damaged tells.
     let same : effective (reads (g.D.Disk.state c.loop-row.disk)) ≡ effective (reads (g.D.Disk.state c.args.disk.now)) = ap effective (same_reads (g.D.Disk.state c.args.disk.now) (g.D.Disk.state c.loop-row.disk) (c.loop-row.invariant.same tells)) in

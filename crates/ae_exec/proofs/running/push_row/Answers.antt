@@ -1,4 +1,5 @@
 use Rattle.std.proofs.Common.{rules, ◌≡◌, subst, [], Err}
+use Rattle.ae_outside.proofs.Results.{err_is}
 use Rattle.ae_outside.specs.State.{reads}
 use Rattle.ae_types.specs.declared.version.VersionRef.{VersionRef}
 use Rattle.ae_vault.specs.Vault.{effective}
@@ -7,12 +8,11 @@ use Rattle.ae_exec.specs.declared.stop.Stop.TheVariants as stop
 use Rattle.ae_exec.specs.Endings.{memory}
 use Rattle.ae_exec.specs.Reading.{IsKept, here}
 use Rattle.ae_exec.proofs.Endings.{ends_for}
-use Rattle.ae_exec.proofs.RunReady.{err-is}
 use Rattle.ae_exec.proofs.running.push_row.Goals as goal
 
 pub returns-in_err-bytes-clause-stopped : goal.returns-in_err-bytes-clause-stopped
 returns-in_err-bytes-clause-stopped g c =
-    let is : c.from_residual.result ≡ Err c.in_err-bytes.field-0.0 = err-is _ _ c.from_residual.ensures.1 in
+    let is : c.from_residual.result ≡ Err c.in_err-bytes.field-0.0 = err_is _ _ c.from_residual.ensures.1 in
     let same : c.row.inside.version ≡ c.args.row.now.version = search rules in
     rw is (ends_for _ c.in_err-bytes.ensures.stopped (λ none. none) (λ refusal none. none)
     (λ name damaged tells. record { is_pack = (damaged tells).0; first = here c.args.row.now.version [] (subst (λ (v : VersionRef). IsKept (effective (reads (g.D.Disk.state c.args.disk.now))) v → ⊥) same (damaged tells).1) }) (λ rose. rose) (λ none. none))
@@ -23,7 +23,7 @@ returns-clause-kept g c = λ tells.
     (subst (λ (v : VersionRef). IsKept (effective (reads (g.D.Disk.state c.args.disk.now))) v) same (subst (AreOf c.row.inside.version) (c.in_ok-bytes.ensures.files tells) c.in_ok-bytes.ensures.kept), tt)
 
 pub returns-in_err-put_file-clause-stopped : goal.returns-in_err-put_file-clause-stopped
-returns-in_err-put_file-clause-stopped g c = let is : c.from_residual-in_err-put_file.result ≡ Err stop.Memory = err-is _ _ c.from_residual-in_err-put_file.ensures.1 in rw is memory
+returns-in_err-put_file-clause-stopped g c = let is : c.from_residual-in_err-put_file.result ≡ Err stop.Memory = err_is _ _ c.from_residual-in_err-put_file.ensures.1 in rw is memory
 
 -- ---- what follows from the calls alone
 

@@ -1,4 +1,6 @@
 use Rattle.std.proofs.Common.{◌≡◌, ◌∙◌, ap, subst, [], Option, Err}
+use Rattle.ae_outside.proofs.Results.{err_is}
+use Rattle.ae_outside.proofs.Rising.{risen_later}
 use Rattle.ae_outside.specs.Image.{Image}
 use Rattle.ae_outside.specs.State.{reads}
 use Rattle.ae_outside.specs.Time.{same_reads}
@@ -9,16 +11,14 @@ use Rattle.ae_exec.specs.declared.stop.Stop.TheVariants as stop
 use Rattle.ae_exec.specs.Bytes.{rows_at}
 use Rattle.ae_exec.specs.Endings.{memory}
 use Rattle.ae_exec.specs.Reading.{AreKept, FirstIsLost, versions_of}
-use Rattle.ae_exec.proofs.Attempting.{risen_later}
 use Rattle.ae_exec.proofs.Endings.{ends_for}
 use Rattle.ae_exec.proofs.ReadInOrder.{lost-left, lost-right}
 use Rattle.ae_exec.proofs.RunVersions.{based-have, both-kept, refreshed-have}
-use Rattle.ae_exec.proofs.RunReady.{err-is}
 use Rattle.ae_exec.proofs.running.ready.Goals as goal
 
 pub returns-in_err-refreshed-clause-stopped : goal.returns-in_err-refreshed-clause-stopped
 returns-in_err-refreshed-clause-stopped g c =
-    let is : c.from_residual.result ≡ Err c.in_err-refreshed.field-0.0 = err-is _ _ c.from_residual.ensures.1 in
+    let is : c.from_residual.result ≡ Err c.in_err-refreshed.field-0.0 = err_is _ _ c.from_residual.ensures.1 in
     rw is (ends_for _ c.in_err-refreshed.ensures.stopped (λ none. none) (λ refusal none. none)
     (λ name lost tells. record {
       is_pack = (lost tells).is_pack;
@@ -31,7 +31,7 @@ returns-in_err-refreshed-clause-stopped g c =
 
 pub returns-in_err-based-clause-stopped : goal.returns-in_err-based-clause-stopped
 returns-in_err-based-clause-stopped g c =
-    let is : c.from_residual-in_err-based.result ≡ Err c.in_err-based.field-0.0 = err-is _ _ c.from_residual-in_err-based.ensures.1 in
+    let is : c.from_residual-in_err-based.result ≡ Err c.in_err-based.field-0.0 = err_is _ _ c.from_residual-in_err-based.ensures.1 in
     rw is (ends_for _ c.in_err-based.ensures.stopped (λ none. none) (λ refusal none. none)
     (λ name lost tells.
     let same : effective (reads (g.D.Disk.state c.refreshed_files.new.disk)) ≡ effective (reads (g.D.Disk.state c.args.disk.now)) = ap effective (same_reads (g.D.Disk.state c.args.disk.now) (g.D.Disk.state c.refreshed_files.new.disk) (c.refreshed_files.ensures.same tells)) in
@@ -46,7 +46,7 @@ returns-in_err-based-clause-stopped g c =
     (λ rose. risen_later _ _ _ c.refreshed_files.ensures.later rose) (λ none. none))
 
 pub returns-in_err-run_plan-clause-stopped : goal.returns-in_err-run_plan-clause-stopped
-returns-in_err-run_plan-clause-stopped g c = let is : c.from_residual-in_err-run_plan.result ≡ Err stop.Memory = err-is _ _ c.from_residual-in_err-run_plan.ensures.1 in rw is memory
+returns-in_err-run_plan-clause-stopped g c = let is : c.from_residual-in_err-run_plan.result ≡ Err stop.Memory = err_is _ _ c.from_residual-in_err-run_plan.ensures.1 in rw is memory
 
 pub run_plan-requires-clause-accepted : goal.run_plan-requires-clause-accepted
 run_plan-requires-clause-accepted g c = c.requires.accepted

@@ -1,5 +1,7 @@
 use Rattle.std.proofs.Math.Nat.{le_trans}
 use Rattle.std.proofs.Common.{refl, ◌≡◌, ◌∙◌, ap, sym, subst, inr, ℕ, List, Option, Some, Err}
+use Rattle.ae_outside.proofs.Results.{err_is}
+use Rattle.ae_outside.proofs.Rising.{risen_later}
 use Rattle.ae_outside.specs.Image.{Image}
 use Rattle.ae_outside.specs.Site.{SiteState}
 use Rattle.ae_outside.specs.State.{reads}
@@ -23,21 +25,19 @@ use Rattle.ae_exec.specs.Runs.{HaveRun}
 use Rattle.ae_exec.specs.declared.stop.Stop.TheVariants as stop
 use Rattle.ae_exec.specs.Endings.{memory, refused}
 use Rattle.ae_exec.specs.Seen as seen_specs
-use Rattle.ae_exec.specs.Seen.{FilesRefuse, IsAnswer, IsDecidedSo, answering, reading}
+use Rattle.ae_exec.specs.Seen.{FilesRefuse, IsDecidedSo, answering, reading}
 use Rattle.ae_exec.specs.Stopping.{stop_of_dirs}
-use Rattle.ae_exec.proofs.Attempting.{risen_later}
 use Rattle.ae_exec.proofs.Endings.{ends_for}
 use Rattle.ae_exec.proofs.Ended.{dirs_err}
 use Rattle.ae_exec.proofs.OwnDirs.{dirs_ends, dirs_touch, early-so, early-still, no-disk-fault, leaves-runs, leaves-still}
 use Rattle.ae_exec.proofs.Following.{same_answer}
 use Rattle.ae_exec.proofs.RunAnswers.{accepted-configured, accepted-with}
 use Rattle.ae_exec.proofs.RanSo.{all-kept, lost-later, ran-both, refused-so, unrun-answer}
-use Rattle.ae_exec.proofs.RunReady.{err-is}
 use Rattle.ae_exec.proofs.runs_plan.plan_runs_on.Goals as goal
 
 pub returns-in_err-view-clause-stopped : goal.returns-in_err-view-clause-stopped
 returns-in_err-view-clause-stopped g c =
-    let is : c.from_residual.result ≡ Err c.in_err-view.field-0.0 = err-is _ _ c.from_residual.ensures.1 in
+    let is : c.from_residual.result ≡ Err c.in_err-view.field-0.0 = err_is _ _ c.from_residual.ensures.1 in
     let call : Called = called c.args.command.now c.args.who.now c.args.now (g.S.Site.state c.args.site.now) (g.S.Site.state c.see.new.site) in
     rw is (ends_for _ (c.in_err-view.ensures.stopped c.args.who.now c.args.now) (λ none. none)
     (λ refusal seen tells told. refused-so (effective (reads (g.D.Disk.state c.args.disk.now))) c.args.state.now call c.requires.runs c.requires.passed (c.see.ensures.site_same told) refusal
@@ -47,7 +47,7 @@ returns-in_err-view-clause-stopped g c =
 
 pub returns-in_err-plan-clause-stopped : goal.returns-in_err-plan-clause-stopped
 returns-in_err-plan-clause-stopped g c =
-    let is : c.from_residual-in_err-plan.result ≡ Err c.in_err-plan.field-0.0 = err-is _ _ c.from_residual-in_err-plan.ensures.1 in
+    let is : c.from_residual-in_err-plan.result ≡ Err c.in_err-plan.field-0.0 = err_is _ _ c.from_residual-in_err-plan.ensures.1 in
     let call : Called = called c.args.command.now c.args.who.now c.args.now (g.S.Site.state c.args.site.now) (g.S.Site.state c.see.new.site) in
     rw is (ends_for _ c.in_err-plan.ensures.stopped (λ none. none) (λ refusal none. absurd none)
     (λ name lost tells told.
@@ -62,14 +62,14 @@ returns-in_err-plan-clause-stopped g c =
 
 pub returns-in_err-runs-clause-stopped : goal.returns-in_err-runs-clause-stopped
 returns-in_err-runs-clause-stopped g c =
-    let is : c.from_residual-in_err-runs.result ≡ Err (stop_of_dirs c.in_err-runs.field-0.0) = err-is _ _ c.from_residual-in_err-runs.ensures.1 in
+    let is : c.from_residual-in_err-runs.result ≡ Err (stop_of_dirs c.in_err-runs.field-0.0) = err_is _ _ c.from_residual-in_err-runs.ensures.1 in
     rw is (dirs_ends c.in_err-runs.field-0.0 (λ failed. (risen_later _ _ _ c.see.ensures.site_later (c.in_err-runs.ensures.cause.rose (ap Err failed)), λ tells told. reading c.requires.passed (inr (runs-read-files c.args.command.now.function c.requires.runs)))))
 
 pub returns-in_err-runs-clause-same : goal.returns-in_err-runs-clause-same
 returns-in_err-runs-clause-same g c = λ tells. same_on (g.D.Disk.state c.args.disk.now) (g.D.Disk.state c.see.new.disk) (g.D.Disk.state c.ready.new.disk) (c.see.ensures.same tells) (c.ready.ensures.same tells)
 
 pub returns-in_err-planned-clause-stopped : goal.returns-in_err-planned-clause-stopped
-returns-in_err-planned-clause-stopped g c = let is : c.from_residual-in_err-planned.result ≡ Err stop.Memory = err-is _ _ c.from_residual-in_err-planned.ensures.1 in rw is memory
+returns-in_err-planned-clause-stopped g c = let is : c.from_residual-in_err-planned.result ≡ Err stop.Memory = err_is _ _ c.from_residual-in_err-planned.ensures.1 in rw is memory
 
 pub returns-in_err-planned-clause-same : goal.returns-in_err-planned-clause-same
 returns-in_err-planned-clause-same g c = λ tells. same_on (g.D.Disk.state c.args.disk.now) (g.D.Disk.state c.see.new.disk) (g.D.Disk.state c.ready.new.disk) (c.see.ensures.same tells) (c.ready.ensures.same tells)
@@ -117,7 +117,7 @@ returns-clause-planned g c =
     }
 
 pub returns-in_err-refusal-clause-stopped : goal.returns-in_err-refusal-clause-stopped
-returns-in_err-refusal-clause-stopped g c = let is : c.from_residual-in_err-refusal.result ≡ Err stop.Memory = err-is _ _ c.from_residual-in_err-refusal.ensures.1 in rw is memory
+returns-in_err-refusal-clause-stopped g c = let is : c.from_residual-in_err-refusal.result ≡ Err stop.Memory = err_is _ _ c.from_residual-in_err-refusal.ensures.1 in rw is memory
 
 pub returns-in-Refuse-clause-stopped : goal.returns-in-Refuse-clause-stopped
 returns-in-Refuse-clause-stopped g c =
@@ -143,12 +143,12 @@ returns-in_err-plan-clause-directories g c = λ seen. leaves-still c.args.comman
 
 pub returns-in_err-runs-clause-directories : goal.returns-in_err-runs-clause-directories
 returns-in_err-runs-clause-directories g c = λ seen.
-    dirs_err c.args.command.now (g.S.Site.state c.args.site.now) (g.S.Site.state c.make_runs-made.new.site) _ (stop_of_dirs c.in_err-runs.field-0.0) (err-is _ _ c.from_residual-in_err-runs.ensures.1)
+    dirs_err c.args.command.now (g.S.Site.state c.args.site.now) (g.S.Site.state c.make_runs-made.new.site) _ (stop_of_dirs c.in_err-runs.field-0.0) (err_is _ _ c.from_residual-in_err-runs.ensures.1)
     (leaves-runs c.args.command.now (g.S.Site.state c.args.site.now) (g.S.Site.state c.make_runs-made.new.site) _ c.requires.runs (dirs_touch c.in_err-runs.field-0.0) (subst (λ (st : SiteState). MakesByteRuns st (g.S.Site.state c.make_runs-made.new.site)) (c.see.ensures.site_same seen) (c.make_runs-made.ensures.bytes seen)))
 
 pub returns-in_err-planned-clause-directories : goal.returns-in_err-planned-clause-directories
 returns-in_err-planned-clause-directories g c = λ seen.
-    dirs_err c.args.command.now (g.S.Site.state c.args.site.now) (g.S.Site.state c.make_runs-made.new.site) _ stop.Memory (err-is _ _ c.from_residual-in_err-planned.ensures.1)
+    dirs_err c.args.command.now (g.S.Site.state c.args.site.now) (g.S.Site.state c.make_runs-made.new.site) _ stop.Memory (err_is _ _ c.from_residual-in_err-planned.ensures.1)
     (leaves-runs c.args.command.now (g.S.Site.state c.args.site.now) (g.S.Site.state c.make_runs-made.new.site) _ c.requires.runs (λ none. none) (subst (λ (st : SiteState). MakesByteRuns st (g.S.Site.state c.make_runs-made.new.site)) (c.see.ensures.site_same seen) (c.make_runs-made.ensures.bytes seen)))
 
 pub returns-clause-directories : goal.returns-clause-directories

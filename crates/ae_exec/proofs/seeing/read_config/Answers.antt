@@ -1,5 +1,6 @@
 use Rattle.std.proofs.Common.{rules, ◌≡◌, ◌∙◌, ap, sym, subst, ℕ, List, [], ◌∷◌, Option, Some, Err}
 use Rattle.std.specs.List.{cons_option}
+use Rattle.ae_outside.proofs.Results.{err_is}
 use Rattle.ae_outside.specs.declared.dir.Content.TheVariants.{Bytes}
 use Rattle.ae_outside.specs.State.{reads}
 use Rattle.ae_types.specs.Trees.{TreeRow}
@@ -14,11 +15,10 @@ use Rattle.ae_exec.specs.Reading.{FirstIsLost, here, versions_of}
 use Rattle.ae_exec.proofs.Endings.{ends_for}
 use Rattle.ae_exec.proofs.RunVersions.{config-inside, config-lives}
 use Rattle.ae_exec.proofs.Shown.{list-in}
-use Rattle.ae_exec.proofs.RunReady.{err-is}
 use Rattle.ae_exec.proofs.seeing.read_config.Goals as goal
 
 pub returns-in_err-row-clause-stopped : goal.returns-in_err-row-clause-stopped
-returns-in_err-row-clause-stopped g c = let is : c.from_residual.result ≡ Err stop.Memory = err-is _ _ c.from_residual.ensures.1 in rw is memory
+returns-in_err-row-clause-stopped g c = let is : c.from_residual.result ≡ Err stop.Memory = err_is _ _ c.from_residual.ensures.1 in rw is memory
 
 pub read_version-requires-clause-place : goal.read_version-requires-clause-place
 read_version-requires-clause-place g c =
@@ -28,7 +28,7 @@ read_version-requires-clause-place g c =
 
 pub returns-in_err-bytes-clause-stopped : goal.returns-in_err-bytes-clause-stopped
 returns-in_err-bytes-clause-stopped g c =
-    let is : c.from_residual-in_err-bytes.result ≡ Err c.in_err-bytes.field-0.0 = err-is _ _ c.from_residual-in_err-bytes.ensures.1 in
+    let is : c.from_residual-in_err-bytes.result ≡ Err c.in_err-bytes.field-0.0 = err_is _ _ c.from_residual-in_err-bytes.ensures.1 in
     let file : TreeRow = record { path = c.row.inside.path; usage = c.row.inside.usage; version = c.row.inside.version } in
     let found : config_version (call_of c.args.state.now c.args.command.now []) (change_named c.args.state.now c.args.command.now.change) ≡ Some file = search rules in
     rw is (ends_for _ c.in_err-bytes.ensures.stopped (λ none. none) (λ refusal none. none)

@@ -1,5 +1,6 @@
 use Rattle.std.proofs.Common.{◌≡◌, ◌∙◌, ap, sym, ℕ, List, [], ◌++◌, Err}
 use Rattle.std.specs.List.{cons_option}
+use Rattle.ae_outside.proofs.Results.{err_is}
 use Rattle.ae_outside.specs.declared.dir.Content.{Content}
 use Rattle.ae_outside.specs.State.{reads}
 use Rattle.ae_vault.specs.Vault.{effective}
@@ -15,18 +16,17 @@ use Rattle.ae_exec.proofs.Compared.{bytes-for-both}
 use Rattle.ae_exec.proofs.Endings.{ends_for}
 use Rattle.ae_exec.proofs.FirstSeen.{asked-row, rows-show}
 use Rattle.ae_exec.proofs.RunAnswers.{either-refused}
-use Rattle.ae_exec.proofs.RunReady.{err-is}
 use Rattle.ae_exec.proofs.seeing.see.Goals as goal
 
 pub returns-in_err-view-clause-stopped : goal.returns-in_err-view-clause-stopped
 returns-in_err-view-clause-stopped g c = λ who when.
-    let is : c.from_residual.result ≡ Err c.in_err-view.field-0.0 = err-is _ _ c.from_residual.ensures.1 in
+    let is : c.from_residual.result ≡ Err c.in_err-view.field-0.0 = err_is _ _ c.from_residual.ensures.1 in
     rw is (ends_for _ c.in_err-view.ensures.stopped (λ none. none) (λ refusal none. absurd none) (λ name none. absurd none) (λ none. absurd none) (λ rose. rose.0))
 
 pub returns-in_err-row-clause-stopped : goal.returns-in_err-row-clause-stopped
 returns-in_err-row-clause-stopped g c = λ who when.
     let call : Called = called c.args.command.now who when (g.S.Site.state c.args.site.now) (g.S.Site.state c.args.site.now) in
-    let is : c.from_residual-in_err-row.result ≡ Err c.in_err-row.field-0.0 = err-is _ _ c.from_residual-in_err-row.ensures.1 in
+    let is : c.from_residual-in_err-row.result ≡ Err c.in_err-row.field-0.0 = err_is _ _ c.from_residual-in_err-row.ensures.1 in
     rw is (ends_for _ (c.in_err-row.ensures.stopped who when) (λ none. none)
     (λ refusal why tells seen. either-refused (effective (reads (g.D.Disk.state c.args.disk.now))) c.args.state.now call c.requires.runs refusal c.in_ok-view.view (c.in_ok-view.ensures.alone seen who when) (why tells))
     (λ name lost tells seen. (
@@ -35,7 +35,7 @@ returns-in_err-row-clause-stopped g c = λ who when.
     )) (λ rose. rose) (λ none. absurd none))
 
 pub returns-in_err-seen-clause-stopped : goal.returns-in_err-seen-clause-stopped
-returns-in_err-seen-clause-stopped g c = λ who when. let is : c.from_residual-in_err-seen.result ≡ Err stop.Memory = err-is _ _ c.from_residual-in_err-seen.ensures.1 in rw is memory
+returns-in_err-seen-clause-stopped g c = λ who when. let is : c.from_residual-in_err-seen.result ≡ Err stop.Memory = err_is _ _ c.from_residual-in_err-seen.ensures.1 in rw is memory
 
 pub returns-clause-seen : goal.returns-clause-seen
 returns-clause-seen g c = λ tells seen bytes who when have.

@@ -1,6 +1,8 @@
 use Rattle.std.proofs.Common.{rules, ◌≡◌, ◌∙◌, inl, ap, sym, subst, List, ℕ, All, Option, Some, Err}
 use Rattle.std.specs.Prelude.{option_copied}
 use Rattle.std.proofs.lemmas.List.Elements.{All-nil}
+use Rattle.std.proofs.lemmas.Result.{IfOk-weaker}
+use Rattle.ae_outside.proofs.Results.{err_is}
 use Rattle.ae_base.specs.Limits.{most_file_bytes}
 use Rattle.ae_outside.specs.Site.{IsAtMost}
 use Rattle.ae_outside.specs.declared.dir.Content.{Content}
@@ -9,20 +11,18 @@ use Rattle.ae_machine.specs.Called.{called}
 use Rattle.ae_exec.specs.Seen.{seen_alone}
 use Rattle.ae_exec.specs.Stopping.{stop_of_site}
 use Rattle.ae_exec.proofs.Endings.{site_ends}
-use Rattle.ae_exec.proofs.Stores.{if_ok}
-use Rattle.ae_exec.proofs.RunReady.{err-is}
 use Rattle.ae_exec.proofs.seeing.see_quiet.Goals as goal
 
 pub returns-in_err-look-in-None-clause-stopped : goal.returns-in_err-look-in-None-clause-stopped
 returns-in_err-look-in-None-clause-stopped g c =
-    let is : c.from_residual.result ≡ Err (stop_of_site c.in_err-look-in-None.field-0.0) = err-is _ _ c.from_residual.ensures.1 in
+    let is : c.from_residual.result ≡ Err (stop_of_site c.in_err-look-in-None.field-0.0) = err_is _ _ c.from_residual.ensures.1 in
     rw is (site_ends c.in_err-look-in-None.field-0.0 (λ failed. (c.in_err-look-in-None.ensures.cause.rose (ap Err failed), inl (let asked = c.in_err-look-in-None.ensures.asked (ap Err failed) in search rules))))
 
 pub returns-in-Some-clause-seen : goal.returns-in-Some-clause-seen
 returns-in-Some-clause-seen g c =
     let there : option_copied c.args.old ≡ Some c.in-Some.state.now = search rules in
-    if_ok _ _ c.see_files.result c.see_files.ensures.alone (λ view is tells who when after.
-    is tells who when ∙ ap (λ (o : Option Observation). seen_alone o (called c.args.command.now who when (g.S.Site.state c.args.site.now) after)) (sym there))
+    IfOk-weaker c.see_files.result _ _ (λ view is tells who when after.
+    is tells who when ∙ ap (λ (o : Option Observation). seen_alone o (called c.args.command.now who when (g.S.Site.state c.args.site.now) after)) (sym there)) c.see_files.ensures.alone
 
 pub returns-in_ok-look-in-None-clause-short : goal.returns-in_ok-look-in-None-clause-short
 returns-in_ok-look-in-None-clause-short g c =

@@ -1,11 +1,11 @@
 use Rattle.std.proofs.Common.{◌∙◌, ◌++◌, ◌∷◌, [], rules, ap, slice_set}
 use Rattle.std.specs.List.{insert}
 use Rattle.std.proofs.lemmas.Fn.{always_returns_same}
+use Rattle.std.proofs.lemmas.Result.{on_ok_weaker}
 use Rattle.ae_base.specs.Rows.{text_cmp}
 use Rattle.ae_types.specs.declared.file_table.FileRow.{FileRow}
 use Rattle.ae_types.specs.Found.{row_path}
 use Rattle.ae_log.specs.After.{row_of, new_entry}
-use Rattle.ae_log.proofs.AppliedSteps.{on-ok}
 use Rattle.ae_log.proofs.EnteredRows.{entered-there, entered-new}
 use Rattle.ae_log.proofs.file_rows.enter_file.Goals as goal
 
@@ -14,9 +14,9 @@ returns-in-Ok c =
     let bound = rw (c.deref.ensures.value) at c.in-Ok.ensures.bound in
     let position = rw (c.deref.ensures.value) at c.in-Ok.ensures.position in
     let equal = position (λ (y : FileRow). text_cmp (row_path y) c.args.file.now.path) (always_returns_same _ _ _ (λ a r f' called. search rules)) in
-    on-ok c.push.result _ _ c.push.ensures.ok (λ pushed.
+    on_ok_weaker c.push.result (λ pushed.
     ap (λ past. slice_set c.args.rows.now.items c.in-Ok.at (row_of c.index_mut.result.now.path past)) pushed
-    ∙ entered-there c.args.delta c.args.file.now c.args.rows.now.items c.in-Ok.at c.index_mut.result.now c.requires bound equal c.index_mut.ensures.value)
+    ∙ entered-there c.args.delta c.args.file.now c.args.rows.now.items c.in-Ok.at c.index_mut.result.now c.requires bound equal c.index_mut.ensures.value) c.push.ensures.ok
 
 pub returns-in_ok-insert-in-Err : goal.returns-in_ok-insert-in-Err
 returns-in_ok-insert-in-Err c =

@@ -1,4 +1,4 @@
-use Rattle.std.proofs.Common.{◌≡◌, ◌∙◌, Bool, List, [], ℕ, ap}
+use Rattle.std.proofs.Common.{◌∙◌, Bool, [], ap}
 use Rattle.ae_machine.specs.Called.{called, answer_to}
 use Rattle.ae_exec.specs.Said.{reply_text}
 use Rattle.ae_exec.proofs.Ended.{leaves-weaker}

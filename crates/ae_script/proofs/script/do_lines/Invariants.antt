@@ -1,4 +1,4 @@
-use Rattle.std.proofs.Common.{◌≡◌, ◌≤◌, ◌++◌, ℕ, List, ◌-◌}
+use Rattle.std.proofs.Common.{◌≤◌, ◌++◌, List, ◌-◌}
 use Rattle.ae_outside.specs.Causes.{HasRisen}
 use Rattle.ae_reader.specs.Cut.{most_bytes}
 use Rattle.ae_log.specs.Log.{Log}

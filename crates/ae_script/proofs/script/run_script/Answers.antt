@@ -1,5 +1,5 @@
 use Rattle.std.proofs.Common.{arith, refl}
-use Rattle.ae_script.proofs.Caused.{caused_last, caused_either}
+use Rattle.ae_script.proofs.Caused.{caused_last}
 use Rattle.ae_script.proofs.Completed.{script_complete}
 use Rattle.ae_script.proofs.Ended.{memory_behind}
 use Rattle.ae_script.proofs.Givers.{done_by, never_nobody, user_is}

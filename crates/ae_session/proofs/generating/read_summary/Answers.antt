@@ -1,9 +1,9 @@
 use Rattle.std.proofs.Common.{sym, Result, Ok, Err, IfErr}
+use Rattle.std.proofs.lemmas.Result.{IfOk-weaker}
 use Rattle.ae_outside.specs.State.{reads}
 use Rattle.ae_log.specs.Observed.{observation}
 use Rattle.ae_exec.proofs.Completing.{never_damaged}
 use Rattle.ae_exec.proofs.Standing.{shows}
-use Rattle.ae_exec.proofs.Stores.{if_ok}
 use Rattle.ae_session.specs.Summary.{no_project}
 use Rattle.ae_session.proofs.Summing.{load_caused, load_fails, load_of_command, memory_fails}
 use Rattle.ae_session.proofs.generating.read_summary.Goals as goal
@@ -26,8 +26,7 @@ pub returns-in-Err-clause-of_command : goal.returns-in-Err-clause-of_command
 returns-in-Err-clause-of_command g c = load_of_command _ _ c.in-Err.why c.in-Err.ensures.stopped
 
 pub returns-in-Ok-Some-clause-read : goal.returns-in-Ok-Some-clause-read
-returns-in-Ok-Some-clause-read g c = if_ok _ _ c.summary_of.result c.summary_of.ensures.text
-    (λ text is tells log read. (c.in-Ok-Some.state, sym ((rw c.in-Ok-Some.field-0-is at c.in-Ok-Some.ensures.found) tells log read), is))
+returns-in-Ok-Some-clause-read g c = IfOk-weaker c.summary_of.result _ _ (λ text is tells log read. (c.in-Ok-Some.state, sym ((rw c.in-Ok-Some.field-0-is at c.in-Ok-Some.ensures.found) tells log read), is)) c.summary_of.ensures.text
 
 pub returns-in-Ok-Some-clause-fails : goal.returns-in-Ok-Some-clause-fails
 returns-in-Ok-Some-clause-fails g c = if_err _ _ c.summary_of.result c.summary_of.ensures.fails (λ why is tells log read. memory_fails _ _ why is)

@@ -1,5 +1,4 @@
 use Rattle.ae_session.proofs.Repeating.{stops-repeat}
-use Rattle.ae_session.specs.Stopped.{disks, sites, streams}
 use Rattle.ae_session.proofs.stopped.stops_may_repeat.Goals as goal
 
 pub returns : goal.returns

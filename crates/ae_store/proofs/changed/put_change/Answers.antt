@@ -1,11 +1,12 @@
 use Rattle.std.proofs.Common.{◌≡◌, ℕ, ◌∙◌, ap}
 use Rattle.std.specs.Prelude.{option_copied}
 use Rattle.std.proofs.Common.{Vec, Global}
+use Rattle.ae_outside.proofs.Results.{on_ok_both}
 use Rattle.ae_store.specs.Batching.{is_state_name}
 use Rattle.ae_store.proofs.BatchNames.{change_name_is}
 use Rattle.ae_store.specs.Names.{change_file}
 use Rattle.ae_store.specs.Changed.{text_of}
-use Rattle.ae_store.proofs.BatchSteps.{step_right, step_done, step_kept, on_ok}
+use Rattle.ae_store.proofs.BatchSteps.{step_right, step_done, step_kept}
 use Rattle.ae_store.proofs.changed.put_change.Goals as goal
 
 pub put_text-requires-clause-name : goal.put_text-requires-clause-name
@@ -17,7 +18,7 @@ pub returns-clause-right : goal.returns-clause-right
 returns-clause-right c =
     let name : c.of-name.result ≡ change_file c.args.number = c.of-name.ensures ∙ ap (λ (v : Vec ℕ Global). v.items) c.into_bytes.ensures.value ∙ c.in_ok-name.ensures.value in
     let told : c.as_slice.result.now ≡ text_of (option_copied c.args.old) (change_file c.args.number) = c.as_slice.ensures.value ∙ c.in_ok-old_text.ensures.text in
-    on_ok c.put_text.result
+    on_ok_both c.put_text.result _ _ _
     (step_right (option_copied c.args.old) c.args.new.now c.args.entries.now.items c.put_text.new.entries.items c.of-name.result (change_file c.args.number) c.as_slice.result.now c.in_ok-new_text.new_text.items name told c.in_ok-new_text.ensures.text c.requires.right)
     c.put_text.ensures.content c.put_text.ensures.ordered
 
@@ -25,7 +26,7 @@ pub returns-clause-done : goal.returns-clause-done
 returns-clause-done c =
     let name : c.of-name.result ≡ change_file c.args.number = c.of-name.ensures ∙ ap (λ (v : Vec ℕ Global). v.items) c.into_bytes.ensures.value ∙ c.in_ok-name.ensures.value in
     let told : c.as_slice.result.now ≡ text_of (option_copied c.args.old) (change_file c.args.number) = c.as_slice.ensures.value ∙ c.in_ok-old_text.ensures.text in
-    on_ok c.put_text.result
+    on_ok_both c.put_text.result _ _ _
     (step_done (option_copied c.args.old) c.args.new.now c.args.entries.now.items c.put_text.new.entries.items c.of-name.result (change_file c.args.number) c.as_slice.result.now c.in_ok-new_text.new_text.items name told c.in_ok-new_text.ensures.text c.requires.right)
     c.put_text.ensures.content c.put_text.ensures.ordered
 
@@ -33,6 +34,6 @@ pub returns-clause-kept : goal.returns-clause-kept
 returns-clause-kept c =
     let name : c.of-name.result ≡ change_file c.args.number = c.of-name.ensures ∙ ap (λ (v : Vec ℕ Global). v.items) c.into_bytes.ensures.value ∙ c.in_ok-name.ensures.value in
     let told : c.as_slice.result.now ≡ text_of (option_copied c.args.old) (change_file c.args.number) = c.as_slice.ensures.value ∙ c.in_ok-old_text.ensures.text in
-    on_ok c.put_text.result
+    on_ok_both c.put_text.result _ _ _
     (step_kept (option_copied c.args.old) c.args.new.now c.args.entries.now.items c.put_text.new.entries.items c.of-name.result (change_file c.args.number) c.as_slice.result.now c.in_ok-new_text.new_text.items name told c.in_ok-new_text.ensures.text)
     c.put_text.ensures.content c.put_text.ensures.ordered

@@ -1,15 +1,16 @@
 use Rattle.std.proofs.Common.{◌≡◌, ◌∙◌}
 use Rattle.std.specs.Prelude.{option_copied}
+use Rattle.ae_outside.proofs.Results.{on_ok_both}
 use Rattle.ae_store.specs.Names.{files_file}
 use Rattle.ae_store.specs.Changed.{text_of}
-use Rattle.ae_store.proofs.BatchSteps.{step_right, step_done, step_kept, on_ok}
+use Rattle.ae_store.proofs.BatchSteps.{step_right, step_done, step_kept}
 use Rattle.ae_store.proofs.changed.put_table.Goals as goal
 
 pub returns-clause-right : goal.returns-clause-right
 returns-clause-right c =
     let name : c.of-name.result ≡ files_file = c.of-name.ensures ∙ c.in_ok-from_slice.ensures.items ∙ c.as_bytes.ensures.value in
     let told : c.as_slice.result.now ≡ text_of (option_copied c.args.old) (files_file) = c.as_slice.ensures.value ∙ c.in_ok-old_text.ensures.text in
-    on_ok c.put_text.result
+    on_ok_both c.put_text.result _ _ _
     (step_right (option_copied c.args.old) c.args.new.now c.args.entries.now.items c.put_text.new.entries.items c.of-name.result (files_file) c.as_slice.result.now c.in_ok-new_text.new_text.items name told c.in_ok-new_text.ensures.text c.requires)
     c.put_text.ensures.content c.put_text.ensures.ordered
 
@@ -17,7 +18,7 @@ pub returns-clause-done : goal.returns-clause-done
 returns-clause-done c =
     let name : c.of-name.result ≡ files_file = c.of-name.ensures ∙ c.in_ok-from_slice.ensures.items ∙ c.as_bytes.ensures.value in
     let told : c.as_slice.result.now ≡ text_of (option_copied c.args.old) (files_file) = c.as_slice.ensures.value ∙ c.in_ok-old_text.ensures.text in
-    on_ok c.put_text.result
+    on_ok_both c.put_text.result _ _ _
     (step_done (option_copied c.args.old) c.args.new.now c.args.entries.now.items c.put_text.new.entries.items c.of-name.result (files_file) c.as_slice.result.now c.in_ok-new_text.new_text.items name told c.in_ok-new_text.ensures.text c.requires)
     c.put_text.ensures.content c.put_text.ensures.ordered
 
@@ -25,6 +26,6 @@ pub returns-clause-kept : goal.returns-clause-kept
 returns-clause-kept c =
     let name : c.of-name.result ≡ files_file = c.of-name.ensures ∙ c.in_ok-from_slice.ensures.items ∙ c.as_bytes.ensures.value in
     let told : c.as_slice.result.now ≡ text_of (option_copied c.args.old) (files_file) = c.as_slice.ensures.value ∙ c.in_ok-old_text.ensures.text in
-    on_ok c.put_text.result
+    on_ok_both c.put_text.result _ _ _
     (step_kept (option_copied c.args.old) c.args.new.now c.args.entries.now.items c.put_text.new.entries.items c.of-name.result (files_file) c.as_slice.result.now c.in_ok-new_text.new_text.items name told c.in_ok-new_text.ensures.text)
     c.put_text.ensures.content c.put_text.ensures.ordered

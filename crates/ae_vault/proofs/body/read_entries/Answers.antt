@@ -1,9 +1,10 @@
 use Rattle.std.proofs.Common.{◌≡◌, ◌-◌, ◌+◌, Err, List, ap, sym, ◌∙◌, arith}
+use Rattle.ae_outside.proofs.Results.{err_was, if_ok_of_err, ok_is_no_err}
 use Rattle.ae_vault.specs.declared.entry.Entry.{Entry}
 use Rattle.ae_vault.specs.declared.error.VaultError.TheVariants.{DiskFault, Damaged, Memory}
 use Rattle.ae_vault.specs.Vault.{entries_read}
 use Rattle.ae_vault.proofs.BodyText.{behind, read_one, read_none}
-use Rattle.ae_vault.proofs.Erring.{if_ok_of_err, err_was, ok_is_no_err, memory_is_no_damage, memory_is_no_fault}
+use Rattle.ae_vault.proofs.Erring.{memory_is_no_damage, memory_is_no_fault}
 use Rattle.ae_vault.proofs.body.read_entries.Goals as goal
 
 pub returns-in_err-entry-clause-damaged : goal.returns-in_err-entry-clause-damaged

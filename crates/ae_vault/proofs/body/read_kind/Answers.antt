@@ -1,4 +1,5 @@
-use Rattle.ae_vault.proofs.Erring.{ok_is_no_err, damaged_is_no_fault}
+use Rattle.ae_outside.proofs.Results.{ok_is_no_err}
+use Rattle.ae_vault.proofs.Erring.{damaged_is_no_fault}
 use Rattle.ae_vault.proofs.body.read_kind.Goals as goal
 
 pub returns-in-empty-clause-ok : goal.returns-in-empty-clause-ok

@@ -1,10 +1,11 @@
 use Rattle.std.proofs.Common.{◌≤◌, ℕ, List, [], ◌∷◌, length, refl, subst, arith}
 use Rattle.std.proofs.Math.Nat.{le_trans}
+use Rattle.ae_outside.proofs.Results.{if_ok_of_err, on_ok_of_err}
+use Rattle.ae_outside.proofs.Rising.{counted_on}
 use Rattle.ae_outside.specs.Image.{WriteBegun, Overwritten}
 use Rattle.ae_outside.specs.State.{reads, GoesOn}
 use Rattle.ae_vault.specs.Pieces.{pack}
 use Rattle.ae_vault.proofs.Packs.{zeros_for, begun_on, wrote_piece, piece_there, piece_same}
-use Rattle.ae_vault.proofs.Erring.{on_ok_of_err, if_ok_of_err, counted_on}
 use Rattle.ae_vault.proofs.packed.put_piece.Goals as goal
 
 pub returns-in_err-fill-clause-change : goal.returns-in_err-fill-clause-change

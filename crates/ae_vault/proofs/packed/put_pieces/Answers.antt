@@ -1,8 +1,9 @@
 use Rattle.std.proofs.Common.{◌≤◌, length, refl, arith}
+use Rattle.ae_outside.proofs.Results.{on_ok_of_err}
+use Rattle.ae_outside.proofs.Rising.{counted_on}
 use Rattle.ae_outside.specs.State.{reads}
 use Rattle.ae_vault.specs.Pieces.{pack}
 use Rattle.ae_vault.proofs.Packs.{piece_on, has_one_more}
-use Rattle.ae_vault.proofs.Erring.{on_ok_of_err, counted_on}
 use Rattle.ae_vault.proofs.packed.put_pieces.Goals as goal
 
 pub returns-in_err-size-clause-change : goal.returns-in_err-size-clause-change

@@ -1,7 +1,8 @@
 use Rattle.std.proofs.Common.{refl, sym, ◌∙◌, arith}
 use Rattle.std.proofs.Math.Nat.{le_trans}
+use Rattle.ae_outside.proofs.Results.{on_ok_of_err}
+use Rattle.ae_outside.proofs.Rising.{counted_on}
 use Rattle.ae_vault.proofs.Packs.{packs_over, none_over, begun_behind, begun_before, no_items, some_items}
-use Rattle.ae_vault.proofs.Erring.{on_ok_of_err, counted_on}
 use Rattle.ae_vault.proofs.packed.write_pieces.Goals as goal
 
 pub returns-then-is_empty-clause-change : goal.returns-then-is_empty-clause-change

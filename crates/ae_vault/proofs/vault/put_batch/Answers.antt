@@ -1,5 +1,7 @@
 use Rattle.std.proofs.Common.{true, false, List, ap, refl, subst, ◌∙◌}
 use Rattle.std.proofs.Math.Nat.{le_trans}
+use Rattle.ae_outside.proofs.Results.{on_ok, on_ok_both, on_ok_of_err}
+use Rattle.ae_outside.proofs.Rising.{counted_on}
 use Rattle.ae_vault.specs.declared.entry.Entry.{Entry}
 use Rattle.ae_outside.specs.Image.{Image}
 use Rattle.ae_outside.specs.State.{reads, MayLeave, GoesOn}
@@ -7,9 +9,7 @@ use Rattle.ae_vault.specs.Vault.{gate, body, all_entry_names}
 use Rattle.ae_vault.specs.Commit.{IsAfter, SameOutside, HasEntries}
 use Rattle.ae_vault.proofs.Phases.{stable_as, stable_open}
 use Rattle.ae_vault.proofs.CommitPhases.{through1, through2, through3, through4, all4, read4}
-use Rattle.ae_vault.proofs.Results.{on_ok, on_ok_both}
 use Rattle.ae_outside.specs.Time.{continues_then}
-use Rattle.ae_vault.proofs.Erring.{on_ok_of_err, counted_on}
 use Rattle.ae_vault.proofs.vault.put_batch.Goals as goal
 
 pub returns-in_err-replace-clause-any_moment : goal.returns-in_err-replace-clause-any_moment

@@ -1,4 +1,7 @@
 use Rattle.std.proofs.Common.{◌≡◌, true, List, ap, refl, sym, ◌∙◌, subst, arith}
+use Rattle.std.proofs.lemmas.Result.{on_ok_weaker}
+use Rattle.ae_outside.proofs.Results.{on_ok_of_err}
+use Rattle.ae_outside.proofs.Rising.{counted_on}
 use Rattle.ae_outside.specs.Image.{Image}
 use Rattle.ae_outside.specs.State.{reads, MayLeave, GoesOn}
 use Rattle.ae_outside.specs.Time.{continues_refl, continues_then}
@@ -6,8 +9,6 @@ use Rattle.ae_vault.specs.declared.piece.Piece.{Piece}
 use Rattle.ae_vault.specs.Batch.{BatchRecord}
 use Rattle.ae_vault.specs.Pieces.{pack, no_entry_is_pack, are_pieces, HasPieces, PackedOver}
 use Rattle.ae_vault.proofs.BatchPhases.{through_pieces, through_entries, all_after, read_after, one_read}
-use Rattle.ae_vault.proofs.Results.{on_ok_from}
-use Rattle.ae_vault.proofs.Erring.{on_ok_of_err, counted_on}
 use Rattle.ae_vault.proofs.vault.Vault.commit.Goals as goal
 
 pub returns-in_err-write_pieces-clause-any_moment : goal.returns-in_err-write_pieces-clause-any_moment
@@ -32,7 +33,7 @@ returns-clause-one_of_two g c = λ t.
 
 pub returns-clause-all : goal.returns-clause-all
 returns-clause-all g c =
-    on_ok_from c.put_batch.result _ _ (λ all t.
+    on_ok_weaker c.put_batch.result (λ all t.
     let unnamed : no_entry_is_pack c.args.batch.entries ≡ true = ap (λ (b : BatchRecord). no_entry_is_pack b.entries) (sym c.batch.view_is) ∙ c.batch.invariant.3 in
     let goes : GoesOn (PackedOver c.args.batch.pieces) (g.D.Disk.state c.args.disk.now) (g.D.Disk.state c.write_pieces.new.disk) = subst (λ (ps : List Piece). GoesOn (PackedOver ps) (g.D.Disk.state c.args.disk.now) (g.D.Disk.state c.write_pieces.new.disk)) c.pieces.ensures.value (c.write_pieces.ensures.change t) in
     let has : (f : Image) → MayLeave (g.D.Disk.state c.write_pieces.new.disk) f → HasPieces c.args.batch.pieces (f pack) = λ f left. subst (λ (ps : List Piece). HasPieces ps (f pack)) c.pieces.ensures.value (c.in_ok-write_pieces.ensures.has t f left) in
@@ -40,7 +41,7 @@ returns-clause-all g c =
 
 pub returns-clause-read : goal.returns-clause-read
 returns-clause-read g c =
-    on_ok_from c.put_batch.result _ _ (λ read t.
+    on_ok_weaker c.put_batch.result (λ read t.
     let unnamed : no_entry_is_pack c.args.batch.entries ≡ true = ap (λ (b : BatchRecord). no_entry_is_pack b.entries) (sym c.batch.view_is) ∙ c.batch.invariant.3 in
     let goes : GoesOn (PackedOver c.args.batch.pieces) (g.D.Disk.state c.args.disk.now) (g.D.Disk.state c.write_pieces.new.disk) = subst (λ (ps : List Piece). GoesOn (PackedOver ps) (g.D.Disk.state c.args.disk.now) (g.D.Disk.state c.write_pieces.new.disk)) c.pieces.ensures.value (c.write_pieces.ensures.change t) in
     let has : (f : Image) → MayLeave (g.D.Disk.state c.write_pieces.new.disk) f → HasPieces c.args.batch.pieces (f pack) = λ f left. subst (λ (ps : List Piece). HasPieces ps (f pack)) c.pieces.ensures.value (c.in_ok-write_pieces.ensures.has t f left) in
