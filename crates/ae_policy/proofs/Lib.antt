@@ -1,2 +1,2 @@
-pub mod GoodRoles
+pub mod GoodProject
 pub mod HasUser

@@ -1,6 +1,7 @@
 pub mod Adjacent
 pub mod BinarySearch
 pub mod Clashing
+pub mod GoodRoles
 pub mod Keys
 pub mod Members
 pub mod Ordered

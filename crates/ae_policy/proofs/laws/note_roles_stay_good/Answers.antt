@@ -1,4 +1,4 @@
-use Rattle.ae_policy.proofs.GoodRoles.{good_added, good_dropped}
+use Rattle.ae_policy.proofs.GoodProject.{good_added, good_dropped}
 use Rattle.ae_policy.proofs.laws.note_roles_stay_good.Goals as goal
 
 pub returns-clause-adding : goal.returns-clause-adding

@@ -1,5 +1,5 @@
 use Rattle.std.proofs.Common.{rules, arith, ◌≡◌, ap, length, take}
-use Rattle.ae_reader.specs.Cut.{IsWithin, content_of}
+use Rattle.ae_reader.specs.Cut.{content_of}
 use Rattle.ae_reader.proofs.reader.LineReader.hand_out.Goals as goal
 
 pub returns-clause-within : goal.returns-clause-within
