@@ -1,5 +1,5 @@
 -- A body's text and its entries.
-use Rattle.std.proofs.Common.{◌≡◌, ◌≢◌, ℕ, suc, ◌+◌, ◌<◌, ◌≤◌, ◌^◌, Bool, true, false, if◌then◌else◌, List, [], ◌∷◌, ◌++◌, length, get_or, take, drop, Option, Some, None, unwrap_or, option_and_then, nat_lt, nat_le, flat_map, refl, sym, ◌∙◌, ap, subst, arith, append_assoc, append-nil, length-append}
+use Rattle.std.proofs.Common.{◌≡◌, ◌≢◌, ℕ, suc, ◌+◌, ◌<◌, ◌≤◌, ◌^◌, Bool, true, false, if◌then◌else◌, ◌==◌, List, [], ◌∷◌, ◌++◌, length, get_or, take, drop, Option, Some, None, unwrap_or, option_and_then, nat_lt, nat_le, flat_map, refl, sym, ◌∙◌, ap, subst, arith, append_assoc, append-nil, length-append}
 use Rattle.std.specs.Int.{to_le_bytes, from_le_bytes, w32, w64}
 use Rattle.std.proofs.Math.Seq.{take-append_seam, drop-append_seam}
 use Rattle.std.proofs.lemmas.Bool.Decides.{nat_tests}
@@ -95,6 +95,11 @@ read_none left n entries rest is reads =
 pub read_more : (left : ℕ) (entries : List Entry) (rest : List ℕ) → left ≡ 0 → rest ≢ [] → behind entries (entries_read left rest) ≡ None
 read_more left entries [] done is = absurd (is refl)
 read_more left entries (b ∷ rest) done is = ap (λ (k : ℕ). behind entries (entries_read k (b ∷ rest))) done
+
+-- nor is there one where the bytes have ended
+pub read_last : (left : ℕ) (entries : List Entry) (rest : List ℕ) → left ≡ 0 → (length rest == 0) ≡ true → behind entries (entries_read left rest) ≡ Some entries
+read_last left entries [] done is = ap (λ (k : ℕ). behind entries (entries_read k [])) done ∙ ap Some (append-nil entries)
+read_last left entries (b ∷ rest) done is = grind (arith, nat_tests)
 
 -- one more entry is written
 pub written_one : (entries : List Entry) (i : ℕ) (e : Entry) → i < length entries → e ≡ get_or entries i e → flat_map entry_bytes (take (i + 1) entries) ≡ flat_map entry_bytes (take i entries) ++ entry_bytes e

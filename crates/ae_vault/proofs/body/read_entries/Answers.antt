@@ -3,7 +3,7 @@ use Rattle.ae_outside.proofs.Results.{err_was, if_ok_of_err, ok_is_no_err}
 use Rattle.ae_vault.specs.declared.entry.Entry.{Entry}
 use Rattle.ae_vault.specs.declared.error.VaultError.TheVariants.{DiskFault, Damaged, Memory}
 use Rattle.ae_vault.specs.Vault.{entries_read}
-use Rattle.ae_vault.proofs.BodyText.{behind, read_one, read_none}
+use Rattle.ae_vault.proofs.BodyText.{behind, read_one, read_none, read_last}
 use Rattle.ae_vault.proofs.Erring.{memory_is_no_damage, memory_is_no_fault}
 use Rattle.ae_vault.proofs.body.read_entries.Goals as goal
 
@@ -17,6 +17,11 @@ loop-done-preserved c =
     c.loop-done.invariant
     ∙ read_one (c.args.count - c.loop-done.done) (c.args.count - (c.loop-done.done + 1)) c.loop-done.entries.items c.in_ok-entry.entry c.loop-done.rest.now c.in_ok-entry.after.now (omega arith) c.in_ok-entry.ensures.ok
     ∙ ap (λ (es : List Entry). behind es (entries_read (c.args.count - (c.loop-done.done + 1)) c.in_ok-entry.after.now)) (sym c.in_ok-push.ensures.items)
+
+pub returns-clause-entries : goal.returns-clause-entries
+returns-clause-entries c =
+    c.loop-done.invariant
+    ∙ read_last (c.args.count - c.loop-done.done) c.loop-done.entries.items c.loop-done.rest.now (omega arith) (sym c.is_empty.ensures ∙ c.if-not-is_empty.false)
 
 -- ---- what follows from the calls alone
 
