@@ -1,5 +1,5 @@
 -- An entry is inserted at its place.
-use Rattle.std.proofs.Common.{◌≡◌, ◌⊎◌, inl, inr, ℕ, zero, suc, ◌+◌, ◌<◌, ◌≤◌, ◌^◌, refl, sym, ◌∙◌, ap, subst, Bool, true, ◌&&◌, not, if◌then◌else◌, List, [], ◌∷◌, length, get_or, Option, Some, None, unwrap_or, arith}
+use Rattle.std.proofs.Common.{◌≡◌, ◌⊎◌, inl, inr, ℕ, zero, suc, ◌+◌, ◌<◌, ◌≤◌, ◌^◌, refl, sym, ◌∙◌, ap, subst, Bool, true, false, ◌&&◌, not, if◌then◌else◌, List, [], ◌∷◌, length, get_or, Option, Some, None, unwrap_or, arith}
 use Rattle.std.specs.List.{insert, list_all}
 use Rattle.std.specs.Ordering.{is_lt}
 use Rattle.std.specs.declared.cmp.Ordering.{Ordering}
@@ -17,6 +17,7 @@ use Rattle.ae_vault.proofs.Files.{bool_cases}
 use Rattle.ae_vault.specs.declared.entry.Entry.{Entry}
 use Rattle.ae_vault.specs.Vault.{content_of, or_else, names_ascend, all_entry_names, is_entry_name}
 use Rattle.ae_vault.specs.Pieces.{pack}
+use Rattle.ae_store.specs.Changed.{change_of}
 use Rattle.ae_store.specs.Batching.{AreOrdered, is_state_name}
 
 abbrev pub entry_name : Entry → List ℕ
@@ -184,3 +185,19 @@ inserted_content es seen same i e ordered h parted =
 pub inserted_ordered : (es seen : List Entry) → seen ≡ es → (i : ℕ) (e : Entry) → AreOrdered es → i ≤ length seen → is_state_name e.name ≡ true → length es + 1 < 2 ^ 32 → IsParted e.name seen i → AreOrdered (insert es i e)
 inserted_ordered es seen same i e ordered h name few parted =
     ordered_inserted es i e ordered (subst (λ (xs : List Entry). i ≤ length xs) same h) name few (subst (λ (xs : List Entry). IsParted e.name xs i) same parted)
+
+-- ---- nothing is put where the text is the old one
+
+-- no second answer
+first_alone : (o : Option (List ℕ)) → o ≡ or_else o None
+first_alone None = refl
+first_alone (Some bytes) = refl
+
+none_either_way : (named : Bool) → ◌≡◌ {A = Option (List ℕ)} None (if named then None else None)
+none_either_way true = refl
+none_either_way false = refl
+
+pub unchanged : (entries : List Entry) (name old new other : List ℕ) → bytes_eq old new ≡ true → content_of entries other ≡ or_else (content_of entries other) (if bytes_eq name other then change_of old new else None)
+unchanged entries name old new other same =
+    first_alone (content_of entries other)
+    ∙ ap (or_else (content_of entries other)) (none_either_way (bytes_eq name other) ∙ ap (λ (o : Option (List ℕ)). if bytes_eq name other then o else None) (sym (ap (λ (b : Bool). if b then None else Some new) same)))

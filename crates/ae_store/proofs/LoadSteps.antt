@@ -1,5 +1,6 @@
 -- What the steps of loading come to.
-use Rattle.std.proofs.Common.{◌≢◌, ℕ, List, [], Some, Ok, Err, sym, subst}
+use Rattle.std.specs.Prelude.{IsErrOf}
+use Rattle.std.proofs.Common.{◌≡◌, ◌≢◌, ℕ, List, [], Some, Ok, Err, sym, ap, subst}
 use Rattle.ae_outside.specs.Image.{Image}
 use Rattle.ae_types.specs.declared.blame.Blame.TheVariants as blame
 use Rattle.ae_types.specs.declared.file_table.FileRow.{FileRow}
@@ -14,6 +15,10 @@ use Rattle.ae_store.specs.Records.{StandsFor, records}
 use Rattle.ae_store.specs.Damage.{ReadsProject, ReadsTable, IsDamaged, project, table, change, beside}
 use Rattle.ae_store.specs.Steps.{IsReading, AreRead, IsChecked, IsLoaded}
 use Rattle.ae_store.proofs.OneState.{Reads, read_records}
+
+-- an error is the same one, whatever the value would have been
+pub err_of : {T U E : Type 0} (x e : E) → IsErrOf {T = T} (Err x) e → IsErrOf {T = U} (Err x) e
+err_of x e is = let same : x ≡ e = cc in ap Err same
 
 pub project_err : (files : Image) (s : Stop) → files project_file ≢ [] → IsReading (λ (p : Project × List ℕ). ReadsProject files p.0 p.1) blame.Project (Err s) → IsLoaded files (Err s)
 project_err files (Blamed b) some is = (some, subst (IsDamaged files) (sym is.0) (project (λ p numbers reads. is.1 (p, numbers) reads)))

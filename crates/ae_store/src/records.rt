@@ -74,6 +74,7 @@ pub(crate) fn good_change(alloc: Global, bytes: &[u8], number: ChangeNo) -> Resu
             if change.number == number && change_is_good(&change) {
                 Ok(change)
             } else {
+                drop(change);
                 Err(Stop::Blamed(Blame::Change(number)))
             }
         }

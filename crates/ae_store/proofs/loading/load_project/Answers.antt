@@ -1,15 +1,20 @@
-use Rattle.std.proofs.Common.{◌≢◌, ℕ, List, [], Err, sym, ◌∙◌, subst, arith}
+use Rattle.std.proofs.Common.{◌≢◌, ℕ, List, [], Err, refl, sym, ◌∙◌, ap, subst, arith}
+use Rattle.std.proofs.Math.Nat.{le_refl}
 use Rattle.std.proofs.lemmas.Result.{err_from_is_err_and}
-use Rattle.ae_outside.specs.Image.{Image}
+use Rattle.ae_outside.proofs.Results.{err_was}
+use Rattle.ae_outside.proofs.Rising.{counted_on}
+use Rattle.ae_outside.specs.Image.{Image, IsSame}
 use Rattle.ae_outside.specs.State.{reads}
-use Rattle.ae_outside.specs.Time.{same_on}
+use Rattle.ae_outside.specs.Time.{goes_on_refl, same_on}
 use Rattle.ae_vault.specs.Vault.{files}
 use Rattle.ae_types.specs.Observation.{Observation}
+use Rattle.ae_store.specs.declared.stop.Stop.{Stop}
+use Rattle.ae_store.specs.declared.stop.Stop.TheVariants.{DiskFault}
 use Rattle.ae_store.specs.Names.{project_file}
 use Rattle.ae_store.specs.Damage.{ReadsProject, ReadsTable, ReadsChanges}
-use Rattle.ae_store.specs.Steps.{AreRead}
+use Rattle.ae_store.specs.Steps.{AreRead, IsChecked}
 use Rattle.ae_store.proofs.OneState.{Reads}
-use Rattle.ae_store.proofs.LoadSteps.{project_err, table_err, changes_err, checked_err, checked_ok}
+use Rattle.ae_store.proofs.LoadSteps.{err_of, project_err, table_err, changes_err, checked_err, checked_ok}
 use Rattle.ae_store.proofs.loading.load_project.Goals as goal
 
 pub returns-in_err-project-clause-loaded : goal.returns-in_err-project-clause-loaded
@@ -74,3 +79,33 @@ returns-clause-cause g c = record {
   later = let first = c.load_table.ensures.cause.later in let second = c.load_changes.ensures.cause.later in omega arith;
   rose = λ fault. cc;
 }
+
+-- ---- what follows from the calls alone
+
+pub returns-in_err-project-clause-change : goal.returns-in_err-project-clause-change
+returns-in_err-project-clause-change g c = λ t. goes_on_refl IsSame _ (λ f. refl)
+
+pub returns-in_err-project-clause-cause : goal.returns-in_err-project-clause-cause
+returns-in_err-project-clause-cause g c = record {
+  later = le_refl _;
+  rose = λ fault. absurd (c.in_err-project.ensures.no_fault (ap Err (err_was c.from_residual.result _ DiskFault c.from_residual.ensures.1 fault)));
+}
+
+pub returns-in-Err-clause-change : goal.returns-in-Err-clause-change
+returns-in-Err-clause-change g c = c.load_table.ensures.change
+
+pub returns-in-Err-clause-cause : goal.returns-in-Err-clause-cause
+returns-in-Err-clause-cause g c = counted_on _ _ _ _ _ (le_refl _) (err_of c.in-Err.stop DiskFault) c.in-Err.ensures.cause
+
+pub returns-in-Err-load_changes-clause-change : goal.returns-in-Err-load_changes-clause-change
+returns-in-Err-load_changes-clause-change g c = λ t. same_on _ _ _ (c.load_table.ensures.change t) (c.load_changes.ensures.change t)
+
+pub returns-in-Err-load_changes-clause-cause : goal.returns-in-Err-load_changes-clause-cause
+returns-in-Err-load_changes-clause-cause g c = counted_on _ _ _ _ _ c.load_table.ensures.cause.later (err_of c.in-Err-load_changes.stop DiskFault) c.in-Err-load_changes.ensures.cause
+
+pub returns-in_err-state-clause-cause : goal.returns-in_err-state-clause-cause
+returns-in_err-state-clause-cause g c =
+    let parts : Observation = record { project = c.in_ok-project.project; numbers = c.in_ok-project.numbers; files = c.in-Ok.files; locks = c.in-Ok.locks; changes = c.in-Ok-load_changes.changes } in
+    counted_on _ _ _ _ _ c.load_table.ensures.cause.later
+    (λ fault. absurd (subst (λ (s : Stop). IsChecked parts (Err s)) (err_was c.from_residual-in_err-state.result _ DiskFault c.from_residual-in_err-state.ensures.1 fault) c.in_err-state.ensures))
+    c.load_changes.ensures.cause

@@ -1,4 +1,4 @@
-use Rattle.std.proofs.Common.{◌≡◌, ℕ, false, length, List, Err, refl, sym, subst, arith}
+use Rattle.std.proofs.Common.{◌≡◌, ℕ, false, length, List, Err, refl, sym, ◌∙◌, subst, arith}
 use Rattle.ae_schema.specs.Files.{files_fields}
 use Rattle.ae_schema.specs.Records.{IsTextOf}
 use Rattle.ae_types.specs.declared.blame.Blame.TheVariants as blame
@@ -9,6 +9,14 @@ use Rattle.ae_store.specs.Damage.{ReadsTable}
 use Rattle.ae_store.specs.Steps.{IsReading}
 use Rattle.ae_store.proofs.Reading.{stops, reading_err, none_read}
 use Rattle.ae_store.proofs.records.good_table.Goals as goal
+
+pub returns-then-files_are_good-clause-value : goal.returns-then-files_are_good-clause-value
+returns-then-files_are_good-clause-value c = λ files at.
+    let tested = rw (c.len.ensures, c.as_slice.ensures, c.as_slice-in-Ok.ensures) at c.files_are_good.ensures in
+    record {
+      is = (c.in-Ok.ensures.fits, subst (λ (bytes : List ℕ). IsTextOf bytes (files_fields (c.in-Ok.rows, c.in-Ok.locks))) (sym at) c.in-Ok.ensures.found);
+      good = sym tested ∙ c.if-files_are_good.true;
+    }
 
 pub returns-else-files_are_good-clause-value : goal.returns-else-files_are_good-clause-value
 returns-else-files_are_good-clause-value c = λ files at.
