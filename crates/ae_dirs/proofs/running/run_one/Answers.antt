@@ -1,4 +1,23 @@
+use Rattle.ae_dirs.specs.Runs.{MakesByteRuns}
+use Rattle.ae_dirs.proofs.ByteRuns.{made-same, none-made, one-made}
 use Rattle.ae_dirs.proofs.running.run_one.Goals as goal
 
 pub returns-clause-before : goal.returns-clause-before
 returns-clause-before g c = c.in_ok-before.ensures
+
+-- ---- the run is one of bytes
+
+pub returns-in_err-exit-clause-bytes : goal.returns-in_err-exit-clause-bytes
+returns-in_err-exit-clause-bytes g c = λ tells. none-made (g.S.Site.state c.args.site.now) (g.S.Site.state c.run.new.self) (c.in_err-exit.ensures.not_run tells)
+
+pub returns-in_err-after-clause-bytes : goal.returns-in_err-after-clause-bytes
+returns-in_err-after-clause-bytes g c = λ tells.
+    let made : MakesByteRuns (g.S.Site.state c.args.site.now) (g.S.Site.state c.run.new.self) =
+    one-made c.args.dir c.command_text.result.now c.in_ok-exit.exit _ _ c.note_exit.ensures (c.note_bytes.ensures.bytes tells) (c.note_bytes-2.ensures.bytes tells) (c.in_ok-exit.ensures.ran tells) in
+    made-same (g.S.Site.state c.args.site.now) (g.S.Site.state c.run.new.self) (g.S.Site.state c.read_again.new.site) made (c.read_again.ensures.same tells)
+
+pub returns-clause-bytes : goal.returns-clause-bytes
+returns-clause-bytes g c = λ tells.
+    let made : MakesByteRuns (g.S.Site.state c.args.site.now) (g.S.Site.state c.run.new.self) =
+    one-made c.args.dir c.command_text.result.now c.in_ok-exit.exit _ _ c.note_exit.ensures (c.note_bytes.ensures.bytes tells) (c.note_bytes-2.ensures.bytes tells) (c.in_ok-exit.ensures.ran tells) in
+    made-same (g.S.Site.state c.args.site.now) (g.S.Site.state c.run.new.self) (g.S.Site.state c.read_again.new.site) made (c.read_again.ensures.same tells)
