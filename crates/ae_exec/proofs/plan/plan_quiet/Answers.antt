@@ -1,18 +1,23 @@
 use Rattle.std.proofs.Math.Nat.{le_trans}
-use Rattle.std.proofs.Common.{◌≡◌, subst, Err}
+use Rattle.std.proofs.Common.{◌≡◌, le_refl, refl, subst, Err}
 use Rattle.std.specs.Prelude.{option_copied}
 use Rattle.ae_outside.proofs.Results.{err_is}
 use Rattle.ae_outside.proofs.Rising.{risen_later}
+use Rattle.ae_outside.specs.Image.{IsSame}
 use Rattle.ae_outside.specs.Site.{SiteState}
 use Rattle.ae_outside.specs.State.{reads}
+use Rattle.ae_outside.specs.Time.{goes_on_refl}
 use Rattle.ae_vault.specs.Vault.{effective}
+use Rattle.ae_machine.specs.declared.verdict.Verdict.{Verdict}
 use Rattle.ae_machine.specs.declared.verdict.Verdict.TheVariants.{Accept, Refuse}
 use Rattle.ae_machine.specs.Called.{Called, called}
 use Rattle.ae_machine.specs.Real.{IsLeft}
 use Rattle.ae_exec.specs.declared.stop.Stop.TheVariants as stop
 use Rattle.ae_exec.specs.Endings.{refused, memory}
+use Rattle.ae_exec.specs.Next.{IfAccepted, MayFollow}
 use Rattle.ae_exec.specs.Seen as seen_specs
 use Rattle.ae_exec.specs.Seen.{IsAnswer, changing, reading, seen_alone}
+use Rattle.ae_exec.specs.Writing.{MayBePut}
 use Rattle.ae_exec.proofs.RunVersions.{quiet-asked}
 use Rattle.ae_exec.proofs.Endings.{ends_for}
 use Rattle.ae_exec.proofs.Following.{same_answer, seen_answer}
@@ -124,3 +129,38 @@ returns-in_err-prepare-in-Accept-clause-directories g c = λ seen. leaves-unmade
 
 pub returns-in_ok-prepare-in-Accept-clause-directories : goal.returns-in_ok-prepare-in-Accept-clause-directories
 returns-in_ok-prepare-in-Accept-clause-directories g c = λ seen. leaves-done c.args.command.now (g.S.Site.state c.args.site.now) (g.S.Site.state c.see_quiet.new.site) (g.S.Site.state c.change_directories.new.site) c.change_directories.result c.in_ok-change_directories-in-Accept.was (c.see_quiet.ensures.same seen) (c.change_directories.ensures.directories seen)
+
+pub returns-in_err-view-clause-same : goal.returns-in_err-view-clause-same
+returns-in_err-view-clause-same g c = λ tells. goes_on_refl IsSame (g.D.Disk.state c.args.disk.now) (λ image. refl)
+
+pub returns-in_err-events-clause-same : goal.returns-in_err-events-clause-same
+returns-in_err-events-clause-same g c = λ tells. goes_on_refl IsSame (g.D.Disk.state c.args.disk.now) (λ image. refl)
+
+pub returns-in-Refuse-clause-same : goal.returns-in-Refuse-clause-same
+returns-in-Refuse-clause-same g c = λ tells. goes_on_refl IsSame (g.D.Disk.state c.args.disk.now) (λ image. refl)
+
+pub returns-in_err-view-clause-disk_later : goal.returns-in_err-view-clause-disk_later
+returns-in_err-view-clause-disk_later g c = le_refl _
+
+pub returns-in_err-events-clause-disk_later : goal.returns-in_err-events-clause-disk_later
+returns-in_err-events-clause-disk_later g c = le_refl _
+
+pub returns-in-Refuse-clause-disk_later : goal.returns-in-Refuse-clause-disk_later
+returns-in-Refuse-clause-disk_later g c = le_refl _
+
+-- ---- the events that are made ready are those of an accepted command
+
+pub prepare-requires-clause-follow : goal.prepare-requires-clause-follow
+prepare-requires-clause-follow g c = subst (λ (v : Verdict). IfAccepted v (MayFollow (option_copied c.args.old))) c.in-Accept.is c.in_ok-events.ensures.follow
+
+pub prepare-requires-clause-put : goal.prepare-requires-clause-put
+prepare-requires-clause-put g c = subst (λ (v : Verdict). IfAccepted v MayBePut) c.in-Accept.is c.in_ok-events.ensures.put
+
+pub change_directories-requires-clause-one : goal.change_directories-requires-clause-one
+change_directories-requires-clause-one g c = c.requires.one
+
+pub change_directories-requires-clause-quiet : goal.change_directories-requires-clause-quiet
+change_directories-requires-clause-quiet g c = c.requires.quiet
+
+pub change_directories-requires-clause-clean : goal.change_directories-requires-clause-clean
+change_directories-requires-clause-clean g c = c.requires.clean

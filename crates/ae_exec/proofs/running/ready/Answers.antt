@@ -3,7 +3,7 @@ use Rattle.ae_outside.proofs.Results.{err_is}
 use Rattle.ae_outside.proofs.Rising.{risen_later}
 use Rattle.ae_outside.specs.Image.{Image}
 use Rattle.ae_outside.specs.State.{reads}
-use Rattle.ae_outside.specs.Time.{same_reads}
+use Rattle.ae_outside.specs.Time.{same_on, same_reads}
 use Rattle.ae_vault.specs.Vault.{effective}
 use Rattle.ae_machine.specs.Call.{call_of, change_named}
 use Rattle.ae_machine.specs.Versions.{rows_based, rows_refreshed}
@@ -69,3 +69,12 @@ returns-clause-kept g c = λ tells.
     (versions_of (rows_based (call_of c.args.state.now c.args.command.now []) (change_named c.args.state.now c.args.command.now.change)))
     (c.in_ok-refreshed.ensures.kept tells)
     (subst (λ (x : Option Image). AreKept x (versions_of (rows_based (call_of c.args.state.now c.args.command.now []) (change_named c.args.state.now c.args.command.now.change)))) same (c.in_ok-based.ensures.kept tells))
+
+pub returns-clause-same : goal.returns-clause-same
+returns-clause-same g c = λ tells. same_on (g.D.Disk.state c.args.disk.now) (g.D.Disk.state c.refreshed_files.new.disk) (g.D.Disk.state c.based_files.new.disk) (c.refreshed_files.ensures.same tells) (c.based_files.ensures.same tells)
+
+pub returns-in_err-run_plan-clause-same : goal.returns-in_err-run_plan-clause-same
+returns-in_err-run_plan-clause-same g c = λ tells. same_on (g.D.Disk.state c.args.disk.now) (g.D.Disk.state c.refreshed_files.new.disk) (g.D.Disk.state c.based_files.new.disk) (c.refreshed_files.ensures.same tells) (c.based_files.ensures.same tells)
+
+pub returns-in_err-based-clause-same : goal.returns-in_err-based-clause-same
+returns-in_err-based-clause-same g c = λ tells. same_on (g.D.Disk.state c.args.disk.now) (g.D.Disk.state c.refreshed_files.new.disk) (g.D.Disk.state c.based_files.new.disk) (c.refreshed_files.ensures.same tells) (c.based_files.ensures.same tells)

@@ -239,3 +239,21 @@ returns-in_err-runs-clause-early g c = λ told. early-so (g.S.Site.state c.args.
 
 pub returns-in_err-planned-clause-early : goal.returns-in_err-planned-clause-early
 returns-in_err-planned-clause-early g c = λ told. early-so (g.S.Site.state c.args.site.now) (g.S.Site.state c.make_runs-made.new.site) _ stop.Memory c.from_residual-in_err-planned.ensures.1 (λ fault. cc)
+
+pub plan_accepted-planned-requires-clause-formed : goal.plan_accepted-planned-requires-clause-formed
+plan_accepted-planned-requires-clause-formed g c = c.requires.formed
+
+pub plan_accepted-planned-requires-clause-one : goal.plan_accepted-planned-requires-clause-one
+plan_accepted-planned-requires-clause-one g c = c.requires.one
+
+pub plan_accepted-planned-requires-clause-moment : goal.plan_accepted-planned-requires-clause-moment
+plan_accepted-planned-requires-clause-moment g c = c.requires.moment
+
+pub plan_accepted-planned-requires-clause-runs : goal.plan_accepted-planned-requires-clause-runs
+plan_accepted-planned-requires-clause-runs g c = c.requires.runs
+
+pub plan_accepted-planned-requires-clause-passed : goal.plan_accepted-planned-requires-clause-passed
+plan_accepted-planned-requires-clause-passed g c = c.requires.passed
+
+pub ready-requires-clause-runs : goal.ready-requires-clause-runs
+ready-requires-clause-runs g c = c.requires.runs
