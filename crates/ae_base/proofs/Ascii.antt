@@ -4,26 +4,19 @@ use Rattle.std.specs.List.{list_all}
 use Rattle.std.specs.Str.{IsAscii, IsUtf8}
 use Rattle.std.proofs.lemmas.Str.{IsUtf8-from_ascii}
 use Rattle.std.proofs.lemmas.Bool.Decides.{nat_tests, Decides-eqb}
+use Rattle.std.proofs.lemmas.Bool.{and_parts}
 use Rattle.ae_base.specs.Names.{is_user_byte, is_name_byte, is_path_byte, is_part, parts, before_first_part, IsPath, IsUser, IsProjectName}
-
-and_first : (a b : Bool) → (a && b) ≡ true → a ≡ true
-and_first true b e = refl
-and_first false b e = e
-
-and_last : (a b : Bool) → (a && b) ≡ true → b ≡ true
-and_last true b e = e
-and_last false b e = absurd (cc e)
 
 path_small : (b : ℕ) → is_path_byte b ≡ true → b < 128
 path_small b is = grind (arith, nat_tests)
 
-name_small : (b : ℕ) → is_name_byte b ≡ true → b < 128
+pub name_small : (b : ℕ) → is_name_byte b ≡ true → b < 128
 name_small b is = grind (arith, nat_tests)
 
 user_small : (b : ℕ) → is_user_byte b ≡ true → b < 128
 user_small b is = grind (arith, nat_tests)
 
-cons_small : (b : ℕ) (bs : List ℕ) → b < 128 → IsAscii bs → IsAscii (b ∷ bs)
+pub cons_small : (b : ℕ) (bs : List ℕ) → b < 128 → IsAscii bs → IsAscii (b ∷ bs)
 cons_small b bs first rest zero = first
 cons_small b bs first rest (suc i) = rest i
 
@@ -32,7 +25,7 @@ nothing_small i = omega arith
 
 all_small : (test : ℕ → Bool) → ((b : ℕ) → test b ≡ true → b < 128) → (text : List ℕ) → list_all test text ≡ true → IsAscii text
 all_small test small [] is = nothing_small
-all_small test small (b ∷ bs) is = cons_small b bs (small b (and_first (test b) (list_all test bs) is)) (all_small test small bs (and_last (test b) (list_all test bs) is))
+all_small test small (b ∷ bs) is = cons_small b bs (small b ((and_parts (test b) (list_all test bs) is).0)) (all_small test small bs ((and_parts (test b) (list_all test bs) is).1))
 
 pub utf8_user : (text : List ℕ) → IsUser text → IsUtf8 text
 utf8_user [] is = absurd (cc is)
@@ -52,11 +45,11 @@ parts_good [] is = refl
 parts_good (p ∷ ps) is = grind (arith, nat_tests, parts_good ps)
 
 first_good : (b : ℕ) (ps : List (List ℕ)) → all_good (before_first_part b ps) ≡ true → (is_path_byte b ≡ true) × (all_good ps ≡ true)
-first_good b [] is = (and_first (is_path_byte b) true (and_first (is_path_byte b && true) true is), refl)
+first_good b [] is = ((and_parts (is_path_byte b) true ((and_parts (is_path_byte b && true) true is).0)).0, refl)
 first_good b (p ∷ ps) is =
-    let front = and_first (is_path_byte b && list_all is_path_byte p) (all_good ps) is in
-    let behind = and_last (is_path_byte b && list_all is_path_byte p) (all_good ps) is in
-    (and_first (is_path_byte b) (list_all is_path_byte p) front, ap (λ (x : Bool). x && all_good ps) (and_last (is_path_byte b) (list_all is_path_byte p) front) ∙ behind)
+    let front = (and_parts (is_path_byte b && list_all is_path_byte p) (all_good ps) is).0 in
+    let behind = (and_parts (is_path_byte b && list_all is_path_byte p) (all_good ps) is).1 in
+    ((and_parts (is_path_byte b) (list_all is_path_byte p) front).0, ap (λ (x : Bool). x && all_good ps) ((and_parts (is_path_byte b) (list_all is_path_byte p) front).1) ∙ behind)
 
 parts_small : (text : List ℕ) → all_good (parts text) ≡ true → IsAscii text
 parts_small [] is = nothing_small

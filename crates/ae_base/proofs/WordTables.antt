@@ -4,6 +4,7 @@ use Rattle.std.specs.Prelude.{find}
 use Rattle.std.specs.List.{list_any}
 use Rattle.std.specs.Str.{bytes_eq}
 use Rattle.std.proofs.lemmas.Slice.Eq.{bytes_eq-Decides}
+use Rattle.std.proofs.lemmas.Bool.{cases_Bool}
 
 -- the item is one of the table's
 abbrev pub Stands : {A : Type 0} → A → List A → Type 0
@@ -14,10 +15,6 @@ Stands x (y ∷ ys) = (y ≡ x) ⊎ Stands x ys
 abbrev pub differ : List (List ℕ) → Bool
 differ [] = true
 differ (w ∷ ws) = not (list_any (bytes_eq w) ws) && differ ws
-
-bool_cases : (b : Bool) → (b ≡ true) ⊎ (b ≡ false)
-bool_cases true = inl refl
-bool_cases false = inr refl
 
 first_of : (a b : Bool) → (not a && b) ≡ true → (a ≡ false) × (b ≡ true)
 first_of true b e = absurd (cc e)
@@ -53,7 +50,7 @@ found_word {A = A} word all apart complete text x = (found all, lost all apart (
         let alone = first_of (list_any (bytes_eq (word y)) (map word ys)) (differ (map word ys)) apart in
         elim stands [
           | inl here ↦ ap (λ (b : Bool). cond b (Some y) rest) ((bytes_eq-Decides (word y) text).1 (ap word here ∙ sym e)) ∙ ap Some here
-          | inr behind ↦ elim (bool_cases (bytes_eq (word y) text)) [
+          | inr behind ↦ elim (cases_Bool (bytes_eq (word y) text)) [
             | inl is ↦ absurd (absent word x (word y) ys alone.0 behind ((bytes_eq-Decides (word y) text).0 is ∙ e))
             | inr isnt ↦ ap (λ (b : Bool). cond b (Some y) rest) isnt ∙ lost ys alone.1 behind e
           ]

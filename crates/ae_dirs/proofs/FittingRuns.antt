@@ -1,8 +1,8 @@
 -- What a build or a test sees fits what stands.
-use Rattle.std.specs.Prelude.{◌≡◌, ℕ, Bool, true, false, ◌&&◌, if◌then◌else◌, List, [], ◌∷◌, map, take, length, Option, Some, None, Result, All, nat_le, refl}
+use Rattle.std.specs.Prelude.{◌≡◌, ℕ, Bool, true, false, if◌then◌else◌, List, [], ◌∷◌, map, take, length, Option, Some, None, Result, All, nat_le, refl}
 use Rattle.std.specs.List.{list_all}
 use Rattle.std.proofs.Common.{inl, inr, sym, ap, subst, ◌∙◌, arith}
-use Rattle.std.proofs.lemmas.Bool.{leb-true}
+use Rattle.std.proofs.lemmas.Bool.{leb-true, and_from, and_parts}
 use Rattle.std.proofs.lemmas.List.Elements.{All-nil, All-cons, All-append}
 use Rattle.std.proofs.lemmas.Slice.Eq.{slice_eq-Decides}
 use Rattle.ae_base.specs.Rows.{Rows, paths_of}
@@ -90,32 +90,20 @@ till-began tracked [] clean = All-nil (Began tracked)
 till-began tracked (row ∷ []) clean = All-cons (Began tracked) row [] clean (All-nil (Began tracked))
 till-began tracked (row ∷ next ∷ rows) clean = All-cons (Began tracked) row (next ∷ rows) clean.0 (till-began tracked (next ∷ rows) clean.2)
 
-both : (a b : Bool) → a ≡ true → b ≡ true → (a && b) ≡ true
-both true b first second = second
-both false b first second = cc
-
 all-clean : (tracked : Rows) (rows : List RunRow) → AllClean tracked rows → clean_but_last rows ≡ true
 all-clean tracked [] clean = refl
 all-clean tracked (row ∷ []) clean = refl
-all-clean tracked (row ∷ next ∷ rows) clean = both (is_clean row) (clean_but_last (next ∷ rows)) (clean-is tracked row clean.0 clean.1) (all-clean tracked (next ∷ rows) clean.2)
+all-clean tracked (row ∷ next ∷ rows) clean = and_from (is_clean row) (clean_but_last (next ∷ rows)) (clean-is tracked row clean.0 clean.1) (all-clean tracked (next ∷ rows) clean.2)
 
 till-clean : (tracked : Rows) (rows : List RunRow) → CleanTillLast tracked rows → clean_but_last rows ≡ true
 till-clean tracked [] clean = refl
 till-clean tracked (row ∷ []) clean = refl
-till-clean tracked (row ∷ next ∷ rows) clean = both (is_clean row) (clean_but_last (next ∷ rows)) (clean-is tracked row clean.0 clean.1) (till-clean tracked (next ∷ rows) clean.2)
-
-first-of : (a b : Bool) → (a && b) ≡ true → a ≡ true
-first-of true b is = refl
-first-of false b is = cc
-
-rest-of : (a b : Bool) → (a && b) ≡ true → b ≡ true
-rest-of true b is = is
-rest-of false b is = cc
+till-clean tracked (row ∷ next ∷ rows) clean = and_from (is_clean row) (clean_but_last (next ∷ rows)) (clean-is tracked row clean.0 clean.1) (till-clean tracked (next ∷ rows) clean.2)
 
 not-all : (rows : List RunRow) → EndsUnclean rows → list_all is_clean rows ≡ true → ⊥
 not-all [] ends clean = ends
-not-all (row ∷ []) ends clean = ends (clean-same row (first-of (is_clean row) true clean))
-not-all (row ∷ next ∷ rows) ends clean = not-all (next ∷ rows) ends (rest-of (is_clean row) (list_all is_clean (next ∷ rows)) clean)
+not-all (row ∷ []) ends clean = ends (clean-same row ((and_parts (is_clean row) true clean).0))
+not-all (row ∷ next ∷ rows) ends clean = not-all (next ∷ rows) ends ((and_parts (is_clean row) (list_all is_clean (next ∷ rows)) clean).1)
 
 module _ (dir : Dir) (paths : List (List ℕ)) (command : Needed → Result (List ℕ) Refusal) where
   jobs-length : (needed : List Needed) (jobs : List Job) → AreJobs command needed jobs → length jobs ≡ length needed

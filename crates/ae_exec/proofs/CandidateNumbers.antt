@@ -3,6 +3,8 @@ use Rattle.std.specs.Prelude.{◌≡◌, ◌⊎◌, ℕ, Bool, true, false, not,
 use Rattle.std.specs.Option.{option_and_then, option_map}
 use Rattle.std.proofs.Common.{refl, sym, ap, ◌∙◌, inl, inr}
 use Rattle.std.proofs.lemmas.List.Elements.{All-head, All-tail}
+use Rattle.std.proofs.lemmas.Bool.{false≢true}
+use Rattle.ae_files.proofs.Laid.{puts-ascend}
 use Rattle.ae_base.specs.Rows.{Row, Rows, paths_of, text_cmp}
 use Rattle.ae_types.specs.declared.change.Change.{Change}
 use Rattle.ae_types.specs.declared.change.ChangeFile.{ChangeFile}
@@ -20,17 +22,14 @@ use Rattle.ae_types.proofs.Keys.{by_number, by_text}
 use Rattle.ae_types.proofs.Members.{In, some-in}
 use Rattle.ae_types.proofs.Ordered.{above-at, filter-ascends, less-other, rows-ascend}
 use Rattle.ae_types.proofs.Searched.{in-found}
-use Rattle.ae_log.proofs.PassedTree.{frozen_own}
+use Rattle.ae_log.proofs.PassedTree.{frozen_own, tree_own}
 use Rattle.ae_words.specs.declared.command.Command.{Command}
 use Rattle.ae_machine.specs.Call.{call_of, change_named}
 use Rattle.ae_machine.specs.Sight.{with_bytes}
 use Rattle.ae_machine.specs.Versions.{rows_compared}
-use Rattle.ae_machine.proofs.CandidateStands.{put_rows-ascend}
-use Rattle.ae_machine.proofs.Entries.{own}
 use Rattle.ae_machine.proofs.Lists.{filter-in}
 use Rattle.ae_exec.specs.Bytes.{AreThere}
 use Rattle.ae_exec.specs.Reading.{compared_for}
-use Rattle.ae_exec.proofs.Never.{never}
 use Rattle.ae_exec.proofs.RunVersions.{frozen-is, puts-in}
 
 -- ---- each file stands at a place of its own path
@@ -83,7 +82,7 @@ module _ (o : Observation) (s : Sound o) where
                 ap (λ (r : Option FileRow). option_and_then (λ (row : FileRow). option_and_then (λ (entry : FileVersion). entry.version) (entry_in row.past entry.delta)) r) found
                 ∙ ap (λ (e : Option FileVersion). option_and_then (λ (entry : FileVersion). entry.version) e) at
                 ∙ entry-version file.path entry row is;
-            own_path = sym (own (last_delta o) file row from.2);
+            own_path = sym (tree_own (last_delta o) file row from.2);
           }
       go None last is = cc
 
@@ -92,8 +91,8 @@ module _ (o : Observation) (s : Sound o) where
     ascend = (s.changes.good number change named).files.ascend
 
     rows-up : Ascends text_cmp tree_path (candidate_of o change)
-    rows-up = put_rows-ascend (filter_map frozen_row change.files) (filter (λ (row : TreeRow). not (has_file change row.path)) (baseline_of o))
-        (filter-ascends by_text tree_path (λ (row : TreeRow). not (has_file change row.path)) (baseline_of o) (rows-ascend by_text row_path tree_path (tree_row (last_delta o)) (own (last_delta o)) o.files s.rows.ascend))
+    rows-up = puts-ascend (filter_map frozen_row change.files) (filter (λ (row : TreeRow). not (has_file change row.path)) (baseline_of o))
+        (filter-ascends by_text tree_path (λ (row : TreeRow). not (has_file change row.path)) (baseline_of o) (rows-ascend by_text row_path tree_path (tree_row (last_delta o)) (tree_own (last_delta o)) o.files s.rows.ascend))
 
     frozen-stands : (row : TreeRow) → In (filter_map frozen_row change.files) row → StandsAt o row
     frozen-stands row there =
@@ -156,7 +155,7 @@ one-more row rows above up differ file files first some rest = go file.1 refl so
       with_number row.version.number bytes rest.0,
       λ i. (first i, (is ∙ ap Some (sym (same-number row.version.number bytes rest.0))) i) ∷ (rest.1 ∙ others-same row.version.number bytes rest.0 rows apart) i,
     )
-    go None is has = never has
+    go None is has = absurd (false≢true has)
 
 bytes-of-rows : (rows : List TreeRow) → Ascends text_cmp tree_path rows → NumbersDiffer rows → (files : Rows) → paths_of files ≡ map tree_path rows → AreThere files → (bytes : ℕ → List ℕ) × (files ≡ with_bytes bytes rows)
 bytes-of-rows [] up differ [] paths there = ((λ number. []), refl)

@@ -4,10 +4,10 @@ use Rattle.std.specs.Prelude.{IfSome, IsSomeAnd, Contains, nat_lt, nat_le}
 use Rattle.std.specs.List.{list_all}
 use Rattle.std.specs.Option.{option_map, option_to_list}
 use Rattle.std.specs.Str.{bytes_eq}
-use Rattle.std.proofs.lemmas.Bool.{cases_lt}
+use Rattle.std.proofs.lemmas.Bool.{cases_lt, lt-ltb}
 use Rattle.std.proofs.lemmas.Bool.Decides.{nat_tests}
 use Rattle.std.proofs.lemmas.List.{get_or-append-add}
-use Rattle.std.proofs.lemmas.Option.{unwrap_or-slice_get}
+use Rattle.std.proofs.lemmas.Option.{unwrap_or-slice_get, same_Some}
 use Rattle.std.proofs.Math.ListN.{get_or-append}
 use Rattle.sha2.specs.Sha256.{sha256}
 use Rattle.ae_base.specs.Rows.{Rows}
@@ -21,7 +21,7 @@ use Rattle.ae_types.specs.Found.{change_at, file_path}
 use Rattle.ae_types.specs.Sound.{Sound}
 use Rattle.ae_types.specs.Versions.{Place, version_at, meet}
 use Rattle.ae_types.proofs.Keys.{by_text}
-use Rattle.ae_types.proofs.Ordered.{Ascends, Above, some-is, none-some}
+use Rattle.ae_types.proofs.Ordered.{Ascends, Above, none-some}
 use Rattle.ae_vault.specs.declared.piece.Piece.{Piece}
 use Rattle.ae_vault.specs.Pieces.{IsIn, IsCovered, is_piece, are_apart, none_meet, are_pieces}
 use Rattle.ae_log.specs.declared.event.Event.{Event}
@@ -67,7 +67,7 @@ next-is : (log : Log) (o : Observation) → observation log ≡ Some o → o.pro
 next-is log o e = go (Rattle.ae_log.specs.Settings.attributes log) e
   where
     go : (a : Option Attributes) → option_map (observation_with log) a ≡ Some o → o.project.next_version ≡ next_version log
-    go (Some a) e = sym (ap (λ (p : Observation). p.project.next_version) (some-is (observation_with log a) o e))
+    go (Some a) e = sym (ap (λ (p : Observation). p.project.next_version) (same_Some (observation_with log a) o e))
     go None e = none-some o e
 
 -- ---- the tree's paths ascend, as the change's files do
@@ -106,15 +106,12 @@ record Parts (at : ℕ) (bytes : List ℕ) (p : Piece) : Type 0 where
 parts : (at : ℕ) (bytes : List ℕ) (p : Piece) → piece_at at bytes ≡ Some p → Parts at bytes p
 parts at [] p e = none-some p e
 parts at (b ∷ bytes) p e =
-    let same : record { at = 64 * at; bytes = padded (b ∷ bytes) } ≡ p = some-is _ p e in
+    let same : record { at = 64 * at; bytes = padded (b ∷ bytes) } ≡ p = same_Some _ p e in
     record {
       at_is = sym (ap (λ (q : Piece). q.at) same);
       length_is = sym (ap (λ (q : Piece). length q.bytes) same) ∙ length-padded (b ∷ bytes);
       some = omega arith;
     }
-
-is-below : (m n : ℕ) → m < n → nat_lt m n ≡ true
-is-below m n lt = grind (arith, nat_tests)
 
 -- versions that have a place in common meet
 meets : (wat wlen vat vlen k : ℕ) → 0 < wlen → 64 * wat ≤ k → k < 64 * (wat + (wlen + 63) / 64) → 64 * vat ≤ k → k < 64 * (vat + (vlen + 63) / 64)
@@ -123,7 +120,7 @@ meets wat wlen vat vlen k some low high from till =
     let has : 0 < vlen = omega arith in
     let one : wat < vat + (vlen + 63) / 64 = omega arith in
     let two : vat < wat + (wlen + 63) / 64 = omega arith in
-    λ i. is-below 0 wlen some i && is-below 0 vlen has i && is-below wat (vat + (vlen + 63) / 64) one i && is-below vat (wat + (wlen + 63) / 64) two i
+    λ i. lt-ltb 0 wlen some i && lt-ltb 0 vlen has i && lt-ltb wat (vat + (vlen + 63) / 64) one i && lt-ltb vat (wat + (wlen + 63) / 64) two i
 
 -- ---- the end of a development
 
@@ -146,7 +143,7 @@ module _ (o : Observation) (tree : Rows) (places : List ℕ) (up : Ascends by_te
   good-piece p in_pieces =
       let of = piece-of next tree places up p in_pieces in
       let q = parts of.version.at of.version.bytes p of.is in
-      let inside = space.inside of.path (ref_of of.version) (made-at of.path of.version of.at_path) (is-below 0 (length of.version.bytes) q.some) in
+      let inside = space.inside of.path (ref_of of.version) (made-at of.path of.version of.at_path) (lt-ltb 0 (length of.version.bytes) q.some) in
       test p.at (length p.bytes) of.version.at (length of.version.bytes) q.at_is q.length_is q.some inside
     where
       test : (at len place size : ℕ) → at ≡ 64 * place → len ≡ 64 * ((size + 63) / 64) → 0 < size → place + (size + 63) / 64 ≤ 16777216
@@ -194,7 +191,7 @@ pieces-apart one two p r is_p is_r differ =
         → ((nat_lt 0 ol && nat_lt 0 tl && nat_lt oa (ta + (tl + 63) / 64) && nat_lt ta (oa + (ol + 63) / 64)) ≡ true → ⊥) → (nat_le (pa + pl) ra || nat_le (ra + rl) pa) ≡ true
     go pa pl ra rl oa ol ta tl pa_is pl_is some ra_is rl_is more differ = elim (cases_lt oa (ta + (tl + 63) / 64)) [
       | inl low ↦ elim (cases_lt ta (oa + (ol + 63) / 64)) [
-        | inl high ↦ absurd (differ (λ i. is-below 0 ol some i && is-below 0 tl more i && is-below oa (ta + (tl + 63) / 64) low i && is-below ta (oa + (ol + 63) / 64) high i))
+        | inl high ↦ absurd (differ (λ i. lt-ltb 0 ol some i && lt-ltb 0 tl more i && lt-ltb oa (ta + (tl + 63) / 64) low i && lt-ltb ta (oa + (ol + 63) / 64) high i))
         | inr behind ↦ let le : pa + pl ≤ ra = omega (arith, pa_is, pl_is, ra_is, behind) in grind (arith, nat_tests, le)
       ]
       | inr before ↦ let le : ra + rl ≤ pa = omega (arith, pa_is, ra_is, rl_is, before) in grind (arith, nat_tests, le)
@@ -247,7 +244,7 @@ module _ (log : Log) (event : Event) (tree : Rows) (to : Phase) (places : List �
     where
       go : (w : Option Version) → Rattle.ae_log.proofs.Numbered.version_at (next_version log) tree places path ≡ w → option_map ref_of w ≡ Some v → New v
       go (Some w) at_path e =
-          let same : ref_of w ≡ v = some-is (ref_of w) v e in
+          let same : ref_of w ≡ v = same_Some (ref_of w) v e in
           let numbers = within (next_version log) tree places path w at_path in
           let bytes : w.bytes ≡ version_bytes (event ∷ log) w.number = sym (new-bytes path w at_path) in
           let last : w.number ≤ length (versions (event ∷ log)) = omega (arith, numbers.high, ap length all-versions, length-append (versions log) (present tree)) in

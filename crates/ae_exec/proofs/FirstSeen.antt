@@ -6,6 +6,8 @@ use Rattle.std.specs.Str.{bytes_eq}
 use Rattle.std.proofs.Common.{refl, sym, ap, subst, ◌∙◌, inl, inr, cond}
 use Rattle.std.proofs.lemmas.List.{append-nil}
 use Rattle.std.proofs.lemmas.List.Folds.{find-append}
+use Rattle.std.proofs.lemmas.Bool.{false≢true}
+use Rattle.ae_machine.proofs.SightShows.{reads-too}
 use Rattle.ae_outside.specs.declared.dir.Content.{Content}
 use Rattle.ae_outside.specs.declared.dir.Content.TheVariants.{Bytes}
 use Rattle.ae_outside.specs.Site.{SiteState, contents}
@@ -18,13 +20,12 @@ use Rattle.ae_types.specs.Trees.{TreeRow, baseline_of, candidate_of, tree_path}
 use Rattle.ae_types.proofs.Keys.{by_text}
 use Rattle.ae_types.proofs.Members.{In, in-any, in-map, map-in}
 use Rattle.ae_words.specs.declared.command.Command.{Command}
-use Rattle.ae_words.specs.declared.table.Function.{Function}
 use Rattle.ae_words.specs.declared.table.Function.TheVariants as function
 use Rattle.ae_words.specs.Meaning.{is_config}
 use Rattle.ae_machine.specs.declared.view.View.{View}
-use Rattle.ae_machine.specs.Call.{Call, Given, call_of, change_named, given_of}
+use Rattle.ae_machine.specs.Call.{Call, call_of, change_named, given_of}
 use Rattle.ae_machine.specs.Called.{files_seen}
-use Rattle.ae_machine.specs.Fits.{config_asked, config_row, makes_runs, path_of_row, paths_asked, reads_files}
+use Rattle.ae_machine.specs.Fits.{config_row, makes_runs, path_of_row, paths_asked, reads_files}
 use Rattle.ae_machine.specs.Freezing.{is_these}
 use Rattle.ae_machine.specs.Jobs.{dir_of_files}
 use Rattle.ae_machine.specs.Sight.{config_below, config_path, content_of, has_config, kept_paths, paths_read, row_at, with_bytes}
@@ -33,12 +34,6 @@ use Rattle.ae_machine.specs.Versions.{ShowsVersions, config_version, first_diffe
 use Rattle.ae_machine.proofs.AskedFor.{none-differs}
 use Rattle.ae_machine.proofs.Lists.{filter-in, flipped, found-so}
 use Rattle.ae_exec.specs.Reading.{compared_for}
-use Rattle.ae_exec.proofs.Never.{never}
-
-pub runs-read-files : (f : Function) → makes_runs f ≡ true → reads_files f ≡ true
-runs-read-files function.Build is = refl
-runs-read-files function.Test is = refl
-runs-read-files _ is = never is
 
 -- only a function that reads files asks for paths
 pub asked-reads : (call : Call) (c : Option Change) → (paths_asked call c ≡ [] → ⊥) → reads_files call.command.function ≡ true
@@ -81,7 +76,7 @@ no-config-kept change none path q config there = go (bytes_eq path q) refl
 
     go : (b : Bool) → bytes_eq path q ≡ b → b ≡ false
     go false is = refl
-    go true is = never (sym none ∙ in-any is_config (map file_path change.files) q among (ap is_config (sym (by_text.same_is path q is)) ∙ config))
+    go true is = absurd (false≢true (sym none ∙ in-any is_config (map file_path change.files) q among (ap is_config (sym (by_text.same_is path q is)) ∙ config)))
 
 config-at : (rows : List TreeRow) (row : TreeRow) → row_at rows config_path ≡ Some row → is_config row.path ≡ true
 config-at rows row is = flipped row.path config_path ∙ (found-so (λ (r : TreeRow). bytes_eq config_path (tree_path r)) rows row is).1
@@ -144,7 +139,7 @@ module _ (o : Observation) (bytes : ℕ → List ℕ) (command : Command) (who :
 
       read : (change : Change) → is_integrating change.phase ≡ false → paths_asked call (Some change) ≡ kept_paths change
       read change dev =
-          ap (λ (b : Bool). if b then paths_read call change else []) (runs-read-files command.function makes)
+          ap (λ (b : Bool). if b then paths_read call change else []) (reads-too command.function makes)
           ∙ ap (λ (b : Bool). if b then Rattle.ae_types.specs.Trees.paths_of (candidate_of o change) else kept_paths change) dev
 
       by : (change : Change) (b : Bool) → is_integrating change.phase ≡ b → seen.develop ≡ rows ++ config_row bytes (config_below call change) → map path_of_row rows ≡ paths_asked call (Some change)
@@ -164,11 +159,3 @@ module _ (o : Observation) (bytes : ℕ → List ℕ) (command : Command) (who :
       go None here are same = refl
 
 -- ---- it is what stands after the files that are read
-
-pub asked-row : (given : Given) (c : Option Change) → config_asked given c ≡ config_row given.bytes (config_version given.call c)
-asked-row given (Some change) = go (makes_runs given.call.command.function)
-  where
-    go : (b : Bool) → (if b then config_row given.bytes (config_below given.call change) else []) ≡ config_row given.bytes (if b then config_below given.call change else None)
-    go true = refl
-    go false = refl
-asked-row given None = refl

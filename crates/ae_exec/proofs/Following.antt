@@ -38,7 +38,7 @@ use Rattle.ae_exec.specs.Seen.{IsAnswer, IsDecidedSo, IsRefusedOn, ReadsForAnswe
 use Rattle.ae_machine.specs.Fits.{makes_runs}
 use Rattle.ae_machine.specs.Versions.{ShowsVersions, is_shown, versions_of_runs}
 use Rattle.ae_exec.specs.Writing.{FitsRegion, MayBePut}
-use Rattle.ae_exec.proofs.Commands.{commands-write}
+use Rattle.ae_exec.proofs.Commands.{commands-write, accepted-are}
 use Rattle.ae_machine.proofs.Accepted.{accepted-apply}
 use Rattle.ae_machine.proofs.AcceptedLogs.{accepted-starts, accepted-follow, first-follow, legal-stands}
 use Rattle.ae_exec.proofs.InRegion.{kinds-fit}
@@ -70,11 +70,6 @@ start-put events start = subst MayBePut (sym start.only) (record {
   fit = All-cons (λ (event : Event). FitsRegion event.what) start.event [] (start-fits start.event.what start.starts.project) (All-nil (λ (event : Event). FitsRegion event.what));
   one = refl;
 })
-
--- the events of a command that isn't refused
-accepted-are : (why : Option Refusal) (made events : List Event) → answer why made ≡ Accept events → events ≡ made
-accepted-are None made events is = cc
-accepted-are (Some refusal) made events is = cc
 
 behind : (new : Bool) (given : Given) (events : List Event) (refusal : Refusal) → (if new then Refuse refusal else verdict_on given) ≡ Accept events → events ≡ events_of given
 behind true given events refusal is = cc

@@ -3,6 +3,7 @@ use Rattle.std.specs.Prelude.{◌≡◌, ◌≤◌, ℕ, zero, suc, true, List, 
 use Rattle.std.specs.Option.{option_map, option_and_then}
 use Rattle.std.proofs.Common.{refl, sym, ap, subst, ◌∙◌, arith}
 use Rattle.std.proofs.lemmas.List.Elements.{All-nil, All-cons, All-map}
+use Rattle.std.proofs.lemmas.Option.{same_Some}
 use Rattle.ae_base.specs.Limits.{most_units}
 use Rattle.ae_base.specs.Rows.{Row, Rows}
 use Rattle.ae_base.specs.declared.words.Role.{Role}
@@ -14,7 +15,6 @@ use Rattle.ae_log.specs.Files.{present}
 use Rattle.ae_types.specs.declared.change.ChangeFile.{ChangeFile}
 use Rattle.ae_types.specs.declared.change.Change.{Change}
 use Rattle.ae_types.specs.Observation.{Observation}
-use Rattle.ae_types.proofs.Ordered.{some-is}
 use Rattle.ae_space.specs.declared.extent.Extent.{Extent}
 use Rattle.ae_space.specs.Fit.{fit}
 use Rattle.ae_space.proofs.Between.{region-is}
@@ -58,7 +58,7 @@ all-run given None = All-nil FitsRegion
 -- ---- the end of a development
 
 fit-inside : (taken : List Extent) (count at : ℕ) → fit taken count ≡ Some at → at ≤ most_units
-fit-inside taken zero at is = let first : 0 ≡ at = some-is 0 at (sym (fit-zero taken) ∙ is) in omega (arith, first)
+fit-inside taken zero at is = let first : 0 ≡ at = same_Some 0 at (sym (fit-zero taken) ∙ is) in omega (arith, first)
 fit-inside taken (suc count) at is = let free = free-units taken (suc count) at (finds-lowest taken (suc count) at (omega arith) is).free in omega (arith, free.0, region-is)
 
 abbrev Inside : ℕ → Type 0
@@ -66,12 +66,12 @@ Inside at = at ≤ most_units
 
 -- places that are found lie in the region
 places-inside : (bytes : List (List ℕ)) (taken : List Extent) (places : List ℕ) → places_of taken bytes ≡ Some places → All Inside places
-places-inside [] taken places is = subst (All Inside) (some-is [] places is) (All-nil Inside)
+places-inside [] taken places is = subst (All Inside) (same_Some [] places is) (All-nil Inside)
 places-inside (first ∷ more) taken places is = go (fit taken (units_of first)) refl (λ at rest. places-inside more (record { at = at; units = units_of first } ∷ taken) rest) is
   where
     after-it : (at : ℕ) → fit taken (units_of first) ≡ Some at → ((rest : List ℕ) → places_of (record { at = at; units = units_of first } ∷ taken) more ≡ Some rest → All Inside rest) → (v : Option (List ℕ)) → places_of (record { at = at; units = units_of first } ∷ taken) more ≡ v
         → option_map (λ (rest : List ℕ). at ∷ rest) v ≡ Some places → All Inside places
-    after-it at found each (Some rest) later same = subst (All Inside) (some-is (at ∷ rest) places same) (All-cons Inside at rest (fit-inside taken (units_of first) at found) (each rest later))
+    after-it at found each (Some rest) later same = subst (All Inside) (same_Some (at ∷ rest) places same) (All-cons Inside at rest (fit-inside taken (units_of first) at found) (each rest later))
     after-it at found each None later same = cc
 
     go : (v : Option ℕ) → fit taken (units_of first) ≡ v → ((at : ℕ) (rest : List ℕ) → places_of (record { at = at; units = units_of first } ∷ taken) more ≡ Some rest → All Inside rest)

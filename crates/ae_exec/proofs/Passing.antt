@@ -1,6 +1,7 @@
 -- The baseline after the pass of an integration is provided for by the log before it.
 use Rattle.std.specs.Prelude.{◌≡◌, ℕ, false, List, [], ◌∷◌, map, Option, Some, None, IsSomeAnd}
 use Rattle.std.proofs.Common.{refl, sym, ap, subst, ◌∙◌, inl, inr}
+use Rattle.std.proofs.lemmas.Bool.{false≢true}
 use Rattle.ae_base.specs.declared.words.Role.TheVariants.{Administrator, Developer, Reviewer, Integrator}
 use Rattle.ae_types.specs.declared.change.Change.{Change}
 use Rattle.ae_types.specs.declared.change.ChangeFile.{ChangeFile}
@@ -33,7 +34,6 @@ use Rattle.ae_machine.proofs.LegalRightly.{legal-provided}
 use Rattle.ae_exec.specs.Holding.{BaselineIsProvided, MayGive}
 use Rattle.ae_exec.specs.Step.{log_after, step}
 use Rattle.ae_exec.proofs.Legally.{unrun-legal}
-use Rattle.ae_exec.proofs.Never.{never}
 use Rattle.ae_exec.proofs.Shown.{in-list}
 
 -- ---- the events of a function
@@ -156,7 +156,7 @@ baseline-provided log called may legal event number has = record {
     stepped = ap (log_after log) has.accepted ∙ ap (followed log) only-one.alone
 
     is_legal : Legal (event ∷ log)
-    is_legal = subst Legal stepped (unrun-legal log called may (λ makes. never (sym only-one.quiet ∙ makes)) legal)
+    is_legal = subst Legal stepped (unrun-legal log called may (λ makes. absurd (false≢true (sym only-one.quiet ∙ makes))) legal)
 
     at : ProvidedAt log event event.change event.what
     at = (legal-provided (event ∷ log) is_legal).0

@@ -5,6 +5,8 @@ use Rattle.std.specs.Option.{option_and_then, option_map, option_or}
 use Rattle.std.specs.Str.{bytes_eq}
 use Rattle.std.proofs.Common.{refl, sym, ap, subst, ◌∙◌, inl, inr}
 use Rattle.std.proofs.lemmas.List.{append-nil}
+use Rattle.std.proofs.lemmas.Bool.{false≢true}
+use Rattle.ae_machine.proofs.SightShows.{reads-too}
 use Rattle.ae_base.specs.Rows.{paths_of}
 use Rattle.ae_base.specs.declared.refusal.Refusal.{Refusal}
 use Rattle.ae_base.specs.declared.refusal.Refusal.TheVariants.{Differs}
@@ -38,8 +40,6 @@ use Rattle.ae_machine.proofs.Behind.{behind-is}
 use Rattle.ae_exec.specs.Bytes.{HaveBytes}
 use Rattle.ae_exec.specs.Reading.{AreKept, asked_of, compared_for}
 use Rattle.ae_exec.specs.Seen.{FilesRefuse, files_alone, no_bytes}
-use Rattle.ae_exec.proofs.FirstSeen.{runs-read-files}
-use Rattle.ae_exec.proofs.Never.{never}
 use Rattle.ae_exec.proofs.Quiet.{no-new}
 use Rattle.ae_exec.proofs.TrackedStays.{read-is}
 
@@ -74,7 +74,7 @@ same-refused seen other tree one two all (path ∷ paths) is same among = λ i. 
 first-files : (f : Function) (given : Given) → makes_runs f ≡ true → first_of (asked_of_sight f) given ≡ option_or (right_files given) (option_or (configured given) None)
 first-files function.Build given makes = refl
 first-files function.Test given makes = refl
-first-files _ given makes = never makes
+first-files _ given makes = absurd (false≢true makes)
 
 -- where the files are refused that is the answer
 pub files-answer : (o : Observation) (bytes : ℕ → List ℕ) (command : Command) (who : List ℕ) (when : ℕ) (seen : View) (refusal : Refusal) → makes_runs command.function ≡ true → refused_before (Some o) command who ≡ None
@@ -148,7 +148,7 @@ alone-refused o bytes called makes = go (change_named o called.command.change) r
         ∙ same-refused given.view alone.view tree rest [] all (paths_read given.call change)
         (ap (λ (c : Option Change). files_seen given.call c called.before ++ rest) named)
         (ap (λ (c : Option Change). files_seen given.call c called.before) named ∙ sym (append-nil (contents 4194304 tree all)))
-        (λ path h. subst (λ (l : List (List ℕ)). In l path) (sym (ap (λ (b : Bool). if b then paths_read given.call change else []) (runs-read-files called.command.function makes))) h)
+        (λ path h. subst (λ (l : List (List ℕ)). In l path) (sym (ap (λ (b : Bool). if b then paths_read given.call change else []) (reads-too called.command.function makes))) h)
         ∙ sym (ap (λ (b : Bool). if b then None else first_content_refused alone.view (paths_read alone.call change)) developed)
 
     -- in integration nothing stands after the files that are read

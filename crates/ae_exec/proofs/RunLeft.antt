@@ -2,6 +2,8 @@
 use Rattle.std.specs.Prelude.{◌≡◌, ◌≢◌, ℕ, Bool, true, false, not, ◌||◌, nat_eq, if◌then◌else◌, List, [], ◌∷◌, length, Option, Some, None, is_none, is_some}
 use Rattle.std.specs.Option.{option_and_then}
 use Rattle.std.proofs.Common.{refl, sym, ap, subst, ◌∙◌, inl, inr, arith}
+use Rattle.std.proofs.lemmas.Bool.{false≢true}
+use Rattle.ae_types.proofs.Splits.{some-found}
 use Rattle.ae_base.specs.Rows.{Rows, paths_of}
 use Rattle.ae_base.specs.declared.refusal.Refusal.TheVariants.{NoSuchChange, NoTest, ProjectExists}
 use Rattle.ae_outside.specs.declared.dir.Dir.{Dir}
@@ -33,7 +35,6 @@ use Rattle.ae_dirs.specs.Runs.{EndsUnclean, RunsAre}
 use Rattle.ae_dirs.proofs.FittingRuns.{runs-fit}
 use Rattle.ae_dirs.proofs.RealRuns.{runs-are-real}
 use Rattle.ae_exec.specs.Runs.{AreForRuns, HaveRun}
-use Rattle.ae_exec.proofs.Never.{never}
 
 -- ---- what the conditions without reading say
 
@@ -47,19 +48,15 @@ passed-before o command who none = go (is_new_project command.function) none
 runs-name : (f : Function) (command : Command) → command.function ≡ f → makes_runs f ≡ true → needs_change (row command.function) command.listing ≡ true
 runs-name function.Build command e makes = ap (λ (f : Function). needs_change (row f) command.listing) e
 runs-name function.Test command e makes = ap (λ (f : Function). needs_change (row f) command.listing) e
-runs-name _ command e makes = never makes
-
-some-of : {A : Type 0} (v : Option A) → is_some v ≡ true → (x : A) × (v ≡ Some x)
-some-of (Some x) is = (x, refl)
-some-of None is = never is
+runs-name _ command e makes = absurd (false≢true makes)
 
 -- the change that is named is there
 pub named-there : (o : Observation) (command : Command) (who : List ℕ) → IsFormed command → makes_runs command.function ≡ true → refused_before (Some o) command who ≡ None → (change : Change) × (change_named o command.change ≡ Some change)
-named-there o command who formed makes none = some-of (change_named o command.change) (go command.change (change-there command formed.whole (runs-name command.function command refl makes)) (tested (is_none command.change || is_some (option_and_then (change_at o) command.change)) NoSuchChange (passed-before o command who none).1.0))
+named-there o command who formed makes none = some-found (change_named o command.change) (go command.change (change-there command formed.whole (runs-name command.function command refl makes)) (tested (is_none command.change || is_some (option_and_then (change_at o) command.change)) NoSuchChange (passed-before o command who none).1.0))
   where
     go : (n : Option ℕ) → is_some n ≡ true → (is_none n || is_some (option_and_then (change_at o) n)) ≡ true → is_some (option_and_then (change_at o) n) ≡ true
     go (Some n) is there = there
-    go None is there = never is
+    go None is there = absurd (false≢true is)
 
 -- and there is a run to make
 pub runs-there : (o : Observation) (command : Command) (who : List ℕ) (change : Change) → makes_runs command.function ≡ true → refused_before (Some o) command who ≡ None → change_named o command.change ≡ Some change
@@ -70,14 +67,14 @@ runs-there o command who change makes none named = go command.function refl make
     call = call_of o command who
 
     no-group : nat_eq (length (group call change)) 0 ≡ true → not (nat_eq (length (group call change)) 0) ≡ true → ⊥
-    no-group is other = never (sym (ap not is) ∙ other)
+    no-group is other = absurd (false≢true (sym (ap not is) ∙ other))
 
     go : (f : Function) → command.function ≡ f → makes_runs f ≡ true → Passed (right_project ∷ right_change ∷ asked f) (call_of o command who) → runs_asked (call_of o command who) (Some change) ≢ []
     go function.Build e m p nothing = let both = sym (ap (λ (f : Function). group_of f (call_of o command who) change) e) ∙ nothing in cc
     go function.Test e m p nothing =
         let is : group_is_there (call_of o command who) change ≡ None = sym (ap (option_and_then (group_is_there (call_of o command who))) named) ∙ p.1.1.1.1.0 in
         no-group (ap (λ (l : List Needed). nat_eq (length l) 0) nothing) (tested (not (nat_eq (length (group call change)) 0)) NoTest is)
-    go _ e m p nothing = never m
+    go _ e m p nothing = absurd (false≢true m)
 
 -- ---- so there is a row
 

@@ -7,6 +7,7 @@ use Rattle.std.specs.declared.cmp.Ordering.TheVariants as ordering
 use Rattle.std.specs.Str.{bytes_eq}
 use Rattle.std.proofs.Common.{refl, sym, subst, inl, inr}
 use Rattle.std.proofs.lemmas.List.Elements.{All-cons, All-head, All-nil, All-tail}
+use Rattle.ae_machine.proofs.PathsUp.{keys-up}
 use Rattle.ae_base.specs.Bytes.{AreBytes}
 use Rattle.ae_base.specs.Names.{IsPath}
 use Rattle.ae_base.specs.Rows.{Row, Rows, paths_of, put_row, text_cmp}
@@ -35,7 +36,7 @@ use Rattle.ae_machine.specs.Sight.{base_tree, bytes_of, kept_paths, only_tests, 
 use Rattle.ae_machine.specs.Typed.{AreTrackedFiles, IsRun, IsTrackedFile}
 use Rattle.ae_machine.proofs.Lists.{all-members, filter-in}
 use Rattle.ae_dirs.specs.Runs.{AreByteRuns, HasBytes, IsByteRun}
-use Rattle.ae_exec.proofs.RowsUp.{base-up, candidate-up, keys-up, paths-ascend}
+use Rattle.ae_exec.proofs.RowsUp.{base-up, candidate-up, paths-ascend}
 
 abbrev pub ArePathsAll : List (List ℕ) → Type 0
 ArePathsAll paths = (path : List ℕ) → In paths path → IsPath path
@@ -117,7 +118,7 @@ with-paths bytes [] are path there = absurd there
 with-paths bytes (row ∷ rows) are path (inl is) = subst IsPath is (are row (inl refl))
 with-paths bytes (row ∷ rows) are path (inr there) = with-paths bytes rows (λ r m. are r (inr m)) path there
 
-same-paths : (f : List ℕ → Option (List ℕ)) (paths : List (List ℕ)) → paths_of (map (λ path. (path, f path)) paths) ≡ paths
+pub same-paths : (f : List ℕ → Option (List ℕ)) (paths : List (List ℕ)) → paths_of (map (λ path. (path, f path)) paths) ≡ paths
 same-paths f [] = refl
 same-paths f (path ∷ paths) = λ i. path ∷ same-paths f paths i
 

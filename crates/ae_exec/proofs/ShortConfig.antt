@@ -3,6 +3,7 @@ use Rattle.std.specs.Prelude.{◌≡◌, ◌≤◌, ℕ, ◌*◌, List, [], leng
 use Rattle.std.specs.Option.{option_and_then}
 use Rattle.std.proofs.Common.{refl, sym, subst, ◌∙◌, arith, length-take}
 use Rattle.std.proofs.lemmas.List.Elements.{All-cons, All-nil}
+use Rattle.ae_machine.proofs.SightShows.{config-asked-is}
 use Rattle.ae_base.specs.Limits.{most_file_bytes}
 use Rattle.ae_outside.specs.Image.{Image}
 use Rattle.ae_outside.specs.declared.dir.Content.{Content}
@@ -26,7 +27,6 @@ use Rattle.ae_machine.specs.Fits.{config_row}
 use Rattle.ae_machine.specs.Versions.{config_version}
 use Rattle.ae_dirs.specs.Jobs.{IsShortConfig}
 use Rattle.ae_exec.specs.Bytes.{HaveBytes, bytes_at}
-use Rattle.ae_exec.proofs.FirstSeen.{asked-row}
 use Rattle.ae_exec.proofs.RunVersions.{config-lives}
 use Rattle.ae_exec.proofs.Shown.{list-in, live-in}
 
@@ -77,7 +77,7 @@ IsShort row = IsAtMost most_file_bytes row.1
 
 pub short-config : (o : Observation) (files : Option Image) (bytes : ℕ → List ℕ) (called : Called) → Sound o → HaveBytes files (Some o) bytes → IsShortConfig (given_at o bytes called)
 short-config o files bytes called s have =
-    subst (All IsShort) (sym (asked-row (given_at o bytes called) (change_named o called.command.change))) (go (config_version (call_of o called.command called.who) (change_named o called.command.change)) refl)
+    subst (All IsShort) (sym (config-asked-is (given_at o bytes called) (change_named o called.command.change))) (go (config_version (call_of o called.command called.who) (change_named o called.command.change)) refl)
   where
     short : (row : TreeRow) → config_version (call_of o called.command []) (change_named o called.command.change) ≡ Some row → length (bytes row.version.number) ≤ most_file_bytes
     short row is = short-version o files bytes s have row.version (config-lives o called.command row is)

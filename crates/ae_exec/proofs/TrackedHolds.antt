@@ -6,6 +6,9 @@ use Rattle.std.specs.declared.cmp.Ordering.TheVariants as ordering
 use Rattle.std.proofs.Common.{refl, sym, ap, subst, ◌∙◌, inl, inr, cond, arith}
 use Rattle.std.proofs.lemmas.Bool.Decides.{leb_tells}
 use Rattle.std.proofs.lemmas.List.{append-nil}
+use Rattle.std.proofs.lemmas.Bool.{false≢true}
+use Rattle.ae_exec.proofs.RunsTyped.{same-paths}
+use Rattle.ae_machine.proofs.SightShows.{reads-too}
 use Rattle.ae_base.specs.Limits.{most_file_bytes}
 use Rattle.ae_base.specs.Rows.{Ascends, Row, Rows, paths_of, put_row, text_cmp}
 use Rattle.ae_base.specs.declared.words.Kind.{Kind}
@@ -41,16 +44,10 @@ use Rattle.ae_dirs.specs.Tracked.{AllWithin, filled_parts}
 use Rattle.ae_exec.specs.Bytes.{HaveBytes, row_version}
 use Rattle.ae_exec.specs.Runs.{AreForRuns}
 use Rattle.ae_exec.proofs.Baseline.{baseline-lives}
-use Rattle.ae_exec.proofs.FirstSeen.{runs-read-files}
-use Rattle.ae_exec.proofs.Never.{never}
 use Rattle.ae_exec.proofs.ShortConfig.{short-version}
 use Rattle.ae_exec.proofs.TrackedStays.{kept-stay, read-parts}
 
 -- ---- rows of paths
-
-same-paths : (f : List ℕ → Option (List ℕ)) (paths : List (List ℕ)) → paths_of (map (λ path. (path, f path)) paths) ≡ paths
-same-paths f [] = refl
-same-paths f (path ∷ paths) = λ i. path ∷ same-paths f paths i
 
 -- what is part of a tree at its own paths
 from-parts : (tree : Tree) (f : List ℕ → Option (List ℕ)) (paths : List (List ℕ)) → map (λ path. (path, f path)) paths ≡ parts 4194304 tree paths
@@ -122,7 +119,7 @@ module _ (o : Observation) (bytes : ℕ → List ℕ) (called : Called) (s : Sou
       let rest : List (List ℕ × Content) = config_asked (given_before o bytes called nothing_seen) (change_named o called.command.change) in
       read-parts given.view (called.before.trees (files_dir given.call change)) rest (paths_asked given.call (Some change)) (paths_read given.call change)
       (ap (λ (c : Option Change). files_seen given.call c called.before ++ rest) named)
-      (λ path h. subst (λ (l : List (List ℕ)). In l path) (sym (ap (λ (b : Bool). if b then paths_read given.call change else []) (runs-read-files called.command.function makes))) h)
+      (λ path h. subst (λ (l : List (List ℕ)). In l path) (sym (ap (λ (b : Bool). if b then paths_read given.call change else []) (reads-too called.command.function makes))) h)
 
   -- in development it stands in the develop directory as that is refreshed
   module _ (developed : is_integrating change.phase ≡ false) where
@@ -190,7 +187,7 @@ module _ (o : Observation) (bytes : ℕ → List ℕ) (called : Called) (s : Sou
       ≡ reads.tracked_in (dirs_after (changes_of f given change) called.before.trees (dir_for (kind_of f called.command) given.call change)) (tracked_by (kind_of f called.command) given change)
   by-function files have function.Build is up = files-hold (before_runs given change) refl
   by-function files have function.Test is up = by-kind files have (test_kind called.command) up
-  by-function files have _ is up = never is
+  by-function files have _ is up = absurd (false≢true is)
 
 -- ---- whatever it names
 

@@ -3,6 +3,7 @@ use Rattle.std.specs.Prelude.{◌≡◌, ◌⊎◌, ℕ, Bool, true, false, not,
 use Rattle.std.specs.List.{find}
 use Rattle.std.specs.Str.{bytes_eq}
 use Rattle.std.proofs.Common.{refl, sym, ap, subst, ◌∙◌, inl, inr, cond}
+use Rattle.std.proofs.lemmas.Bool.{false≢true}
 use Rattle.ae_base.specs.Rows.{Row, Rows, text_cmp}
 use Rattle.ae_outside.specs.declared.dir.Content.{Content}
 use Rattle.ae_outside.specs.declared.dir.Content.TheVariants.{Bytes, TooLong}
@@ -23,7 +24,6 @@ use Rattle.ae_machine.specs.Directories.{refreshed, removed}
 use Rattle.ae_machine.specs.Sight.{bytes_of, content_of, kept_paths, read_at, with_bytes}
 use Rattle.ae_machine.proofs.Lists.{filter-in}
 use Rattle.ae_dirs.specs.Tracked.{names_path, with_rows_elsewhere}
-use Rattle.ae_exec.proofs.Never.{never}
 
 -- ---- rows that name no such path
 
@@ -58,8 +58,8 @@ one-file files up a b first second same =
     let both : Some a ≡ Some b = sym (in-found by_text file_path files up a first) ∙ ap (file_in files) same ∙ in-found by_text file_path files up b second in cc
 
 both-ways : (b : Bool) → b ≡ true → not b ≡ true → ⊥
-both-ways true is other = never other
-both-ways false is other = never is
+both-ways true is other = absurd (false≢true other)
+both-ways false is other = absurd (false≢true is)
 
 module _ (given : Given) (change : Change) (up : Ascends text_cmp file_path change.files) where
   not-removed : (path : List ℕ) → KeptFile change path → (row : Row) → In (map (λ (file : ChangeFile). removed file.path) (filter (λ (file : ChangeFile). is_remove file.action) change.files)) row → row.0 ≡ path → ⊥
@@ -109,7 +109,7 @@ read-is tree rest (q ∷ paths) path h = go (bytes_eq path q) refl h (read-is tr
         → (In paths path → content_of (find (λ (row : List ℕ × Content). bytes_eq path row.0) (contents 4194304 tree paths ++ rest)) ≡ content_within 4194304 (tree path))
         → content_of (cond b (Some (q, content_within 4194304 (tree q))) (find (λ (row : List ℕ × Content). bytes_eq path row.0) (contents 4194304 tree paths ++ rest))) ≡ content_within 4194304 (tree path)
     go true is there later = ap (λ (p : List ℕ). content_within 4194304 (tree p)) (sym (by_text.same_is path q is))
-    go false is (inl same) later = never (sym is ∙ ap (bytes_eq path) same ∙ by_text.same_self path)
+    go false is (inl same) later = absurd (false≢true (sym is ∙ ap (bytes_eq path) same ∙ by_text.same_self path))
     go false is (inr there) later = later there
 
 pub read-parts : (seen : View) (tree : Tree) (rest : List (List ℕ × Content)) (all paths : List (List ℕ)) → seen.develop ≡ contents 4194304 tree all ++ rest → ((path : List ℕ) → In paths path → In all path)

@@ -4,6 +4,7 @@ use Rattle.std.specs.Option.{option_and_then}
 use Rattle.std.specs.Str.{bytes_eq}
 use Rattle.std.proofs.Common.{refl, sym, subst}
 use Rattle.std.proofs.lemmas.List.Elements.{All-append, All-nil, All-cons, All-head, All-tail}
+use Rattle.ae_machine.proofs.SightShows.{reads-too}
 use Rattle.ae_base.specs.Names.{IsPath}
 use Rattle.ae_base.specs.Bytes.{AreBytes}
 use Rattle.ae_base.specs.Rows.{paths_of}
@@ -34,7 +35,6 @@ use Rattle.ae_exec.specs.Seen.{seen_alone}
 use Rattle.ae_machine.proofs.LegalRightly.{legal-sound}
 use Rattle.ae_machine.proofs.Lists.{all-members, found-so}
 use Rattle.ae_dirs.specs.Runs.{AreByteRuns}
-use Rattle.ae_exec.proofs.FirstSeen.{runs-read-files}
 use Rattle.ae_exec.proofs.MadeBytes.{legal-bytes}
 use Rattle.ae_exec.proofs.Quiet.{quiet-view}
 use Rattle.ae_exec.proofs.RunsTyped.{ArePathsAll, of-group, rows-typed, tracked-paths}
@@ -133,7 +133,7 @@ module _ (o : Observation) (bytes : ℕ → List ℕ) (called : Called) (makes :
       read = subst (λ (c : Option Change). All IsPath (paths_asked given.call c)) is (asked-paths o called.command called.who are)
 
       reads : All IsPath (paths_read given.call change)
-      reads = subst (λ (b : Bool). All IsPath (if b then paths_read given.call change else [])) (runs-read-files called.command.function makes) read
+      reads = subst (λ (b : Bool). All IsPath (if b then paths_read given.call change else [])) (reads-too called.command.function makes) read
 
       at : (number : Option ℕ) → option_and_then (change_at o) number ≡ Some change → All IsRun (rows_of (paths_of (tracked_in given (Some change))) (runs_asked given.call (Some change)) (new_runs called))
       at None there = none-some change there

@@ -3,12 +3,13 @@ use Rattle.std.proofs.Common.{◌≡◌, ℕ, ◌+◌, ◌/◌, Bool, true, fals
 use Rattle.std.specs.Prelude.{nat_le, nat_lt, nat_eq, filter, length}
 use Rattle.std.specs.List.{list_all, list_any}
 use Rattle.std.proofs.lemmas.Bool.Decides.{nat_tests}
+use Rattle.std.proofs.lemmas.Bool.{and_parts, false_from_ne_true}
 use Rattle.ae_types.specs.declared.version.VersionRef.{VersionRef}
 use Rattle.ae_types.specs.Observation.{Observation}
 use Rattle.ae_types.specs.Rules.{is_in_region}
 use Rattle.ae_types.specs.Sound.{Sound}
 use Rattle.ae_types.specs.Versions.{live, units, has_units, end_of, meet, same_number, no_two}
-use Rattle.ae_types.proofs.Splits.{and2, and4, is-false, not-is, where-so}
+use Rattle.ae_types.proofs.Splits.{and4, not-is, where-so}
 use Rattle.ae_types.proofs.RulesTogether.{facts-versions}
 use Rattle.ae_types.proofs.Placed.{InOrder}
 use Rattle.ae_rules.proofs.VersionsApart.{meet-with}
@@ -17,7 +18,7 @@ use Rattle.ae_space.proofs.Between.{region-is}
 use Rattle.ae_history.specs.Placing.{extent_of, extents}
 
 -- the rows and changes of a sound state are in order
-in-order : (o : Observation) → Sound o → InOrder o.files o.changes
+pub in-order : (o : Observation) → Sound o → InOrder o.files o.changes
 in-order o s = record {
   up = s.rows.ascend;
   pasts = λ path row found. (s.rows.good path row found).ascends;
@@ -62,13 +63,13 @@ none-meet (v ∷ versions) e = go (has_units v) refl e (none-meet versions)
         → (no_two meet (filter has_units versions) ≡ true → none_meet (map extent_of (filter has_units versions)) ≡ true)
         → none_meet (map extent_of (cond b (v ∷ filter has_units versions) (filter has_units versions))) ≡ true
     go true is e rest =
-        let two = and2 (not (list_any (meet v) (filter has_units versions))) (no_two meet (filter has_units versions)) e in
-        λ i. all-apart v versions is (is-false (list_any (meet v) (filter has_units versions)) (λ any. not-is (list_any (meet v) (filter has_units versions)) two.0 any)) i && rest two.1 i
+        let two = and_parts (not (list_any (meet v) (filter has_units versions))) (no_two meet (filter has_units versions)) e in
+        λ i. all-apart v versions is (false_from_ne_true (list_any (meet v) (filter has_units versions)) (λ any. not-is (list_any (meet v) (filter has_units versions)) two.0 any)) i && rest two.1 i
     go false is e rest = rest e
 
 all-inside : (versions : List VersionRef) → list_all is_in_region versions ≡ true → are_inside (map extent_of (filter has_units versions)) ≡ true
 all-inside [] e = refl
-all-inside (v ∷ versions) e = go (has_units v) refl (and2 (is_in_region v) (list_all is_in_region versions) e) (all-inside versions)
+all-inside (v ∷ versions) e = go (has_units v) refl (and_parts (is_in_region v) (list_all is_in_region versions) e) (all-inside versions)
   where
     go : (b : Bool) → has_units v ≡ b → (is_in_region v ≡ true) × (list_all is_in_region versions ≡ true) → (list_all is_in_region versions ≡ true → are_inside (map extent_of (filter has_units versions)) ≡ true)
         → are_inside (map extent_of (cond b (v ∷ filter has_units versions) (filter has_units versions))) ≡ true

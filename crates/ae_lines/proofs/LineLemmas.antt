@@ -5,8 +5,10 @@ use Rattle.std.specs.List.{list_all}
 use Rattle.std.specs.Str.{IsAscii, IsUtf8}
 use Rattle.std.proofs.lemmas.Str.{IsUtf8-from_ascii}
 use Rattle.std.proofs.lemmas.Bool.Decides.{nat_tests}
-use Rattle.std.proofs.Common.{refl, sym, ap, ◌∙◌, arith, zero, suc, subst}
+use Rattle.std.proofs.Common.{refl, sym, ap, ◌∙◌, arith, subst}
 use Rattle.std.specs.Option.{option_map, option_and_then}
+use Rattle.std.proofs.lemmas.Bool.{and_parts}
+use Rattle.ae_base.proofs.Ascii.{cons_small}
 use Rattle.ae_base.specs.Bytes.{read_as}
 use Rattle.ae_base.specs.Limits.{most_deltas}
 use Rattle.ae_base.specs.Numbers.{change_number, delta_number}
@@ -83,18 +85,6 @@ place_is dir path read d is named = go (is_path path) refl
     go true good = let same : read ≡ path = (let known : Some read ≡ Some path = is ∙ (rw good refl) in cc) in rw (good, named, same) refl
     go false bad = absurd (let none : Some read ≡ None = is ∙ (rw bad refl) in cc)
 
-and_first : (a b : Bool) → (a && b) ≡ true → a ≡ true
-and_first true b e = refl
-and_first false b e = e
-
-and_last : (a b : Bool) → (a && b) ≡ true → b ≡ true
-and_last true b e = e
-and_last false b e = absurd (cc e)
-
-cons_small : (b : ℕ) (bs : List ℕ) → b < 128 → IsAscii bs → IsAscii (b ∷ bs)
-cons_small b bs first rest zero = first
-cons_small b bs first rest (suc i) = rest i
-
 nothing_small : IsAscii []
 nothing_small i = omega arith
 
@@ -103,7 +93,7 @@ word_small b is = grind (arith, nat_tests)
 
 all_small : (word : List ℕ) → is_ascii_word word ≡ true → IsAscii word
 all_small [] is = nothing_small
-all_small (b ∷ bs) is = cons_small b bs (word_small b (and_first (nat_le b 127) (is_ascii_word bs) is)) (all_small bs (and_last (nat_le b 127) (is_ascii_word bs) is))
+all_small (b ∷ bs) is = cons_small b bs (word_small b ((and_parts (nat_le b 127) (is_ascii_word bs) is).0)) (all_small bs ((and_parts (nat_le b 127) (is_ascii_word bs) is).1))
 
 -- a word of bytes below 128 is text
 pub utf8_word : (word : List ℕ) → is_ascii_word word ≡ true → IsUtf8 word
@@ -111,7 +101,7 @@ utf8_word word is = IsUtf8-from_ascii word (all_small word is)
 
 pub all_more : (words : List (List ℕ)) (word : List ℕ) → list_all is_ascii_word words ≡ true → is_ascii_word word ≡ true → list_all is_ascii_word (words ++ word ∷ []) ≡ true
 all_more [] word all is = rw is refl
-all_more (w ∷ words) word all is = rw (and_first (is_ascii_word w) (list_all is_ascii_word words) all) (all_more words word (and_last (is_ascii_word w) (list_all is_ascii_word words) all) is)
+all_more (w ∷ words) word all is = rw ((and_parts (is_ascii_word w) (list_all is_ascii_word words) all).0) (all_more words word ((and_parts (is_ascii_word w) (list_all is_ascii_word words) all).1) is)
 
 pub test_is : (name word text : List ℕ) (r b : Bool) → r ≡ bytes_eq name word → word ≡ text → r ≡ b → bytes_eq name text ≡ b
 test_is name word text r b equal same is = ap (λ (t : List ℕ). bytes_eq name t) (sym same) ∙ sym equal ∙ is

@@ -1,6 +1,8 @@
 -- What an event makes of its change keeps, and that the change may be altered.
 use Rattle.std.proofs.Common.{◌≡◌, ℕ, ◌+◌, ◌<◌, refl, sym, ◌∙◌, ap, subst, List, map, Some, cond, nat_eq, length}
 use Rattle.std.specs.Option.{option_map}
+use Rattle.std.proofs.lemmas.Bool.{false≢true}
+use Rattle.std.proofs.lemmas.Option.{same_Some}
 use Rattle.ae_base.specs.Limits.{most_deltas}
 use Rattle.ae_types.specs.declared.change.Change.{Change}
 use Rattle.ae_types.specs.declared.change.ChangeFile.{ChangeFile}
@@ -8,14 +10,14 @@ use Rattle.ae_types.specs.Observation.{Observation}
 use Rattle.ae_types.specs.Found.{number_of_change, change_in, change_at}
 use Rattle.ae_types.specs.Sound.{Sound, IsGoodChange}
 use Rattle.ae_types.proofs.Keys.{by_number}
-use Rattle.ae_types.proofs.Ordered.{found-key, some-is}
+use Rattle.ae_types.proofs.Ordered.{found-key}
 use Rattle.ae_types.proofs.Splits.{from-is}
 use Rattle.ae_log.specs.declared.event.Event.{Event}
 use Rattle.ae_log.specs.declared.event.EventKind.{EventKind}
 use Rattle.ae_log.specs.declared.event.EventKind.TheVariants as on
 use Rattle.ae_log.specs.After.{changed, change_after, where_number, after_change, changes_after, files_of, locks_after, numbers_after, project_after, rows_after}
 use Rattle.ae_log.specs.Applies.{NamesOne, Fits, EndFits, MayAlter}
-use Rattle.ae_log.proofs.OneChange.{Keeps, in-own, never}
+use Rattle.ae_log.proofs.OneChange.{Keeps, in-own}
 
 pub phase-kept : (next : ℕ) (event : Event) (kind : EventKind) (x : Change) → (changed next event kind x).phase ≡ x.phase
 phase-kept next event (on.ChangeAttributes attributes) x = refl
@@ -39,7 +41,7 @@ fits-one : (o : Observation) (number : ℕ) (kind : EventKind) (x : Change) → 
 fits-one o number (on.New attributes) x names e = tt
 fits-one o number (on.End tree to places) x names e =
     let f = from-is _ (change_at o number) names in
-    subst (λ y. EndFits y tree to places) (some-is f.0 x (sym f.1 ∙ e)) f.2.1
+    subst (λ y. EndFits y tree to places) (same_Some f.0 x (sym f.1 ∙ e)) f.2.1
 fits-one o number _ x names e = tt
 
 module _ (o : Observation) (event : Event) (number : ℕ) (x : Change) (sound : Sound o) (found : change_at o number ≡ Some x) where
@@ -50,7 +52,7 @@ module _ (o : Observation) (event : Event) (number : ℕ) (x : Change) (sound : 
   next = o.project.next_version
 
   good-later : (kind : EventKind) → NamesOne o number kind → Sound (after_change (of_kind kind) number o) → IsGoodChange (change_after next (of_kind kind) x)
-  good-later (on.New attributes) names follows = never (sym names ∙ sound.changes.numbered number x found)
+  good-later (on.New attributes) names follows = absurd (false≢true (sym names ∙ sound.changes.numbered number x found))
   good-later on.NewUndo names follows = sound.changes.good number x found
   good-later kind names follows =
       let make = change_after next (of_kind kind) in

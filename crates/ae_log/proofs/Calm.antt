@@ -1,6 +1,7 @@
 -- Events after which no change is integrated or completed that wasn't: what the rules ask of candidates stays too.
-use Rattle.std.proofs.Common.{◌≡◌, ℕ, refl, sym, ◌∙◌, ap, subst, List, map, Some, Bool, true, false, ◌||◌}
+use Rattle.std.proofs.Common.{◌≡◌, ℕ, refl, sym, ◌∙◌, ap, subst, List, map, Some, true, ◌||◌}
 use Rattle.std.specs.Prelude.{length}
+use Rattle.std.proofs.lemmas.Bool.{or_right}
 use Rattle.ae_types.specs.declared.change.Change.{Change}
 use Rattle.ae_types.specs.Observation.{Observation}
 use Rattle.ae_types.specs.Found.{change_in}
@@ -20,12 +21,8 @@ pub record Calm (x y : Change) : Type 0 where
 pub calm-self : (x : Change) → Calm x x
 calm-self x = record { integrating = refl; completed = refl; files = λ _. refl }
 
-or-right : (a b : Bool) → b ≡ true → (a || b) ≡ true
-or-right true b e = refl
-or-right false b e = e
-
 pub steady-of : (x y : Change) → Calm x y → Steady x y
-steady-of x y calm = record { completed = calm.completed; files = λ e. calm.files (or-right (is_integrating x.phase) (is_completed x.phase) e) }
+steady-of x y calm = record { completed = calm.completed; files = λ e. calm.files (or_right (is_integrating x.phase) (is_completed x.phase) e) }
 
 module _ (o : Observation) (s : Sound o) (c : ℕ) (h : Change → Change) (keeps : Keeps h) (x : Change) (at_c : change_in o.changes c ≡ Some x) (calm : Calm x (h x)) where
   abbrev pub later : List Change

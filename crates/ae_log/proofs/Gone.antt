@@ -13,11 +13,13 @@ use Rattle.ae_types.specs.Phases.{is_awaiting_development, holds_locks, is_remov
 use Rattle.ae_types.specs.Versions.{Place, in_table, in_change, version_at}
 use Rattle.ae_types.specs.Sound.{Sound, AreVersions, AreLocks, AreFiles, FitsLength}
 use Rattle.ae_types.proofs.Keys.{by_text}
-use Rattle.ae_types.proofs.Ordered.{at-map, map-ascends, at-filter, filter-ascends, if_so, some-is, none-some}
+use Rattle.ae_types.proofs.Ordered.{at-map, map-ascends, at-filter, filter-ascends, if_so, none-some}
 use Rattle.std.proofs.lemmas.List.{length-map}
 use Rattle.std.proofs.Common.{arith, ◌≤◌}
+use Rattle.std.proofs.lemmas.Bool.{false≢true}
+use Rattle.std.proofs.lemmas.Option.{same_Some}
 use Rattle.ae_log.specs.After.{where_number, thawed, without_locks}
-use Rattle.ae_log.proofs.OneChange.{Keeps, never, was, each-own}
+use Rattle.ae_log.proofs.OneChange.{Keeps, was, each-own}
 use Rattle.ae_log.proofs.Still.{frozen_of, version_in}
 
 module _ (o : Observation) (s : Sound o) (c : ℕ) (h : Change → Change) (keeps : Keeps h) (x : Change) (at_c : change_in o.changes c ≡ Some x) where
@@ -39,7 +41,7 @@ module _ (o : Observation) (s : Sound o) (c : ℕ) (h : Change → Change) (keep
     where
       kept : (k : Lock) → lock_in o.locks p ≡ Some k → (b : Bool) → nat_eq c k.change ≡ b → cond (not b) (Some k) None ≡ Some l → Left p l
       kept k ek true b e = none-some l e
-      kept k ek false b e = record { there = ek ∙ e; other = ap (λ (m : Lock). nat_eq c m.change) (sym (some-is k l e)) ∙ b }
+      kept k ek false b e = record { there = ek ∙ e; other = ap (λ (m : Lock). nat_eq c m.change) (sym (same_Some k l e)) ∙ b }
 
       go : (v : Option Lock) → lock_in o.locks p ≡ v → if_so by_text lock_path (λ (l : Lock). not (nat_eq c l.change)) v ≡ Some l → Left p l
       go (Some k) ek e = kept k ek (nat_eq c k.change) refl e
@@ -55,7 +57,7 @@ module _ (o : Observation) (s : Sound o) (c : ℕ) (h : Change → Change) (keep
   held-still p n differ i None e = tt
 
   keep : (n : ℕ) → nat_eq c n ≡ false → (l : Option Lock) → option_map (λ (l : Lock). l.change) l ≡ Some n → option_map (λ (l : Lock). l.change) (if_so by_text lock_path (λ (l : Lock). not (nat_eq c l.change)) l) ≡ Some n
-  keep n differ (Some l) e = ap (λ b. option_map (λ (l : Lock). l.change) (cond (not b) (Some l) None)) (ap (nat_eq c) (some-is l.change n e) ∙ differ) ∙ e
+  keep n differ (Some l) e = ap (λ b. option_map (λ (l : Lock). l.change) (cond (not b) (Some l) None)) (ap (nat_eq c) (same_Some l.change n e) ∙ differ) ∙ e
   keep n differ None e = none-some n e
 
   pub locks-gone : holds_locks (h x).phase ≡ false → AreLocks o.numbers (without_locks c o.locks) later
@@ -64,7 +66,7 @@ module _ (o : Observation) (s : Sound o) (c : ℕ) (h : Change → Change) (keep
     numbered = λ p l e. s.locks.numbered p l (left p l e).there;
     held = λ p l e. let k = left p l e in held-still p l.change k.other (s.locks.held p l k.there) (change_in later l.change) refl;
     taken = each-own c h keeps o.changes (λ n y. holds_locks y.phase ≡ true → (p : List ℕ) → has_file y p ≡ true → option_map (λ (l : Lock). l.change) (lock_in (without_locks c o.locks) p) ≡ Some n)
-        (λ y ey i. never (sym (ap (λ (z : Change). holds_locks (h z).phase) (some-is y x (sym ey ∙ at_c)) ∙ idle) ∙ i))
+        (λ y ey i. absurd (false≢true (sym (ap (λ (z : Change). holds_locks (h z).phase) (same_Some y x (sym ey ∙ at_c)) ∙ idle) ∙ i)))
         (λ n y differ ey i p has. ap (option_map (λ (l : Lock). l.change)) (lock-found p) ∙ keep n differ (lock_in o.locks p) (s.locks.taken n y ey i p has));
   }
 
@@ -77,7 +79,7 @@ module _ (o : Observation) (s : Sound o) (c : ℕ) (h : Change → Change) (keep
     where
       go : (y : Option Change) → change_in later n ≡ y → version_in p y ≡ Some v → version_in p (change_in o.changes n) ≡ Some v
       go (Some y) ey f = each-own c h keeps o.changes (λ n y. version_in p (Some y) ≡ Some v → version_in p (change_in o.changes n) ≡ Some v)
-          (λ z ez g. none-some v (sym (ap (λ (z : Change). frozen_of (file_in (h z).files p)) (some-is z x (sym ez ∙ at_c)) ∙ none p) ∙ g))
+          (λ z ez g. none-some v (sym (ap (λ (z : Change). frozen_of (file_in (h z).files p)) (same_Some z x (sym ez ∙ at_c)) ∙ none p) ∙ g))
           (λ m z differ ez g. ap (version_in p) ez ∙ g) n y ey f
       go None ey f = none-some v f
 
@@ -108,7 +110,7 @@ thawed-good from to files a idle not_yet = record {
   ascend = map-ascends by_text file_path thawed (λ _. refl) files a.ascend;
   frozen = λ q f e. none q f e ∙ sym (ap (λ b. b && not (is_remove f.action)) idle);
   lengths = λ q f e. subst FitsLength (sym (ap frozen_of (sym e) ∙ thawed-none files q)) tt;
-  none_yet = λ e. never (sym not_yet ∙ e);
+  none_yet = λ e. absurd (false≢true (sym not_yet ∙ e));
 }
   where
     few : (m n : ℕ) → m ≡ n → n ≤ 1000 → m ≤ 1000

@@ -3,6 +3,7 @@ use Rattle.std.proofs.Common.{◌≡◌, ℕ, ◌+◌, refl, sym, ◌∙◌, ap,
 use Rattle.std.specs.Prelude.{is_some, length}
 use Rattle.std.specs.Option.{option_map}
 use Rattle.std.specs.Str.{bytes_eq}
+use Rattle.std.proofs.lemmas.Option.{same_Some}
 use Rattle.ae_types.specs.declared.file_table.Lock.{Lock}
 use Rattle.ae_types.specs.declared.file_table.FileRow.{FileRow}
 use Rattle.ae_types.specs.declared.change.Change.{Change}
@@ -11,7 +12,7 @@ use Rattle.ae_types.specs.declared.change.ChangeFile.{ChangeFile}
 use Rattle.ae_types.specs.Found.{file_path, row_path, lock_path, number_of_change, file_in}
 use Rattle.ae_types.specs.Phases.{holds_locks}
 use Rattle.ae_types.proofs.Keys.{by_text}
-use Rattle.ae_types.proofs.Ordered.{member, Ascends, member-with_key, at-listed, filter_map-ascends, some-is, none-some}
+use Rattle.ae_types.proofs.Ordered.{member, Ascends, member-with_key, at-listed, filter_map-ascends, none-some}
 use Rattle.ae_log.specs.declared.event.EventKind.{EventKind}
 use Rattle.ae_log.specs.declared.event.EventKind.TheVariants as on
 use Rattle.ae_log.specs.Log.{Log, Course, Happened, makes, ends, leaves, marked, course, continued, is_of, standing}
@@ -91,14 +92,14 @@ pub own_lock : (log : Log) (p : List ℕ) (l : Lock) → lock log p ≡ Some l �
 own_lock log p l e = go (locked log p) e
   where
     go : (o : Option ℕ) → option_map (lock_of p) o ≡ Some l → lock_path l ≡ p
-    go (Some c) e = ap lock_path (sym (some-is (lock_of p c) l e))
+    go (Some c) e = ap lock_path (sym (same_Some (lock_of p c) l e))
     go None e = none-some l e
 
 pub own_change : (log : Log) (c : ℕ) (x : Change) → change c (course log c) ≡ Some x → number_of_change x ≡ c
 own_change log c x e = go (change_attributes (course log c)) e
   where
     go : (o : Option ChangeAttributes) → option_map (change_with c (course log c)) o ≡ Some x → number_of_change x ≡ c
-    go (Some a) e = ap number_of_change (sym (some-is (change_with c (course log c) a) x e))
+    go (Some a) e = ap number_of_change (sym (same_Some (change_with c (course log c) a) x e))
     go None e = none-some x e
 
 pub own_row : (log : Log) (p : List ℕ) (r : FileRow) → file_row p (past log p) ≡ Some r → row_path r ≡ p
@@ -106,13 +107,13 @@ own_row log p r e = go (past log p) e
   where
     go : (entries : List Entry) → file_row p entries ≡ Some r → row_path r ≡ p
     go [] e = none-some r e
-    go (x ∷ xs) e = ap row_path (sym (some-is _ r e))
+    go (x ∷ xs) e = ap row_path (sym (same_Some _ r e))
 
 pub own_file : (ss : Course) (p : List ℕ) (f : ChangeFile) → change_file ss p ≡ Some f → file_path f ≡ p
 own_file ss p f e = go (file ss p) e
   where
     go : (o : Option FileFact) → option_map (change_file_of p (frozen_version ss p)) o ≡ Some f → file_path f ≡ p
-    go (Some fact) e = ap file_path (sym (some-is (change_file_of p (frozen_version ss p) fact) f e))
+    go (Some fact) e = ap file_path (sym (same_Some (change_file_of p (frozen_version ss p) fact) f e))
     go None e = none-some f e
 
 -- ---- a path finds its file

@@ -3,6 +3,8 @@ use Rattle.std.proofs.Common.{◌≡◌, ℕ, refl, sym, ◌∙◌, ap, List, []
 use Rattle.std.specs.Prelude.{is_some}
 use Rattle.std.specs.List.{find, filter_map}
 use Rattle.std.specs.Option.{option_map, option_and_then}
+use Rattle.std.proofs.lemmas.Bool.{and_parts, false≢true}
+use Rattle.std.proofs.lemmas.Option.{same_Some}
 use Rattle.ae_types.specs.declared.project.Attributes.{Attributes}
 use Rattle.ae_types.specs.declared.change.ChangeAttributes.{ChangeAttributes}
 use Rattle.ae_types.specs.declared.change.ChangeFile.{ChangeFile}
@@ -11,7 +13,7 @@ use Rattle.ae_types.specs.Found.{lock_path, lock_in, file_in}
 use Rattle.ae_types.specs.Phases.{holds_locks}
 use Rattle.ae_types.specs.Sound.{Sound}
 use Rattle.ae_types.proofs.Keys.{by_text, by_number}
-use Rattle.ae_types.proofs.Ordered.{member, Ascends, at-put, put-ascends, at-filter_map, listed-is, filter_map-ascends, at-filter, filter-ascends, if_so, some-is}
+use Rattle.ae_types.proofs.Ordered.{member, Ascends, at-put, put-ascends, at-filter_map, listed-is, filter_map-ascends, at-filter, filter-ascends, if_so}
 use Rattle.ae_log.specs.declared.event.EventKind.{EventKind}
 use Rattle.ae_log.specs.Log.{Log, course, continued}
 use Rattle.ae_log.specs.Phases.{phase_of}
@@ -31,31 +33,24 @@ use Rattle.ae_log.proofs.Steps.{of_change, happens, course-fact, found}
 abbrev pub OneHolder : Log → Type 0
 OneHolder log = (p : List ℕ) (c d : ℕ) → member by_number c change_numbers ≡ true → member by_number d change_numbers ≡ true → holds p (course log c) ≡ true → holds p (course log d) ≡ true → c ≡ d
 
-both : (a b : Bool) → (a && b) ≡ true → (a ≡ true) × (b ≡ true)
-both true b e = (refl, e)
-both false b e = cc
-
-never : {P : Type 0} → false ≡ true → P
-never e = cc
-
 -- where the rules are kept, a path has one holder
 pub one-holder : (log : Log) (a : Attributes) → Sound (observation_with log a) → OneHolder log
-one-holder log a s p c d mc md hc hd = some-is c d (sym (held c mc hc) ∙ held d md hd)
+one-holder log a s p c d mc md hc hd = same_Some c d (sym (held c mc hc) ∙ held d md hd)
   where
     held : (n : ℕ) → member by_number n change_numbers ≡ true → holds p (course log n) ≡ true → option_map (λ (l : Lock). l.change) (lock_in (observation_with log a).locks p) ≡ Some n
     held n m h = of (change_attributes (course log n)) refl
       where
         parts : (is_there (course log n) && is_some (file (course log n) p) ≡ true) × (holds_locks (phase_of (course log n)) ≡ true)
-        parts = both (is_there (course log n) && is_some (file (course log n) p)) (holds_locks (phase_of (course log n))) h
+        parts = and_parts (is_there (course log n) && is_some (file (course log n) p)) (holds_locks (phase_of (course log n))) h
 
         has : (f : Option FileFact) → is_some f ≡ true → is_some (option_map (change_file_of p (frozen_version (course log n) p)) f) ≡ true
         has (Some f) e = refl
-        has None e = never e
+        has None e = absurd (false≢true e)
 
         of : (b : Option ChangeAttributes) → change_attributes (course log n) ≡ b → option_map (λ (l : Lock). l.change) (lock_in (observation_with log a).locks p) ≡ Some n
         of (Some b) e = s.locks.taken n (change_with n (course log n) b) (found log a n m ∙ ap (option_map (change_with n (course log n))) e) parts.1 p
-            (ap (λ (f : Option ChangeFile). is_some f) (at-files (course log n) p) ∙ has (file (course log n) p) (both (is_there (course log n)) (is_some (file (course log n) p)) parts.0).1)
-        of None e = never (sym (ap (λ (v : Option ChangeAttributes). is_some v) e) ∙ (both (is_there (course log n)) (is_some (file (course log n) p)) parts.0).0)
+            (ap (λ (f : Option ChangeFile). is_some f) (at-files (course log n) p) ∙ has (file (course log n) p) (and_parts (is_there (course log n)) (is_some (file (course log n) p)) parts.0).1)
+        of None e = absurd (false≢true (sym (ap (λ (v : Option ChangeAttributes). is_some v) e) ∙ (and_parts (is_there (course log n)) (is_some (file (course log n) p)) parts.0).0))
 
 -- ---- locks that go
 
@@ -82,7 +77,7 @@ find-without t c (x ∷ xs) one = go (t x) refl (nat_eq c x) refl (find-without 
         cases : (b : Bool) → t n ≡ b → (d : Bool) → nat_eq c n ≡ d → cond (nat_eq c n) false (t n) ≡ false
         cases b tn true cn = ap (λ d. cond d false (t n)) cn
         cases false tn false cn = ap (λ d. cond d false (t n)) cn ∙ tn
-        cases true tn false cn = never (sym cn ∙ ap (nat_eq c) (one n x (member-more n x xs (sub n (member-first n ns))) (member-first x xs) tn is) ∙ e)
+        cases true tn false cn = absurd (false≢true (sym cn ∙ ap (nat_eq c) (one n x (member-more n x xs (sub n (member-first n ns))) (member-first x xs) tn is) ∙ e))
 
     go : (b : Bool) → t x ≡ b → (d : Bool) → nat_eq c x ≡ d → find (λ n. cond (nat_eq c n) false (t n)) xs ≡ option_and_then (λ m. cond (nat_eq c m) None (Some m)) (find t xs)
         → cond (cond d false b) (Some x) (find (λ n. cond (nat_eq c n) false (t n)) xs) ≡ option_and_then (λ m. cond (nat_eq c m) None (Some m)) (cond b (Some x) (find t xs))
@@ -141,7 +136,7 @@ with_locks-ascends c (f ∷ fs) locks h = put-ascends by_text lock_path (lock_of
 
 -- where none was found, the one that is new is
 pub find-new : (t u : ℕ → Bool) (c : ℕ) → ((n : ℕ) → u n ≡ cond (nat_eq c n) true (t n)) → (xs : List ℕ) → find t xs ≡ None → member by_number c xs ≡ true → find u xs ≡ Some c
-find-new t u c new [] none there = never there
+find-new t u c new [] none there = absurd (false≢true there)
 find-new t u c new (x ∷ xs) none there = ap (λ b. cond b (Some x) (find u xs)) (new x) ∙ go (nat_eq c x) refl (t x) none there (find-new t u c new xs)
   where
     go : (b : Bool) → nat_eq c x ≡ b → (d : Bool) → cond d (Some x) (find t xs) ≡ None → is_some (cond b (Some x) (find (λ j. nat_eq c j) xs)) ≡ true

@@ -3,6 +3,8 @@ use Rattle.std.proofs.Common.{◌≡◌, ℕ, refl, sym, ◌∙◌, ap, List, �
 use Rattle.std.specs.Prelude.{is_some, filter}
 use Rattle.std.specs.List.{filter_map, find}
 use Rattle.std.specs.Option.{option_map}
+use Rattle.std.proofs.lemmas.Bool.{and_right}
+use Rattle.std.proofs.lemmas.Option.{same_Some}
 use Rattle.ae_types.specs.declared.project.Attributes.{Attributes}
 use Rattle.ae_types.specs.declared.change.ChangeAttributes.{ChangeAttributes}
 use Rattle.ae_types.specs.Observation.{Observation}
@@ -10,7 +12,7 @@ use Rattle.ae_types.specs.Ordered.{itself}
 use Rattle.ae_types.specs.Found.{number_of_change, has_number}
 use Rattle.ae_types.specs.Phases.{holds_locks}
 use Rattle.ae_types.proofs.Keys.{by_number}
-use Rattle.ae_types.proofs.Ordered.{member, at-filter_map, listed-put, listed-without, some-is, none-some}
+use Rattle.ae_types.proofs.Ordered.{member, at-filter_map, listed-put, listed-without, none-some}
 use Rattle.ae_log.specs.declared.event.EventKind.{EventKind}
 use Rattle.ae_log.specs.declared.event.EventKind.TheVariants as on
 use Rattle.ae_log.specs.Log.{Log, course}
@@ -25,7 +27,7 @@ use Rattle.ae_log.proofs.Lists.{filter_map-same, filter-filter_map, if_passes}
 use Rattle.ae_log.proofs.Ascending.{change_numbers-ascend, is-change_number}
 use Rattle.ae_log.proofs.Listed.{own_change}
 use Rattle.ae_log.proofs.ChangeSteps.{Finds, awaits-is}
-use Rattle.ae_log.proofs.Steps.{of_change, happens, same-parts, its-fact, other-fact, changes-step, numbers-stay, locks-stay, no_hold, stands-after}
+use Rattle.ae_log.proofs.Steps.{of_change, happens, same-parts, its-fact, other-fact, changes-step, numbers-stay, locks-stay, stands-after}
 
 -- ---- numbers that are there
 
@@ -36,7 +38,7 @@ own_number : (log : Log) (n r : ℕ) → there_at log n ≡ Some r → itself r 
 own_number log n r e = go (is_there (course log n)) e
   where
     go : (b : Bool) → cond b (Some n) None ≡ Some r → r ≡ n
-    go true e = sym (some-is n r e)
+    go true e = sym (same_Some n r e)
     go false e = none-some r e
 
 -- a number that is there already
@@ -89,7 +91,7 @@ with-new_undo log who when c b none = same-parts _ _ refl
     (ap (λ b. cond b (Some c) None) (its-fact is_there log who when c on.NewUndo)) (other-there log who when c on.NewUndo)
     ∙ ap (filter (λ other. not (nat_eq c other))) (sym (filter-filter_map (λ number. is_there (course log number)) change_numbers)))
     refl
-    (filter_map-same _ _ (locks-stay log who when c on.NewUndo (λ p n e. sym (no_hold (is_there (course log n) && is_some (file (course log n) p)) _ (ap (λ (m : ℕ). holds_locks (phase_of (course log m))) (sym (eqb-true c n e)) ∙ none)))) (paths log))
+    (filter_map-same _ _ (locks-stay log who when c on.NewUndo (λ p n e. sym (and_right (is_there (course log n) && is_some (file (course log n) p)) _ (ap (λ (m : ℕ). holds_locks (phase_of (course log m))) (sym (eqb-true c n e)) ∙ none)))) (paths log))
     (listed-without by_number number_of_change (λ n. change n (course log n)) (λ n. change n (course (of_change who when c on.NewUndo ∷ log) n)) (own_change log) (own_change (of_change who when c on.NewUndo ∷ log))
     c change_numbers change_numbers-ascend (its-fact (change c) log who when c on.NewUndo) (λ q apart. other-fact (change q) log who when c on.NewUndo q apart))
 

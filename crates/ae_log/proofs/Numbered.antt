@@ -3,12 +3,13 @@ use Rattle.std.proofs.Common.{◌≡◌, ℕ, ◌+◌, ◌<◌, ◌≤◌, refl,
 use Rattle.std.specs.Prelude.{length, is_some}
 use Rattle.std.specs.List.{find}
 use Rattle.std.specs.Str.{bytes_eq}
+use Rattle.std.proofs.lemmas.Option.{same_Some}
 use Rattle.ae_base.specs.Rows.{Rows}
 use Rattle.ae_types.specs.declared.change.ChangeFile.{ChangeFile}
 use Rattle.ae_types.specs.Found.{file_in}
 use Rattle.ae_types.specs.Phases.{is_remove}
 use Rattle.ae_types.proofs.Keys.{by_text}
-use Rattle.ae_types.proofs.Ordered.{some-is, none-some}
+use Rattle.ae_types.proofs.Ordered.{none-some}
 use Rattle.ae_log.specs.Files.{Version, FrozenFile, numbered, present, frozen_file, version_of, first_place, other_places}
 use Rattle.ae_log.specs.Applies.{tree_shape, files_shape}
 
@@ -46,7 +47,7 @@ within n ((q, Some bytes) ∷ rows) places p v e = go (bytes_eq p q) e (within (
 
     go : (b : Bool) → version_of (cond b (Some (frozen_at q (Some (new_version n places bytes)))) (frozen_file (numbered (n + 1) rows (other_places places)) p)) ≡ Some v
         → (version_at (n + 1) rows (other_places places) p ≡ Some v → Within (n + 1) rows v) → Within n ((q, Some bytes) ∷ rows) v
-    go true e rest = first (ap (λ (w : Version). w.number) (sym (some-is (new_version n places bytes) v e)))
+    go true e rest = first (ap (λ (w : Version). w.number) (sym (same_Some (new_version n places bytes) v e)))
     go false e rest = let w = rest e in more w.low w.high
 
 -- no number is given twice
@@ -62,7 +63,7 @@ numbers-apart n ((r, None) ∷ rows) places p q v w ev ew e = go (bytes_eq p r) 
 numbers-apart n ((r, Some bytes) ∷ rows) places p q v w ev ew e = go (bytes_eq p r) refl ev (bytes_eq q r) refl ew (numbers-apart (n + 1) rows (other_places places) p q v w)
   where
     number_is : (v : Version) → Some (new_version n places bytes) ≡ Some v → v.number ≡ n
-    number_is v e = ap (λ (w : Version). w.number) (sym (some-is (new_version n places bytes) v e))
+    number_is v e = ap (λ (w : Version). w.number) (sym (same_Some (new_version n places bytes) v e))
 
     go : (b : Bool) → bytes_eq p r ≡ b → version_of (cond b (Some (frozen_at r (Some (new_version n places bytes)))) (frozen_file (numbered (n + 1) rows (other_places places)) p)) ≡ Some v
         → (d : Bool) → bytes_eq q r ≡ d → version_of (cond d (Some (frozen_at r (Some (new_version n places bytes)))) (frozen_file (numbered (n + 1) rows (other_places places)) q)) ≡ Some w
@@ -103,7 +104,7 @@ files-shown (g ∷ fs) p f e = go (bytes_eq p g.path) e (files-shown fs p f)
   where
     go : (b : Bool) → cond b (Some g) (file_in fs p) ≡ Some f → (file_in fs p ≡ Some f → shown (find (λ (row : List ℕ × Bool). bytes_eq p row.0) (files_shape fs)) ≡ not (is_remove f.action))
         → shown (cond b (Some (g.path, is_remove g.action)) (find (λ (row : List ℕ × Bool). bytes_eq p row.0) (files_shape fs))) ≡ not (is_remove f.action)
-    go true e rest = ap (λ (k : ChangeFile). not (is_remove k.action)) (some-is g f e)
+    go true e rest = ap (λ (k : ChangeFile). not (is_remove k.action)) (same_Some g f e)
     go false e rest = rest e
 
 pub present-few : (tree : Rows) → length (present tree) ≤ length (tree_shape tree)

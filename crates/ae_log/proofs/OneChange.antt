@@ -2,15 +2,13 @@
 use Rattle.std.proofs.Common.{◌≡◌, ℕ, refl, sym, ◌∙◌, ap, subst, List, map, Option, Some, None, Bool, true, false, cond, nat_eq, eqb-true}
 use Rattle.std.specs.Prelude.{is_some}
 use Rattle.std.specs.Option.{option_map}
+use Rattle.std.proofs.lemmas.Option.{same_Some}
 use Rattle.ae_types.specs.declared.change.Change.{Change}
 use Rattle.ae_types.specs.Found.{number_of_change, change_in}
 use Rattle.ae_types.specs.Sound.{EachChange, IsGoodChange, AreChanges}
 use Rattle.ae_types.proofs.Keys.{by_number}
-use Rattle.ae_types.proofs.Ordered.{Ascends, at-map, map-ascends, found-key, some-is, none-some}
+use Rattle.ae_types.proofs.Ordered.{Ascends, at-map, map-ascends, found-key, none-some}
 use Rattle.ae_log.specs.After.{where_number}
-
-pub never : {P : Type 0} → false ≡ true → P
-never e = cc
 
 -- a change that keeps its number
 abbrev pub Keeps : (Change → Change) → Type 0
@@ -49,7 +47,7 @@ module _ (c : ℕ) (h : Change → Change) (keeps : Keeps h) where
   was xs n y e = go (change_in xs n) refl (sym (in-own xs n) ∙ e)
     where
       go : (v : Option Change) → change_in xs n ≡ v → option_map (where_number c h) v ≡ Some y → Was xs c h n y
-      go (Some x) is f = record { old = x; there = is; now = sym (some-is (where_number c h x) y f) ∙ ap (λ m. cond (nat_eq c m) (h x) x) (found-key by_number number_of_change n xs x is) }
+      go (Some x) is f = record { old = x; there = is; now = sym (same_Some (where_number c h x) y f) ∙ ap (λ m. cond (nat_eq c m) (h x) x) (found-key by_number number_of_change n xs x is) }
       go None is f = none-some y f
 
   -- what is so of each change after it
@@ -67,5 +65,5 @@ module _ (c : ℕ) (h : Change → Change) (keeps : Keeps h) where
   own-good numbers xs x a at_c good = record {
     ascend = own-ascends xs a.ascend;
     numbered = λ n y e. let w = was xs n y e in a.numbered n w.old w.there;
-    good = each-own xs (λ n y. IsGoodChange y) (λ z e. subst (λ v. IsGoodChange (h v)) (some-is x z (sym at_c ∙ e)) good) (λ n z _ e. a.good n z e);
+    good = each-own xs (λ n y. IsGoodChange y) (λ z e. subst (λ v. IsGoodChange (h v)) (same_Some x z (sym at_c ∙ e)) good) (λ n z _ e. a.good n z e);
   }

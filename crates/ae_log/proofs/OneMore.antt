@@ -4,13 +4,14 @@ use Rattle.std.specs.Prelude.{length, is_some}
 use Rattle.std.specs.Option.{option_or}
 use Rattle.std.specs.Cmp.{nat_cmp_is}
 use Rattle.std.specs.declared.cmp.Ordering.TheVariants.{Less}
+use Rattle.std.proofs.lemmas.Bool.{false≢true}
+use Rattle.std.proofs.lemmas.Option.{same_Some}
 use Rattle.ae_types.specs.declared.project.DeltaRow.{DeltaRow}
 use Rattle.ae_types.specs.declared.file_table.FileVersion.{FileVersion}
 use Rattle.ae_types.specs.Found.{number_of_delta, delta_in, entry_delta, entry_in}
 use Rattle.ae_types.specs.Rules.{counts_up}
 use Rattle.ae_types.proofs.Keys.{by_number}
-use Rattle.ae_types.proofs.Ordered.{Above, Ascends, above-at, apart, at-first, less-other, some-is, none-some}
-use Rattle.ae_log.proofs.OneChange.{never}
+use Rattle.ae_types.proofs.Ordered.{Above, Ascends, above-at, apart, at-first, less-other, none-some}
 
 pub counts_up-snoc : (n : ℕ) (ms : List ℕ) (k : ℕ) → counts_up n ms ≡ true → k ≡ n + length ms → counts_up n (ms ++ k ∷ []) ≡ true
 counts_up-snoc n [] k h e = ap (λ b. b && true) (ap (nat_eq n) (start n k e) ∙ by_number.same_self n)
@@ -41,7 +42,7 @@ counted n (c ∷ ds) k d h e = go (nat_eq n c.delta) refl h (nat_eq k c.delta) r
         → (counts_up (n + 1) (map number_of_delta ds) ≡ true → delta_in ds k ≡ Some d → (n + 1 ≤ k) × (k < (n + 1) + length ds)) → (n ≤ k) × (k < n + length (c ∷ ds))
     go true is h true kc e rest = first (eqb-true n c.delta is) (eqb-true k c.delta kc)
     go true is h false kc e rest = rest_of (rest h e)
-    go false is h t kc e rest = never h
+    go false is h t kc e rest = absurd (false≢true h)
 
 pub ascends-snoc : (xs : List FileVersion) (y : FileVersion) → Ascends by_number entry_delta xs → ((n : ℕ) (x : FileVersion) → entry_in xs n ≡ Some x → n < y.delta) → Ascends by_number entry_delta (xs ++ y ∷ [])
 ascends-snoc [] y a all = (tt, tt)
@@ -59,12 +60,12 @@ ascends-snoc (x ∷ xs) y a all =
 -- what is found in a list with one more is what was found, or that one
 pub either : {A P : Type 0} (x : Option A) (b : Bool) (y z : A) → option_or x (cond b (Some y) None) ≡ Some z → (x ≡ Some z → P) → (b ≡ true → y ≡ z → P) → P
 either (Some x) b y z e old new = old e
-either None true y z e old new = new refl (some-is y z e)
+either None true y z e old new = new refl (same_Some y z e)
 either None false y z e old new = none-some z e
 
 pub some-or : {A : Type 0} (x y : Option A) → is_some x ≡ true → is_some (option_or x y) ≡ true
 some-or (Some x) y e = refl
-some-or None y e = never e
+some-or None y e = absurd (false≢true e)
 
 pub new-or : {A : Type 0} (x : Option A) (y : A) → is_some (option_or x (Some y)) ≡ true
 new-or (Some x) y = refl

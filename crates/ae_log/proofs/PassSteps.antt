@@ -4,6 +4,7 @@ use Rattle.std.specs.Prelude.{is_some, length}
 use Rattle.std.specs.List.{filter_map}
 use Rattle.std.specs.Option.{option_map}
 use Rattle.std.specs.Str.{bytes_eq}
+use Rattle.std.proofs.lemmas.Bool.{and_right}
 use Rattle.ae_types.specs.declared.project.Attributes.{Attributes}
 use Rattle.ae_types.specs.declared.change.Change.{Change}
 use Rattle.ae_types.specs.declared.change.ChangeAttributes.{ChangeAttributes}
@@ -27,7 +28,7 @@ use Rattle.ae_log.specs.After.{after, change_after, new_entry, row_of, entered, 
 use Rattle.ae_log.proofs.Lists.{option_map-step}
 use Rattle.ae_log.proofs.Ascending.{paths-ascend}
 use Rattle.ae_log.proofs.Listed.{own_row, unlisted-file, at-files, files-ascend}
-use Rattle.ae_log.proofs.Steps.{of_change, happens, same-parts, changes-step, numbers-stay, no_hold, found}
+use Rattle.ae_log.proofs.Steps.{of_change, happens, same-parts, changes-step, numbers-stay, found}
 use Rattle.ae_log.proofs.FileSteps.{files-thaw}
 use Rattle.ae_log.proofs.LockSteps.{OneHolder, locks-go}
 
@@ -104,5 +105,5 @@ pub with-pass : (log : Log) (who : List ℕ) (when c : ℕ) (a : Attributes) (x 
 with-pass log who when c a x is there held one = same-parts _ _ refl
     (numbers-stay log who when c on.IPass (λ n e. refl))
     (rows-pass log who when c held ∙ ap (λ (y : Option Change). rows_after on.IPass (length (deltas log) + 1) (files_of y) (filter_map (λ p. file_row p (past log p)) (paths log))) (sym (found log a c is ∙ ap (option_map (change_with c (course log c))) there)))
-    (locks-go log who when c on.IPass one (λ p n e. no_hold (is_there (course log n) && is_some (file (course log n) p)) false refl))
+    (locks-go log who when c on.IPass one (λ p n e. and_right (is_there (course log n) && is_some (file (course log n) p)) false refl))
     (changes-step log who when c on.IPass _ (λ s ss. refl) (λ n e. change-pass (course log n) log who when (next_version log) c n))

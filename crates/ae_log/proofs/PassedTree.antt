@@ -4,6 +4,8 @@ use Rattle.std.specs.Prelude.{is_some, nat_le, filter}
 use Rattle.std.specs.List.{filter_map}
 use Rattle.std.specs.Option.{option_map, option_and_then, option_or}
 use Rattle.std.specs.Str.{bytes_eq}
+use Rattle.std.proofs.lemmas.Option.{same_Some}
+use Rattle.std.proofs.lemmas.Bool.{le-leb}
 use Rattle.ae_types.specs.declared.change.Change.{Change}
 use Rattle.ae_types.specs.declared.change.ChangeFile.{ChangeFile}
 use Rattle.ae_types.specs.declared.file_table.FileRow.{FileRow}
@@ -15,8 +17,7 @@ use Rattle.ae_types.specs.Trees.{TreeRow, tree_path, frozen_row, tree_row, entry
 use Rattle.ae_base.specs.Rows.{text_cmp}
 use Rattle.ae_types.specs.Sound.{IsGoodRow}
 use Rattle.ae_types.proofs.Keys.{by_text, by_number}
-use Rattle.ae_types.proofs.Ordered.{Above, Ascends, at, at-put, put-ascends, at-rows, rows-ascend, at-filter, filter-ascends, if_so, ascending-is, at-above, at-first, above-at, apart, less-other, found-key, some-is, none-some}
-use Rattle.ae_types.proofs.Splits.{is-most}
+use Rattle.ae_types.proofs.Ordered.{Above, Ascends, at, at-put, put-ascends, at-rows, rows-ascend, at-filter, filter-ascends, if_so, ascending-is, at-above, at-first, above-at, apart, less-other, found-key, none-some}
 use Rattle.ae_log.specs.After.{all_entered, row_of, new_entry}
 use Rattle.ae_log.proofs.PassSteps.{at-all_entered, all_entered-ascend, row_with}
 
@@ -26,7 +27,7 @@ entry_own : (p : List ℕ) (x : FileVersion) (t : TreeRow) → entry_row p x ≡
 entry_own p x t e = go x.version e
   where
     go : (v : Option VersionRef) → option_map (λ (v : VersionRef). record { path = p; usage = x.usage; version = v }) v ≡ Some t → tree_path t ≡ p
-    go (Some v) e = ap tree_path (sym (some-is _ t e))
+    go (Some v) e = ap tree_path (sym (same_Some _ t e))
     go None e = none-some t e
 
 pub tree_own : (n : ℕ) (r : FileRow) (t : TreeRow) → tree_row n r ≡ Some t → tree_path t ≡ row_path r
@@ -40,13 +41,13 @@ pub frozen_own : (f : ChangeFile) (t : TreeRow) → frozen_row f ≡ Some t → 
 frozen_own f t e = go f.frozen e
   where
     go : (v : Option VersionRef) → option_map (λ (v : VersionRef). record { path = f.path; usage = f.usage; version = v }) v ≡ Some t → tree_path t ≡ file_path f
-    go (Some v) e = ap tree_path (sym (some-is _ t e))
+    go (Some v) e = ap tree_path (sym (same_Some _ t e))
     go None e = none-some t e
 
 -- ---- the last entry up to a delta
 
 last-snoc : (n : ℕ) (xs : List FileVersion) (y : FileVersion) → y.delta ≡ n → last_up_to n (xs ++ y ∷ []) ≡ Some y
-last-snoc n [] y e = ap (λ b. cond b (Some y) None) (is-most y.delta n (omega (arith, e)))
+last-snoc n [] y e = ap (λ b. cond b (Some y) None) (le-leb y.delta n (omega (arith, e)))
 last-snoc n (x ∷ xs) y e = go (nat_le x.delta n) (last-snoc n xs y e)
   where
     go : (b : Bool) → last_up_to n (xs ++ y ∷ []) ≡ Some y → cond b (unless_later x (last_up_to n (xs ++ y ∷ []))) (last_up_to n (xs ++ y ∷ [])) ≡ Some y
@@ -57,16 +58,16 @@ last-more : (n k : ℕ) (xs : List FileVersion) → Ascends by_number entry_delt
 last-more n k [] a all h = refl
 last-more n k (x ∷ xs) a all h =
     let here = all x.delta x (at-first by_number entry_delta x xs) in
-    ap (λ b. cond b (unless_later x (last_up_to k xs)) (last_up_to k xs)) (is-most x.delta k (omega (arith, here.1, h)))
+    ap (λ b. cond b (unless_later x (last_up_to k xs)) (last_up_to k xs)) (le-leb x.delta k (omega (arith, here.1, h)))
     ∙ ap (unless_later x) (last-more n k xs a.1 (λ m y e. all m y (skip m y e)) h)
-    ∙ sym (ap (λ b. cond b (unless_later x (last_up_to n xs)) (last_up_to n xs)) (is-most x.delta n here.1))
+    ∙ sym (ap (λ b. cond b (unless_later x (last_up_to n xs)) (last_up_to n xs)) (le-leb x.delta n here.1))
   where
     skip : (m : ℕ) (y : FileVersion) → entry_in xs m ≡ Some y → cond (nat_eq m x.delta) (Some x) (entry_in xs m) ≡ Some y
     skip m y e = ap (λ b. cond b (Some x) (entry_in xs m)) (apart by_number m x.delta (λ is. less-other by_number x.delta m (above-at by_number entry_delta x.delta m xs y a.0 e) (sym is))) ∙ e
 
 -- ---- the candidate's rows
 
-at-put_rows : (rs rows : List TreeRow) (p : List ℕ) → Ascends by_text tree_path rs → at by_text tree_path p (put_rows rs rows) ≡ option_or (at by_text tree_path p rs) (at by_text tree_path p rows)
+pub at-put_rows : (rs rows : List TreeRow) (p : List ℕ) → Ascends by_text tree_path rs → at by_text tree_path p (put_rows rs rows) ≡ option_or (at by_text tree_path p rs) (at by_text tree_path p rows)
 at-put_rows [] rows p h = refl
 at-put_rows (r ∷ rs) rows p h = at-put_rows rs (put_by text_cmp tree_path r rows) p h.1 ∙ ap (option_or (at by_text tree_path p rs)) (at-put by_text tree_path p r rows) ∙ go (bytes_eq p r.path) refl
   where

@@ -2,6 +2,7 @@
 use Rattle.std.proofs.Common.{◌≡◌, ℕ, refl, ◌∙◌, ap, List, ◌∷◌, false, ◌&&◌}
 use Rattle.std.specs.Prelude.{is_some}
 use Rattle.std.specs.Option.{option_map}
+use Rattle.std.proofs.lemmas.Bool.{and_right}
 use Rattle.ae_base.specs.declared.words.Ground.TheVariants as part
 use Rattle.ae_types.specs.declared.project.Attributes.{Attributes}
 use Rattle.ae_types.specs.declared.change.ChangeFile.{ChangeFile}
@@ -13,7 +14,7 @@ use Rattle.ae_log.specs.Files.{file, next_version}
 use Rattle.ae_log.specs.Observed.{observation_with, change, change_with}
 use Rattle.ae_log.specs.After.{after, change_after}
 use Rattle.ae_log.proofs.Lists.{option_map-step}
-use Rattle.ae_log.proofs.Steps.{of_change, happens, same-parts, changes-step, numbers-stay, no_hold}
+use Rattle.ae_log.proofs.Steps.{of_change, happens, same-parts, changes-step, numbers-stay}
 use Rattle.ae_log.proofs.RunSteps.{evidence-cleared}
 use Rattle.ae_log.proofs.FileSteps.{files-thaw}
 use Rattle.ae_log.proofs.LockSteps.{OneHolder, locks-go}
@@ -42,19 +43,19 @@ module _ (log : Log) (who : List ℕ) (when c : ℕ) (a : Attributes) (one : One
   with-end_undo = same-parts _ _ refl
       (numbers-stay log who when c on.EndUndo (λ n e. refl))
       refl
-      (locks-go log who when c on.EndUndo one (λ p n e. no_hold (is_there (course log n) && is_some (file (course log n) p)) false refl))
+      (locks-go log who when c on.EndUndo one (λ p n e. and_right (is_there (course log n) && is_some (file (course log n) p)) false refl))
       (changes-step log who when c on.EndUndo _ (λ s ss. refl) (λ n e. change-end_undo (course log n) log who when (next_version log) c n))
 
   pub with-fail : observation_with (of_change who when c on.Fail ∷ log) a ≡ after (observation_with log a) (of_change who when c on.Fail)
   with-fail = same-parts _ _ refl
       (numbers-stay log who when c on.Fail (λ n e. refl))
       refl
-      (locks-go log who when c on.Fail one (λ p n e. no_hold (is_there (course log n) && is_some (file (course log n) p)) false refl))
+      (locks-go log who when c on.Fail one (λ p n e. and_right (is_there (course log n) && is_some (file (course log n) p)) false refl))
       (changes-step log who when c on.Fail _ (λ s ss. refl) (λ n e. change-fail (course log n) log who when (next_version log) c n))
 
   pub with-integrate_fail : observation_with (of_change who when c on.IFail ∷ log) a ≡ after (observation_with log a) (of_change who when c on.IFail)
   with-integrate_fail = same-parts _ _ refl
       (numbers-stay log who when c on.IFail (λ n e. refl))
       refl
-      (locks-go log who when c on.IFail one (λ p n e. no_hold (is_there (course log n) && is_some (file (course log n) p)) false refl))
+      (locks-go log who when c on.IFail one (λ p n e. and_right (is_there (course log n) && is_some (file (course log n) p)) false refl))
       (changes-step log who when c on.IFail _ (λ s ss. refl) (λ n e. change-integrate_fail (course log n) log who when (next_version log) c n))

@@ -3,12 +3,13 @@
 use Rattle.std.proofs.Common.{◌≡◌, refl, sym, ◌∙◌, ap, [], ◌∷◌, Option, Some, None, Bool, true, false, cond, not}
 use Rattle.std.specs.List.{filter_map}
 use Rattle.std.specs.Option.{option_map, option_and_then}
+use Rattle.std.proofs.lemmas.Option.{same_Some}
 use Rattle.ae_base.specs.declared.words.Ground.{Ground}
 use Rattle.ae_types.specs.declared.change.Evidence.{Evidence}
 use Rattle.ae_types.specs.Ordered.{itself}
 use Rattle.ae_types.specs.Runs.{RunKey, same_during, same_run, run_of}
 use Rattle.ae_types.proofs.Keys.{by_run, same_run-is}
-use Rattle.ae_types.proofs.Ordered.{listed-put, member-with_key, put-ascends, apart, some-is, none-some}
+use Rattle.ae_types.proofs.Ordered.{listed-put, member-with_key, put-ascends, apart, none-some}
 use Rattle.ae_log.specs.declared.event.Event.{Event}
 use Rattle.ae_log.specs.declared.event.EventKind.{EventKind}
 use Rattle.ae_log.specs.declared.event.EventKind.TheVariants as on
@@ -25,7 +26,7 @@ standing-makes mark [] t e = none-some t e
 standing-makes mark (s ∷ ss) t e = go (mark s.event.what) refl e (standing-makes mark ss t)
   where
     go : (m : Mark) → mark s.event.what ≡ m → marked m s (standing mark ss) ≡ Some t → (standing mark ss ≡ Some t → mark t.event.what ≡ makes) → mark t.event.what ≡ makes
-    go makes is f rest = ap (λ (u : Happened). mark u.event.what) (sym (some-is s t f)) ∙ is
+    go makes is f rest = ap (λ (u : Happened). mark u.event.what) (sym (same_Some s t f)) ∙ is
     go ends is f rest = none-some t f
     go leaves is f rest = rest f
 
@@ -34,7 +35,7 @@ makes_run true e = refl
 makes_run false e = cc
 
 run_row_key : (key : RunKey) (e : Event) (what : EventKind) (row : Evidence) → run_mark key what ≡ makes → option_map (evidence_row e) (run_in what) ≡ Some row → run_of row ≡ key
-run_row_key key e (on.Run r) row m is = ap (λ (x : Evidence). run_of x) (sym (some-is (evidence_row e r) row is)) ∙ sym (same_run-is key (key_of_run r) (makes_run _ m))
+run_row_key key e (on.Run r) row m is = ap (λ (x : Evidence). run_of x) (sym (same_Some (evidence_row e r) row is)) ∙ sym (same_run-is key (key_of_run r) (makes_run _ m))
 run_row_key key e what row m is = none-some row is
 
 -- a row of evidence is at its own key

@@ -5,6 +5,8 @@ use Rattle.std.specs.List.{find}
 use Rattle.std.specs.Option.{option_map}
 use Rattle.std.specs.Str.{bytes_eq}
 use Rattle.std.proofs.lemmas.List.{length-map}
+use Rattle.std.proofs.lemmas.Bool.{false≢true}
+use Rattle.std.proofs.lemmas.Option.{same_Some}
 use Rattle.ae_base.specs.Rows.{Rows}
 use Rattle.ae_base.specs.declared.words.Phase.{Phase}
 use Rattle.ae_base.specs.declared.words.Phase.TheVariants as phase
@@ -21,7 +23,7 @@ use Rattle.ae_types.specs.Phases.{is_awaiting_development, is_integrating, is_co
 use Rattle.ae_types.specs.Versions.{Place, in_table, in_change, version_at, has_units, end_of, meet}
 use Rattle.ae_types.specs.Sound.{Sound, IsMoment, FitsLength, IsGoodRole, IsGoodProject, IsGoodChange, AreVersions, AreLocks}
 use Rattle.ae_types.proofs.Keys.{by_text, by_number}
-use Rattle.ae_types.proofs.Ordered.{at-map, map-ascends, found-key, some-is, none-some}
+use Rattle.ae_types.proofs.Ordered.{at-map, map-ascends, found-key, none-some}
 use Rattle.ae_types.proofs.Splits.{and4}
 use Rattle.ae_log.specs.declared.event.EventKind.TheVariants as on
 use Rattle.ae_log.specs.Files.{Version, numbered, present, ref_of, version_of, frozen_file}
@@ -30,7 +32,7 @@ use Rattle.ae_log.specs.After.{after, change_after, where_number, frozen_as, wit
 use Rattle.ae_log.specs.Applies.{ends_in, MayEnd, made_version, files_shape}
 use Rattle.ae_log.proofs.Steps.{of_change}
 use Rattle.ae_log.proofs.LockSteps.{at-with_locks, with_locks-ascends}
-use Rattle.ae_log.proofs.OneChange.{never, was, each-own, own-good}
+use Rattle.ae_log.proofs.OneChange.{was, each-own, own-good}
 use Rattle.ae_log.proofs.Steady.{steady-deltas, steady-entries}
 use Rattle.ae_log.proofs.Still.{frozen_of, version_in}
 use Rattle.ae_log.proofs.Calm.{Calm, steady-of, calm-integrating, calm-candidate}
@@ -57,7 +59,7 @@ ended phase.BeingReviewed e = record { awaiting = refl; reviewed = refl; integra
 ended phase.AwaitingReview e = record { awaiting = refl; reviewed = refl; integrator = refl; integrating = refl; completed = refl; holds = refl }
 ended _ e = cc
 
-is_some-map : {A B : Type 0} (f : A → B) (v : Option A) → is_some (option_map f v) ≡ is_some v
+pub is_some-map : {A B : Type 0} (f : A → B) (v : Option A) → is_some (option_map f v) ≡ is_some v
 is_some-map f (Some v) = refl
 is_some-map f None = refl
 
@@ -78,7 +80,7 @@ module _ (o : Observation) (s : Sound o) (who : List ℕ) (when c : ℕ) (moment
   good = s.changes.good c x at_c
 
   its : (y : Change) → change_in o.changes c ≡ Some y → y ≡ x
-  its y e = some-is y x (sym e ∙ at_c)
+  its y e = same_Some y x (sym e ∙ at_c)
 
   so : Ended to
   so = ended to may.fits.to_review
@@ -111,18 +113,18 @@ module _ (o : Observation) (s : Sound o) (who : List ℕ) (when c : ℕ) (moment
 
   -- a file has a version exactly where it isn't removed
   froze : (q : List ℕ) (f : ChangeFile) (g : Option ChangeFile) → file_in x.files q ≡ g → option_map freeze g ≡ Some f → is_some f.frozen ≡ (holds_locks to && not (is_remove f.action))
-  froze q f (Some g) eg e = ap (λ (k : ChangeFile). is_some k.frozen) (sym (some-is (freeze g) f e))
+  froze q f (Some g) eg e = ap (λ (k : ChangeFile). is_some k.frozen) (sym (same_Some (freeze g) f e))
       ∙ is_some-map ref_of (version_of (frozen_file (numbered next tree places) g.path))
       ∙ version-shown next tree places g.path
       ∙ ap (λ (rows : List (List ℕ × Bool)). shown (find (λ (row : List ℕ × Bool). bytes_eq g.path row.0) rows)) may.fits.shape
       ∙ files-shown x.files g.path g (ap (file_in x.files) (found-key by_text file_path q x.files g eg) ∙ eg)
-      ∙ ap (λ (k : ChangeFile). not (is_remove k.action)) (some-is (freeze g) f e)
+      ∙ ap (λ (k : ChangeFile). not (is_remove k.action)) (same_Some (freeze g) f e)
       ∙ sym (ap (λ b. b && not (is_remove f.action)) so.holds)
   froze q f None eg e = none-some f e
 
   -- and none is too long
   short : (q : List ℕ) (f : ChangeFile) (g : Option ChangeFile) → option_map freeze g ≡ Some f → FitsLength f.frozen
-  short q f (Some g) e = subst FitsLength (ap (λ (k : ChangeFile). k.frozen) (some-is (freeze g) f e)) (go (made_version next tree places g.path) refl)
+  short q f (Some g) e = subst FitsLength (ap (λ (k : ChangeFile). k.frozen) (same_Some (freeze g) f e)) (go (made_version next tree places g.path) refl)
     where
       go : (v : Option VersionRef) → made_version next tree places g.path ≡ v → FitsLength v
       go (Some v) ev = may.space.short g.path v ev
@@ -142,7 +144,7 @@ module _ (o : Observation) (s : Sound o) (who : List ℕ) (when c : ℕ) (moment
       ascend = map-ascends by_text file_path freeze (λ _. refl) x.files good.files.ascend;
       frozen = λ q f e. froze q f (file_in x.files q) refl (sym (file-then q) ∙ e);
       lengths = λ q f e. short q f (file_in x.files q) (sym (file-then q) ∙ e);
-      none_yet = λ e. never (sym so.awaiting ∙ e);
+      none_yet = λ e. absurd (false≢true (sym so.awaiting ∙ e));
     };
     runs = good.runs;
     history = history-good x.history _ good.history moment;
@@ -152,7 +154,7 @@ module _ (o : Observation) (s : Sound o) (who : List ℕ) (when c : ℕ) (moment
   calm = record {
     integrating = so.integrating ∙ sym (ap is_integrating is);
     completed = so.completed ∙ sym (ap is_completed is);
-    files = λ e. never (sym (ap (λ p. is_integrating p || is_completed p) is) ∙ e);
+    files = λ e. absurd (false≢true (sym (ap (λ p. is_integrating p || is_completed p) is) ∙ e));
   }
 
   -- ---- versions
@@ -195,7 +197,7 @@ module _ (o : Observation) (s : Sound o) (who : List ℕ) (when c : ℕ) (moment
   of-made path v e = go (version_of (frozen_file (numbered next tree places) path)) refl e
     where
       go : (m : Option Version) → version_of (frozen_file (numbered next tree places) path) ≡ m → option_map ref_of m ≡ Some v → Of path v
-      go (Some m) em e = record { version = m; at_path = em; number = ap (λ (k : VersionRef). k.number) (sym (some-is (ref_of m) v e)) }
+      go (Some m) em e = record { version = m; at_path = em; number = ap (λ (k : VersionRef). k.number) (sym (same_Some (ref_of m) v e)) }
       go None em e = none-some v e
 
   -- numbers that are given are greater than those before
@@ -246,7 +248,7 @@ module _ (o : Observation) (s : Sound o) (who : List ℕ) (when c : ℕ) (moment
   from p l e = go (has_file x p) refl (sym (lock-then p) ∙ e)
     where
       go : (b : Bool) → has_file x p ≡ b → cond b (Some (lock_of p c)) (lock_in o.locks p) ≡ Some l → From p l
-      go true b e = own b (ap (λ (k : Lock). k.change) (sym (some-is (lock_of p c) l e)))
+      go true b e = own b (ap (λ (k : Lock). k.change) (sym (same_Some (lock_of p c) l e)))
       go false b e = old e
 
   held-own : (p : List ℕ) → has_file x p ≡ true → (y : Option Change) → change_in later c ≡ y → IfSome y (IsHeld p)
@@ -257,7 +259,7 @@ module _ (o : Observation) (s : Sound o) (who : List ℕ) (when c : ℕ) (moment
   held-old p n i (Some y) e = go (nat_eq c n) refl
     where
       go : (b : Bool) → nat_eq c n ≡ b → IsHeld p y
-      go true same = never (sym (ap holds_locks is) ∙ (subst (λ v. IfSome v (IsHeld p)) (ap (change_in o.changes) (sym (eqb-true c n same)) ∙ at_c) i).0)
+      go true same = absurd (false≢true (sym (ap holds_locks is) ∙ (subst (λ v. IfSome v (IsHeld p)) (ap (change_in o.changes) (sym (eqb-true c n same)) ∙ at_c) i).0))
       go false differ = subst (λ v. IfSome v (IsHeld p)) (other-was n y differ e) i
   held-old p n i None e = tt
 

@@ -1,6 +1,8 @@
 -- An integration begins, or is given up: the rules are kept.
 use Rattle.std.proofs.Common.{◌≡◌, ℕ, refl, sym, ◌∙◌, ap, subst, List, map, Some, true, not}
 use Rattle.std.specs.Prelude.{length}
+use Rattle.std.proofs.lemmas.Bool.{false≢true}
+use Rattle.std.proofs.lemmas.Option.{same_Some}
 use Rattle.ae_base.specs.declared.words.Phase.TheVariants as phase
 use Rattle.ae_base.specs.declared.words.Ground.TheVariants as part
 use Rattle.ae_types.specs.declared.change.Change.{Change}
@@ -10,13 +12,12 @@ use Rattle.ae_types.specs.Phases.{is_awaiting_development, is_integrating, is_co
 use Rattle.ae_types.specs.Clashes.{NoneClash}
 use Rattle.ae_types.specs.Trees.{tree_at, overlaid, paths_of}
 use Rattle.ae_types.specs.Sound.{Sound, IsMoment, IsGoodChange}
-use Rattle.ae_types.proofs.Ordered.{some-is}
 use Rattle.ae_log.specs.declared.event.EventKind.{EventKind}
 use Rattle.ae_log.specs.declared.event.EventKind.TheVariants as on
 use Rattle.ae_log.specs.After.{after, change_after, where_number}
 use Rattle.ae_log.specs.Applies.{MayIntegrate}
 use Rattle.ae_log.proofs.Steps.{of_change}
-use Rattle.ae_log.proofs.OneChange.{never, each-own, own-good}
+use Rattle.ae_log.proofs.OneChange.{each-own, own-good}
 use Rattle.ae_log.proofs.Steady.{Steady, steady-deltas, steady-entries}
 use Rattle.ae_log.proofs.Still.{Still, still-versions, still-locks}
 use Rattle.ae_log.proofs.SoundQuiet.{fewer-runs, history-good, files-moved}
@@ -33,7 +34,7 @@ module _ (o : Observation) (s : Sound o) (who : List ℕ) (when c : ℕ) (moment
 
   -- only this change is integrated then
   only : MayIntegrate o x → (n : ℕ) (y : Change) → change_in (map (where_number c (then_by on.IBegin)) o.changes) n ≡ Some y → is_integrating y.phase ≡ true → n ≡ c
-  only may = each-own c (then_by on.IBegin) (λ _. refl) o.changes (λ n y. is_integrating y.phase ≡ true → n ≡ c) (λ y ey i. refl) (λ n y differ ey i. never (sym (may.alone n y ey) ∙ i))
+  only may = each-own c (then_by on.IBegin) (λ _. refl) o.changes (λ n y. is_integrating y.phase ≡ true → n ≡ c) (λ y ey i. refl) (λ n y differ ey i. absurd (false≢true (sym (may.alone n y ey) ∙ i)))
 
   pub sound-integrate_begin : x.phase ≡ phase.AwaitingIntegration → MayIntegrate o x → Sound (after o (of_change who when c on.IBegin))
   sound-integrate_begin is may =
@@ -46,7 +47,7 @@ module _ (o : Observation) (s : Sound o) (who : List ℕ) (when c : ℕ) (moment
           people = record {
             developer = good.people.developer ∙ ap (λ p. not (is_awaiting_development p)) is;
             reviewer = good.people.reviewer ∙ ap is_reviewed is;
-            reviewing = λ e. never (sym e);
+            reviewing = λ e. absurd (false≢true (sym e));
             integrator = refl;
           };
           files = files-moved x.phase phase.BeingIntegrated x.files good.files (ap holds_locks (sym is)) refl;
@@ -62,8 +63,8 @@ module _ (o : Observation) (s : Sound o) (who : List ℕ) (when c : ℕ) (moment
         entries = steady-entries o s c (then_by on.IBegin) (λ _. refl) x at_c steady;
         locks = still-locks o s c (then_by on.IBegin) (λ _. refl) x at_c still;
         candidate = each-own c (then_by on.IBegin) (λ _. refl) o.changes (λ n y. is_integrating y.phase ≡ true → NoneClash (paths_of (overlaid (tree_at (length o.project.deltas) o.files) y)))
-            (λ y ey i. subst (λ (z : Change). NoneClash (paths_of (overlaid (tree_at (length o.project.deltas) o.files) (then_by on.IBegin z)))) (some-is x y (sym at_c ∙ ey)) may.clear)
-            (λ n y differ ey i. never (sym (may.alone n y ey) ∙ i));
+            (λ y ey i. subst (λ (z : Change). NoneClash (paths_of (overlaid (tree_at (length o.project.deltas) o.files) (then_by on.IBegin z)))) (same_Some x y (sym at_c ∙ ey)) may.clear)
+            (λ n y differ ey i. absurd (false≢true (sym (may.alone n y ey) ∙ i)));
       }
 
   -- ---- it is given up
@@ -80,7 +81,7 @@ module _ (o : Observation) (s : Sound o) (who : List ℕ) (when c : ℕ) (moment
           people = record {
             developer = good.people.developer ∙ ap (λ p. not (is_awaiting_development p)) is;
             reviewer = good.people.reviewer ∙ ap is_reviewed is;
-            reviewing = λ e. never (sym e);
+            reviewing = λ e. absurd (false≢true (sym e));
             integrator = refl;
           };
           files = files-moved x.phase phase.AwaitingIntegration x.files good.files (ap holds_locks (sym is)) refl;

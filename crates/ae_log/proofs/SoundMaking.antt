@@ -5,6 +5,8 @@ use Rattle.std.specs.List.{find}
 use Rattle.std.specs.Option.{option_map}
 use Rattle.std.specs.Ordering.{nat_cmp}
 use Rattle.std.proofs.lemmas.List.Elements.{All-cons, All-nil}
+use Rattle.std.proofs.lemmas.Bool.{false≢true}
+use Rattle.std.proofs.lemmas.Option.{same_Some}
 use Rattle.ae_base.specs.declared.words.Phase.{Phase}
 use Rattle.ae_base.specs.declared.words.Phase.TheVariants as phase
 use Rattle.ae_types.specs.declared.change.Change.{Change}
@@ -20,11 +22,10 @@ use Rattle.ae_types.specs.Phases.{is_awaiting_development, is_integrating, is_co
 use Rattle.ae_types.specs.Versions.{Place, in_table, in_change, version_at}
 use Rattle.ae_types.specs.Sound.{Sound, IsMoment, IsGoodChange, EachChange}
 use Rattle.ae_types.proofs.Keys.{by_number}
-use Rattle.ae_types.proofs.Ordered.{at-put, put-ascends, at-filter, filter-ascends, if_so, found-key, member-with_key, some-is, none-some}
+use Rattle.ae_types.proofs.Ordered.{at-put, put-ascends, at-filter, filter-ascends, if_so, found-key, member-with_key, none-some}
 use Rattle.ae_log.specs.declared.event.EventKind.TheVariants as on
 use Rattle.ae_log.specs.After.{after, new_change, change_after}
 use Rattle.ae_log.proofs.Steps.{of_change}
-use Rattle.ae_log.proofs.OneChange.{never}
 use Rattle.ae_log.proofs.Still.{version_in}
 use Rattle.ae_log.proofs.Quiet.{quiet-keeps}
 
@@ -41,7 +42,7 @@ module _ (o : Observation) (s : Sound o) (who : List ℕ) (when c : ℕ) (a : Ch
   new = go (change_in o.changes c) refl
     where
       go : (v : Option Change) → change_in o.changes c ≡ v → v ≡ None
-      go (Some x) e = never (sym fresh ∙ s.changes.numbered c x e)
+      go (Some x) e = absurd (false≢true (sym fresh ∙ s.changes.numbered c x e))
       go None e = refl
 
   then_in : (n : ℕ) → change_in with_made n ≡ cond (nat_eq n c) (Some made) (change_in o.changes n)
@@ -62,7 +63,7 @@ module _ (o : Observation) (s : Sound o) (who : List ℕ) (when c : ℕ) (a : Ch
   each P own all n y e = go (nat_eq n c) refl (sym (then_in n) ∙ e)
     where
       go : (b : Bool) → nat_eq n c ≡ b → cond b (Some made) (change_in o.changes n) ≡ Some y → P n y
-      go true is f = subst (λ m. P m y) (sym (eqb-true n c is)) (subst (P c) (some-is made y f) own)
+      go true is f = subst (λ m. P m y) (sym (eqb-true n c is)) (subst (P c) (same_Some made y f) own)
       go false is f = all n y f
 
   -- a change of a number that was there is one that was there
@@ -70,7 +71,7 @@ module _ (o : Observation) (s : Sound o) (who : List ℕ) (when c : ℕ) (a : Ch
   there-before n e = then_in n ∙ go (nat_eq n c) refl
     where
       go : (b : Bool) → nat_eq n c ≡ b → cond b (Some made) (change_in o.changes n) ≡ change_in o.changes n
-      go true is = never (sym fresh ∙ ap (has_number o.numbers) (sym (eqb-true n c is)) ∙ e)
+      go true is = absurd (false≢true (sym fresh ∙ ap (has_number o.numbers) (sym (eqb-true n c is)) ∙ e))
       go false is = refl
 
   version-same : (q : Place) → version_at o.files with_made q ≡ version_at o.files o.changes q
@@ -83,7 +84,7 @@ module _ (o : Observation) (s : Sound o) (who : List ℕ) (when c : ℕ) (a : Ch
 
   -- one that is integrated was there before
   older : (n : ℕ) (y : Change) → change_in with_made n ≡ Some y → is_integrating y.phase ≡ true → change_in o.changes n ≡ Some y
-  older = each (λ n y. is_integrating y.phase ≡ true → change_in o.changes n ≡ Some y) (λ i. never i) (λ n y e i. e)
+  older = each (λ n y. is_integrating y.phase ≡ true → change_in o.changes n ≡ Some y) (λ i. absurd (false≢true i)) (λ n y e i. e)
 
   made-good : IsGoodChange made
   made-good = record {
@@ -117,7 +118,7 @@ module _ (o : Observation) (s : Sound o) (who : List ℕ) (when c : ℕ) (a : Ch
       numbered = λ n d e. numbered_then d.change (s.deltas.numbered n d e);
       completed = λ n d e. subst (λ v. IfSome v (λ (change : Change). is_completed change.phase ≡ true)) (sym (there-before d.change (s.deltas.numbered n d e))) (s.deltas.completed n d e);
       once = λ m n d e ed ee same there. s.deltas.once m n d e ed ee same (ap (λ (v : Option Change). is_some v) (sym (there-before d.change (s.deltas.numbered m d ed))) ∙ there);
-      named = each (λ n y. is_completed y.phase ≡ true → is_some (delta_of o.project.deltas n) ≡ true) (λ i. never i) s.deltas.named;
+      named = each (λ n y. is_completed y.phase ≡ true → is_some (delta_of o.project.deltas n) ≡ true) (λ i. absurd (false≢true i)) s.deltas.named;
     };
     versions = record {
       below = λ p v e. s.versions.below p v (sym (version-same p) ∙ e);
@@ -130,7 +131,7 @@ module _ (o : Observation) (s : Sound o) (who : List ℕ) (when c : ℕ) (a : Ch
       ascend = s.locks.ascend;
       numbered = λ p l e. numbered_then l.change (s.locks.numbered p l e);
       held = λ p l e. subst (λ v. IfSome v (λ (change : Change). (holds_locks change.phase ≡ true) × (has_file change p ≡ true))) (sym (there-before l.change (s.locks.numbered p l e))) (s.locks.held p l e);
-      taken = each (λ n y. holds_locks y.phase ≡ true → (p : List ℕ) → has_file y p ≡ true → option_map (λ (lock : Lock). lock.change) (lock_in o.locks p) ≡ Some n) (λ i. never i) s.locks.taken;
+      taken = each (λ n y. holds_locks y.phase ≡ true → (p : List ℕ) → has_file y p ≡ true → option_map (λ (lock : Lock). lock.change) (lock_in o.locks p) ≡ Some n) (λ i. absurd (false≢true i)) s.locks.taken;
     };
     candidate = λ n y e i. s.candidate n y (older n y e i) i;
   }
@@ -187,12 +188,12 @@ module _ (o : Observation) (s : Sound o) (who : List ℕ) (when c : ℕ) (x : Ch
       go false e = refl
 
   delta-other : (n : ℕ) (d : DeltaRow) → delta_in o.project.deltas n ≡ Some d → nat_eq c d.change ≡ false
-  delta-other n d e = apart-of d.change (λ is. never (sym (awaits-not-completed x.phase awaits)
-      ∙ its x (λ (change : Change). is_completed change.phase ≡ true) (subst (λ m. IfSome (change_in o.changes m) (λ (change : Change). is_completed change.phase ≡ true)) (sym (eqb-true c d.change is)) (s.deltas.completed n d e))))
+  delta-other n d e = apart-of d.change (λ is. absurd (false≢true (sym (awaits-not-completed x.phase awaits)
+      ∙ its x (λ (change : Change). is_completed change.phase ≡ true) (subst (λ m. IfSome (change_in o.changes m) (λ (change : Change). is_completed change.phase ≡ true)) (sym (eqb-true c d.change is)) (s.deltas.completed n d e)))))
 
   lock-other : (p : List ℕ) (l : Lock) → lock_in o.locks p ≡ Some l → nat_eq c l.change ≡ false
-  lock-other p l e = apart-of l.change (λ is. never (sym (awaits-not-holding x.phase awaits)
-      ∙ (its x (λ (change : Change). (holds_locks change.phase ≡ true) × (has_file change p ≡ true)) (subst (λ m. IfSome (change_in o.changes m) (λ (change : Change). (holds_locks change.phase ≡ true) × (has_file change p ≡ true))) (sym (eqb-true c l.change is)) (s.locks.held p l e))).0))
+  lock-other p l e = apart-of l.change (λ is. absurd (false≢true (sym (awaits-not-holding x.phase awaits)
+      ∙ (its x (λ (change : Change). (holds_locks change.phase ≡ true) × (has_file change p ≡ true)) (subst (λ m. IfSome (change_in o.changes m) (λ (change : Change). (holds_locks change.phase ≡ true) × (has_file change p ≡ true))) (sym (eqb-true c l.change is)) (s.locks.held p l e))).0)))
 
   version-was : (q : Place) (v : VersionRef) → version_at o.files others q ≡ Some v → version_at o.files o.changes q ≡ Some v
   version-was (in_table path delta) v e = e
@@ -212,7 +213,7 @@ module _ (o : Observation) (s : Sound o) (who : List ℕ) (when c : ℕ) (x : Ch
     where
       go : (y : Option Change) → change_in others n ≡ y → is_some y ≡ true → is_some (change_in o.changes n) ≡ true
       go (Some y) ey f = ap (λ (v : Option Change). is_some v) (stays n y ey).was
-      go None ey f = never f
+      go None ey f = absurd (false≢true f)
 
   pub sound-undo : Sound (after o (of_change who when c on.NewUndo))
   sound-undo = record {

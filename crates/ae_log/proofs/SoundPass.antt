@@ -5,6 +5,8 @@ use Rattle.std.specs.List.{filter_map}
 use Rattle.std.specs.Option.{option_map, option_and_then, option_or}
 use Rattle.std.proofs.lemmas.List.{length-map}
 use Rattle.std.proofs.lemmas.List.Folds.{find-append}
+use Rattle.std.proofs.lemmas.Bool.{false≢true}
+use Rattle.std.proofs.lemmas.Option.{same_Some}
 use Rattle.ae_base.specs.declared.words.Phase.{Phase}
 use Rattle.ae_base.specs.declared.words.Phase.TheVariants as phase
 use Rattle.ae_base.specs.declared.words.Role.{Role}
@@ -25,11 +27,11 @@ use Rattle.ae_types.specs.Trees.{past_in, paths_of, tree_at, tree_row, overlaid}
 use Rattle.ae_types.specs.Versions.{Place, in_table, in_change, version_at}
 use Rattle.ae_types.specs.Sound.{Sound, IsMoment, FitsLength, IsGoodRole, IsGoodProject, IsGoodRow, AreRows, IsGoodChange, AreDeltas, AreVersions, IsDelta}
 use Rattle.ae_types.proofs.Keys.{by_number}
-use Rattle.ae_types.proofs.Ordered.{Ascends, apart, some-is, none-some}
+use Rattle.ae_types.proofs.Ordered.{Ascends, apart, none-some}
 use Rattle.ae_log.specs.declared.event.EventKind.TheVariants as on
 use Rattle.ae_log.specs.After.{after, change_after, where_number, thawed, without_locks, rows_after, all_entered, files_of, new_entry, row_of}
 use Rattle.ae_log.proofs.Steps.{of_change}
-use Rattle.ae_log.proofs.OneChange.{never, was, each-own, own-good}
+use Rattle.ae_log.proofs.OneChange.{was, each-own, own-good}
 use Rattle.ae_log.proofs.Still.{frozen_of, version_in}
 use Rattle.ae_log.proofs.Gone.{locks-gone, thawed-found, thawed-none, thawed-good}
 use Rattle.ae_log.proofs.OneMore.{counts_up-snoc, counted, ascends-snoc, either, some-or, new-or}
@@ -61,10 +63,10 @@ module _ (o : Observation) (s : Sound o) (who : List ℕ) (when c : ℕ) (moment
   good = s.changes.good c x at_c
 
   its : (y : Change) → change_in o.changes c ≡ Some y → y ≡ x
-  its y e = some-is y x (sym e ∙ at_c)
+  its y e = same_Some y x (sym e ∙ at_c)
 
   not_done : is_completed x.phase ≡ true → ⊥
-  not_done e = never (sym (ap is_completed is) ∙ e)
+  not_done e = absurd (false≢true (sym (ap is_completed is) ∙ e))
 
   -- an earlier delta is another change's
   older : (n : ℕ) (d : DeltaRow) → delta_in o.project.deltas n ≡ Some d → d.change ≡ c → ⊥
@@ -153,7 +155,7 @@ module _ (o : Observation) (s : Sound o) (who : List ℕ) (when c : ℕ) (moment
       }
 
       go : (f : Option ChangeFile) → file_in x.files p ≡ f → row_with delta f (row_in o.files p) ≡ Some r → IsGoodRow (length (o.project.deltas ++ new_delta ∷ [])) r
-      go (Some f) ef e = subst (IsGoodRow (length (o.project.deltas ++ new_delta ∷ []))) (some-is _ r e) (made f ef)
+      go (Some f) ef e = subst (IsGoodRow (length (o.project.deltas ++ new_delta ∷ []))) (same_Some _ r e) (made f ef)
       go None ef e = let g = s.rows.good p r e in record { some = g.some; ascends = g.ascends; there = λ n y f. let u = g.there n y f in (u.0, bound n _ _ more u.1); lengths = g.lengths }
 
   tree-then : tree_at (length deltas_then) rows_then ≡ overlaid (tree_at (length o.project.deltas) o.files) x
@@ -173,7 +175,7 @@ module _ (o : Observation) (s : Sound o) (who : List ℕ) (when c : ℕ) (moment
     people = record {
       developer = good.people.developer ∙ ap (λ q. not (is_awaiting_development q)) is;
       reviewer = good.people.reviewer ∙ ap is_reviewed is;
-      reviewing = λ e. never (sym e);
+      reviewing = λ e. absurd (false≢true (sym e));
       integrator = good.people.integrator ∙ ap has_integrator is;
     };
     files = thawed-good x.phase phase.Completed x.files good.files refl refl;
@@ -199,7 +201,7 @@ module _ (o : Observation) (s : Sound o) (who : List ℕ) (when c : ℕ) (moment
     where
       go : (y : Option Change) → change_in later n ≡ y → is_some y ≡ true → is_some (change_in o.changes n) ≡ true
       go (Some y) e i = ap (λ (v : Option Change). is_some v) (other-was n y differ e)
-      go None e i = never i
+      go None e i = absurd (false≢true i)
 
   deltas-good : AreDeltas deltas_then o.numbers later
   deltas-good = record {
@@ -310,7 +312,7 @@ module _ (o : Observation) (s : Sound o) (who : List ℕ) (when c : ℕ) (moment
           go None None i = i
 
       others : (p : List ℕ) (g : Option ChangeFile) (r : FileRow) (z : FileVersion) → row_with delta g (row_in o.files p) ≡ Some r → entry_in r.past n ≡ Some z → has_file y p ≡ true
-      others p (Some g) r z er ez = either (entry_in (past_in (row_in o.files p)) n) (nat_eq n delta) (new_entry delta g) z (sym (entry-found (past_in (row_in o.files p)) g n) ∙ ap (λ (k : FileRow). entry_in k.past n) (some-is _ r er) ∙ ez)
+      others p (Some g) r z er ez = either (entry_in (past_in (row_in o.files p)) n) (nat_eq n delta) (new_entry delta g) z (sym (entry-found (past_in (row_in o.files p)) g n) ∙ ap (λ (k : FileRow). entry_in k.past n) (same_Some _ r er) ∙ ez)
           (λ before. go (row_in o.files p) refl before)
           (λ at_n _. absurd (old (eqb-true n _ at_n)))
         where
@@ -332,7 +334,7 @@ module _ (o : Observation) (s : Sound o) (who : List ℕ) (when c : ℕ) (moment
       entered : (p : List ℕ) (f : ChangeFile) (g : Option ChangeFile) → file_in x.files p ≡ g → option_map thawed g ≡ Some f → IsSomeAnd (row_in rows_then p) (λ (r : FileRow). IsSomeAnd (entry_in r.past delta) (IsEntry f))
       entered p f (Some g) eg e = subst (λ v. IsSomeAnd v (λ (r : FileRow). IsSomeAnd (entry_in r.past delta) (IsEntry f))) (sym (row-found p ∙ ap (λ v. row_with delta v (row_in o.files p)) eg))
           (subst (λ v. IsSomeAnd v (IsEntry f)) (sym (entry-found (past_in (row_in o.files p)) g delta ∙ ap (λ v. option_or v (cond (nat_eq delta delta) (Some (new_entry delta g)) None)) (none-old p _ refl) ∙ ap (λ b. cond b (Some (new_entry delta g)) None) (by_number.same_self delta)))
-          ((s.changes.good c x at_c).files.frozen p g eg ∙ ap (λ (q : Phase). holds_locks q && not (is_remove g.action)) is ∙ ap (λ (k : ChangeFile). not (is_remove k.action)) (some-is (thawed g) f e)))
+          ((s.changes.good c x at_c).files.frozen p g eg ∙ ap (λ (q : Phase). holds_locks q && not (is_remove g.action)) is ∙ ap (λ (k : ChangeFile). not (is_remove k.action)) (same_Some (thawed g) f e)))
       entered p f None eg e = none-some f e
 
       others : (p : List ℕ) (g : Option ChangeFile) (r : FileRow) (z : FileVersion) → row_with delta g (row_in o.files p) ≡ Some r → entry_in r.past delta ≡ Some z → is_some (option_map thawed g) ≡ true

@@ -4,6 +4,8 @@ use Rattle.std.proofs.Common.{◌≡◌, ℕ, ◌≤◌, refl, sym, ◌∙◌, a
 use Rattle.std.specs.Prelude.{length, is_some, filter, All}
 use Rattle.std.specs.Str.{bytes_eq}
 use Rattle.std.proofs.lemmas.List.Elements.{All-append, All-cons, All-nil}
+use Rattle.std.proofs.lemmas.Bool.{false≢true}
+use Rattle.std.proofs.lemmas.Option.{same_Some}
 use Rattle.ae_base.specs.declared.words.Action.{Action}
 use Rattle.ae_base.specs.declared.words.Usage.{Usage}
 use Rattle.ae_base.specs.declared.words.Ground.{Ground}
@@ -21,14 +23,13 @@ use Rattle.ae_types.specs.Phases.{is_awaiting_development, is_integrating, is_co
 use Rattle.ae_types.specs.Runs.{RunKey, run_of, same_during, evidence_in}
 use Rattle.ae_types.specs.Sound.{Sound, IsMoment, FitsLength, IsGoodChange, AreFiles, AreRuns, ArePeople}
 use Rattle.ae_types.proofs.Keys.{by_text, by_run}
-use Rattle.ae_types.proofs.Ordered.{Order, at, Ascends, at-put, put-ascends, at-filter, filter-ascends, if_so, some-is, none-some}
+use Rattle.ae_types.proofs.Ordered.{Order, at, Ascends, at-put, put-ascends, at-filter, filter-ascends, if_so, none-some}
 use Rattle.ae_log.specs.declared.event.EventKind.{EventKind}
 use Rattle.ae_log.specs.declared.event.EventKind.TheVariants as on
 use Rattle.ae_log.specs.declared.event.RunEvent.{RunEvent}
 use Rattle.ae_log.specs.Runs.{evidence_row}
 use Rattle.ae_log.specs.After.{after, change_after, new_file, with_file, without_file, without_runs}
 use Rattle.ae_log.proofs.Steps.{of_change}
-use Rattle.ae_log.proofs.OneChange.{never}
 use Rattle.ae_log.proofs.Still.{frozen_of}
 use Rattle.ae_log.proofs.Quiet.{quiet-keeps}
 
@@ -70,13 +71,13 @@ files-moved p q files a same not_yet = record {
   ascend = a.ascend;
   frozen = λ path file e. a.frozen path file e ∙ ap (λ b. b && not (is_remove file.action)) (sym same);
   lengths = a.lengths;
-  none_yet = λ e. never (sym not_yet ∙ e);
+  none_yet = λ e. absurd (false≢true (sym not_yet ∙ e));
 }
 
 no-files : (p : Phase) → AreFiles p []
 no-files p = record { few = omega arith; ascend = tt; frozen = λ path file e. none-some file e; lengths = λ path file e. none-some file e; none_yet = λ e. refl }
 
-not-some : {A : Type 0} (v : Option A) → is_some v ≡ false → v ≡ None
+pub not-some : {A : Type 0} (v : Option A) → is_some v ≡ false → v ≡ None
 not-some None e = refl
 not-some (Some v) e = cc
 
@@ -122,9 +123,9 @@ module _ (o : Observation) (s : Sound o) (who : List ℕ) (when c : ℕ) (moment
   pub sound-begin_undo : x.phase ≡ phase.BeingDeveloped → Sound (after o (of_change who when c on.BeginUndo))
   sound-begin_undo is = quiet-keeps o s c (then_by on.BeginUndo) (λ _. refl) x at_c
       (record {
-        calm = record { integrating = ap is_integrating (sym is); completed = ap is_completed (sym is); files = λ e. never (sym (ap (λ p. is_integrating p || is_completed p) is) ∙ e) };
+        calm = record { integrating = ap is_integrating (sym is); completed = ap is_completed (sym is); files = λ e. absurd (false≢true (sym (ap (λ p. is_integrating p || is_completed p) is) ∙ e)) };
         holds = ap holds_locks (sym is);
-        files = λ e. never (sym (ap holds_locks is) ∙ e);
+        files = λ e. absurd (false≢true (sym (ap holds_locks is) ∙ e));
         frozen = λ p. sym (unfrozen x good (ap holds_locks is) p);
       })
       (record {
@@ -153,9 +154,9 @@ module _ (o : Observation) (s : Sound o) (who : List ℕ) (when c : ℕ) (moment
       → Sound (after o (of_change who when c (on.File p action usage origin)))
   sound-put p action usage origin is few = quiet-keeps o s c (then_by (on.File p action usage origin)) (λ _. refl) x at_c
       (record {
-        calm = record { integrating = refl; completed = refl; files = λ e. never (sym (ap (λ p. is_integrating p || is_completed p) is) ∙ e) };
+        calm = record { integrating = refl; completed = refl; files = λ e. absurd (false≢true (sym (ap (λ p. is_integrating p || is_completed p) is) ∙ e)) };
         holds = refl;
-        files = λ e. never (sym (ap holds_locks is) ∙ e);
+        files = λ e. absurd (false≢true (sym (ap holds_locks is) ∙ e));
         frozen = λ q. then_none q ∙ sym (unfrozen x good idle q);
       })
       (record {
@@ -165,7 +166,7 @@ module _ (o : Observation) (s : Sound o) (who : List ℕ) (when c : ℕ) (moment
           ascend = put-ascends by_text file_path made x.files good.files.ascend;
           frozen = λ q f e. ap (λ (v : Option VersionRef). is_some v) (ap frozen_of (sym e) ∙ then_none q) ∙ sym (ap (λ b. b && not (is_remove f.action)) idle);
           lengths = λ q f e. subst FitsLength (sym (ap frozen_of (sym e) ∙ then_none q)) tt;
-          none_yet = λ e. never (sym (ap is_awaiting_development is) ∙ e);
+          none_yet = λ e. absurd (false≢true (sym (ap is_awaiting_development is) ∙ e));
         };
         runs = good.runs;
         history = good.history;
@@ -187,9 +188,9 @@ module _ (o : Observation) (s : Sound o) (who : List ℕ) (when c : ℕ) (moment
   pub sound-out : (p : List ℕ) → x.phase ≡ phase.BeingDeveloped → Sound (after o (of_change who when c (on.Unfile p)))
   sound-out p is = quiet-keeps o s c (then_by (on.Unfile p)) (λ _. refl) x at_c
       (record {
-        calm = record { integrating = refl; completed = refl; files = λ e. never (sym (ap (λ p. is_integrating p || is_completed p) is) ∙ e) };
+        calm = record { integrating = refl; completed = refl; files = λ e. absurd (false≢true (sym (ap (λ p. is_integrating p || is_completed p) is) ∙ e)) };
         holds = refl;
-        files = λ e. never (sym (ap holds_locks is) ∙ e);
+        files = λ e. absurd (false≢true (sym (ap holds_locks is) ∙ e));
         frozen = λ q. then_none q (file_in (without_file p x.files) q) refl ∙ sym (unfrozen x good (ap holds_locks is) q);
       })
       (record {
@@ -199,7 +200,7 @@ module _ (o : Observation) (s : Sound o) (who : List ℕ) (when c : ℕ) (moment
           ascend = filter-ascends by_text file_path _ x.files good.files.ascend;
           frozen = λ q f e. good.files.frozen q f (before q f e);
           lengths = λ q f e. good.files.lengths q f (before q f e);
-          none_yet = λ e. never (sym (ap is_awaiting_development is) ∙ e);
+          none_yet = λ e. absurd (false≢true (sym (ap is_awaiting_development is) ∙ e));
         };
         runs = good.runs;
         history = good.history;
@@ -231,7 +232,7 @@ module _ (o : Observation) (s : Sound o) (who : List ℕ) (when c : ℕ) (moment
       row = evidence_row (of_change who when c (on.Run r)) r
 
       moments : (key : RunKey) (found : Evidence) (b : Bool) → cond b (Some (evidence_row (of_change who when c (on.Run r)) r)) (evidence_in x.evidence key) ≡ Some found → IsMoment found.when
-      moments key found true e = subst (λ (q : Evidence). IsMoment q.when) (some-is (evidence_row (of_change who when c (on.Run r)) r) found e) moment
+      moments key found true e = subst (λ (q : Evidence). IsMoment q.when) (same_Some (evidence_row (of_change who when c (on.Run r)) r) found e) moment
       moments key found false e = (s.changes.good c x at_c).runs.moments key found e
 
   -- ---- review
@@ -243,7 +244,7 @@ module _ (o : Observation) (s : Sound o) (who : List ℕ) (when c : ℕ) (moment
         people = record {
           developer = good.people.developer ∙ ap (λ p. not (is_awaiting_development p)) is;
           reviewer = good.people.reviewer ∙ ap is_reviewed is;
-          reviewing = λ e. never (sym e);
+          reviewing = λ e. absurd (false≢true (sym e));
           integrator = good.people.integrator ∙ ap has_integrator is;
         };
         files = files-moved x.phase phase.BeingReviewed x.files good.files (ap holds_locks (sym is)) refl;
@@ -273,7 +274,7 @@ module _ (o : Observation) (s : Sound o) (who : List ℕ) (when c : ℕ) (moment
         people = record {
           developer = good.people.developer ∙ ap (λ p. not (is_awaiting_development p)) is;
           reviewer = refl;
-          reviewing = λ e. never (sym e);
+          reviewing = λ e. absurd (false≢true (sym e));
           integrator = good.people.integrator ∙ ap has_integrator is;
         };
         files = files-moved x.phase phase.AwaitingIntegration x.files good.files (ap holds_locks (sym is)) refl;
@@ -288,7 +289,7 @@ module _ (o : Observation) (s : Sound o) (who : List ℕ) (when c : ℕ) (moment
         people = record {
           developer = good.people.developer ∙ ap (λ p. not (is_awaiting_development p)) is;
           reviewer = refl;
-          reviewing = λ e. never (sym e);
+          reviewing = λ e. absurd (false≢true (sym e));
           integrator = good.people.integrator ∙ ap has_integrator is;
         };
         files = files-moved x.phase phase.BeingReviewed x.files good.files (ap holds_locks (sym is)) refl;

@@ -1,5 +1,7 @@
 -- A change goes back into development: the rules are kept.
-use Rattle.std.proofs.Common.{◌≡◌, ℕ, refl, sym, ◌∙◌, ap, List, map, Some, Bool, true, false, nat_eq, ◌||◌, not}
+use Rattle.std.proofs.Common.{◌≡◌, ℕ, refl, sym, ◌∙◌, ap, List, map, Some, true, false, nat_eq, not}
+use Rattle.std.proofs.lemmas.Bool.{false≢true, or_from}
+use Rattle.std.proofs.lemmas.Option.{same_Some}
 use Rattle.ae_base.specs.declared.words.Phase.{Phase}
 use Rattle.ae_base.specs.declared.words.Phase.TheVariants as phase
 use Rattle.ae_base.specs.declared.words.Ground.TheVariants as part
@@ -9,13 +11,12 @@ use Rattle.ae_types.specs.Found.{change_in}
 use Rattle.ae_types.specs.Phases.{is_awaiting_development, is_integrating, is_completed, has_integrator}
 use Rattle.ae_types.specs.Sound.{Sound, IsMoment, IsGoodChange}
 use Rattle.ae_types.proofs.Keys.{by_number}
-use Rattle.ae_types.proofs.Ordered.{some-is}
 use Rattle.ae_log.specs.declared.event.EventKind.{EventKind}
 use Rattle.ae_log.specs.declared.event.EventKind.TheVariants as on
 use Rattle.ae_log.specs.After.{after, change_after, where_number}
 use Rattle.ae_log.specs.Applies.{comes_in}
 use Rattle.ae_log.proofs.Steps.{of_change}
-use Rattle.ae_log.proofs.OneChange.{never, each-own, own-good}
+use Rattle.ae_log.proofs.OneChange.{each-own, own-good}
 use Rattle.ae_log.proofs.Steady.{Steady, steady-deltas, steady-entries}
 use Rattle.ae_log.proofs.Calm.{Calm, steady-of, calm-integrating, calm-candidate}
 use Rattle.ae_log.proofs.Gone.{locks-gone, versions-gone, thawed-none, thawed-good}
@@ -38,10 +39,6 @@ pub ended-fail : (p : Phase) → comes_in on.Fail p ≡ true → IsEnded p
 ended-fail phase.BeingReviewed e = record { developed = refl; integrator = refl; integrating = refl; completed = refl }
 ended-fail _ e = cc
 
-neither : (a b : Bool) → a ≡ false → b ≡ false → (a || b) ≡ false
-neither true b e f = cc
-neither false b e f = f
-
 module _ (o : Observation) (s : Sound o) (who : List ℕ) (when c : ℕ) (moment : IsMoment when) (x : Change) (at_c : change_in o.changes c ≡ Some x) where
   abbrev pub good : IsGoodChange x
   good = s.changes.good c x at_c
@@ -53,7 +50,7 @@ module _ (o : Observation) (s : Sound o) (who : List ℕ) (when c : ℕ) (moment
   calm-back y i d e = record {
     integrating = i ∙ sym e.integrating;
     completed = d ∙ sym e.completed;
-    files = λ f. never (sym (neither (is_integrating x.phase) (is_completed x.phase) e.integrating e.completed) ∙ f);
+    files = λ f. absurd (false≢true (sym (or_from (is_integrating x.phase) (is_completed x.phase) e.integrating e.completed) ∙ f));
   }
 
   pub sound-end_undo : IsEnded x.phase → Sound (after o (of_change who when c on.EndUndo))
@@ -96,11 +93,11 @@ module _ (o : Observation) (s : Sound o) (who : List ℕ) (when c : ℕ) (moment
   pub none-integrates : (h : Change → Change) → ((y : Change) → Rattle.ae_types.specs.Found.number_of_change (h y) ≡ Rattle.ae_types.specs.Found.number_of_change y) → x.phase ≡ phase.BeingIntegrated → is_integrating (h x).phase ≡ false
       → (n : ℕ) (y : Change) → change_in (map (where_number c h) o.changes) n ≡ Some y → is_integrating y.phase ≡ true → ⊥
   none-integrates h keeps is not_now = each-own c h keeps o.changes (λ n y. is_integrating y.phase ≡ true → ⊥)
-      (λ y ey i. never (sym not_now ∙ ap (λ (z : Change). is_integrating (h z).phase) (some-is x y (sym at_c ∙ ey)) ∙ i))
-      (λ n y differ ey i. never (sym differ ∙ ap (nat_eq c) (s.integrating.one n c y x ey at_c i (ap is_integrating is)) ∙ by_number.same_self c))
+      (λ y ey i. absurd (false≢true (sym not_now ∙ ap (λ (z : Change). is_integrating (h z).phase) (same_Some x y (sym at_c ∙ ey)) ∙ i)))
+      (λ n y differ ey i. absurd (false≢true (sym differ ∙ ap (nat_eq c) (s.integrating.one n c y x ey at_c i (ap is_integrating is)) ∙ by_number.same_self c)))
 
   steady-integrated : (y : Change) → is_completed y.phase ≡ false → x.phase ≡ phase.BeingIntegrated → Steady x y
-  steady-integrated y d is = record { completed = d ∙ ap is_completed (sym is); files = λ e. never (sym (ap is_completed is) ∙ e) }
+  steady-integrated y d is = record { completed = d ∙ ap is_completed (sym is); files = λ e. absurd (false≢true (sym (ap is_completed is) ∙ e)) }
 
   pub sound-integrate_fail : x.phase ≡ phase.BeingIntegrated → Sound (after o (of_change who when c on.IFail))
   sound-integrate_fail is = let steady = steady-integrated (then_by on.IFail x) refl is in record {

@@ -1,13 +1,13 @@
 -- Events after which no change is completed that wasn't: what the rules ask of deltas stays.
 use Rattle.std.proofs.Common.{◌≡◌, ℕ, refl, sym, ◌∙◌, ap, subst, List, map, Option, Some, None, Bool, true, false, cond, nat_eq, eqb-true}
 use Rattle.std.specs.Prelude.{IfSome}
+use Rattle.std.proofs.lemmas.Option.{same_Some}
 use Rattle.ae_types.specs.declared.change.Change.{Change}
 use Rattle.ae_types.specs.declared.project.DeltaRow.{DeltaRow}
 use Rattle.ae_types.specs.Observation.{Observation}
 use Rattle.ae_types.specs.Found.{change_in, delta_in}
 use Rattle.ae_types.specs.Phases.{is_completed}
 use Rattle.ae_types.specs.Sound.{Sound, AreDeltas, IsDelta}
-use Rattle.ae_types.proofs.Ordered.{some-is}
 use Rattle.ae_log.specs.After.{where_number}
 use Rattle.ae_log.proofs.OneChange.{Keeps, was, own-there}
 
@@ -18,7 +18,7 @@ related R self xs c h keeps x at_c own n y e = let w = was c h keeps xs n y e in
   where
     go : (b : Bool) → nat_eq c n ≡ b → (z : Change) → change_in xs n ≡ Some z → y ≡ cond (nat_eq c n) (h z) z → R z y
     go true is z f same =
-        let zx : z ≡ x = some-is z x (sym f ∙ ap (change_in xs) (sym (eqb-true c n is)) ∙ at_c) in
+        let zx : z ≡ x = same_Some z x (sym f ∙ ap (change_in xs) (sym (eqb-true c n is)) ∙ at_c) in
         subst (λ v. R v y) (sym zx) (subst (R x) (sym (same ∙ ap (λ b. cond b (h z) z) is ∙ ap h zx)) own)
     go false is z f same = subst (R z) (sym (same ∙ ap (λ b. cond b (h z) z) is)) (self z)
 

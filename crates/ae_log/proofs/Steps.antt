@@ -1,7 +1,9 @@
 -- One more event of a change: what it leaves, and what it makes of the change.
-use Rattle.std.proofs.Common.{◌≡◌, ℕ, refl, sym, ◌∙◌, ap, subst, List, ◌∷◌, map, Option, Some, None, Bool, true, false, cond, nat_eq, eqb-true, ◌&&◌}
+use Rattle.std.proofs.Common.{◌≡◌, ℕ, refl, sym, ◌∙◌, ap, subst, List, ◌∷◌, map, Option, Some, None, Bool, true, false, cond, nat_eq, eqb-true}
 use Rattle.std.specs.List.{filter_map}
 use Rattle.std.specs.Option.{option_map}
+use Rattle.std.proofs.lemmas.Bool.{and_right}
+use Rattle.std.proofs.lemmas.Option.{same_Some}
 use Rattle.ae_types.specs.declared.project.Attributes.{Attributes}
 use Rattle.ae_types.specs.declared.change.Change.{Change}
 use Rattle.ae_types.specs.declared.change.ChangeAttributes.{ChangeAttributes}
@@ -9,7 +11,7 @@ use Rattle.ae_types.specs.Observation.{Observation}
 use Rattle.ae_types.specs.Found.{number_of_change, change_at}
 use Rattle.ae_types.specs.Phases.{holds_locks}
 use Rattle.ae_types.proofs.Keys.{by_number}
-use Rattle.ae_types.proofs.Ordered.{member, at-filter_map, some-is, none-some}
+use Rattle.ae_types.proofs.Ordered.{member, at-filter_map, none-some}
 use Rattle.ae_log.specs.declared.event.Event.{Event}
 use Rattle.ae_log.specs.declared.event.EventKind.{EventKind}
 use Rattle.ae_log.specs.Log.{Log, Course, Happened, course, continued}
@@ -118,14 +120,10 @@ pub locks-stay : (log : Log) (who : List ℕ) (when c : ℕ) (kind : EventKind)
 locks-stay log who when c kind this p =
     ap (option_map (lock_of p)) (find-same (λ n. holds p (course (of_change who when c kind ∷ log) n)) (λ n. holds p (course log n)) (λ n. fact-same (holds p) log who when c kind n (this p n)) change_numbers)
 
-pub no_hold : (a b : Bool) → b ≡ false → (a && b) ≡ false
-no_hold true b e = e
-no_hold false b e = refl
-
 -- a change that holds none before and after
 pub holds-none : (log : Log) (who : List ℕ) (when c : ℕ) (kind : EventKind) → holds_locks (phase_of (course log c)) ≡ false → holds_locks (phase_of (continued kind (happens log who when c kind) (course log c))) ≡ false
     → (p : List ℕ) (n : ℕ) → nat_eq c n ≡ true → holds p (continued kind (happens log who when c kind) (course log n)) ≡ holds p (course log n)
-holds-none log who when c kind none none_then p n e = subst (λ m. holds p (continued kind (happens log who when c kind) (course log m)) ≡ holds p (course log m)) (eqb-true c n e) (no_hold _ _ none_then ∙ sym (no_hold _ _ none))
+holds-none log who when c kind none none_then p n e = subst (λ m. holds p (continued kind (happens log who when c kind) (course log m)) ≡ holds p (course log m)) (eqb-true c n e) (and_right _ _ none_then ∙ sym (and_right _ _ none))
 
 -- ---- what is found
 
@@ -140,7 +138,7 @@ pub found-is : (log : Log) (a : Attributes) (c : ℕ) (x : Change) → change_at
 found-is log a c x e = go (member by_number c change_numbers) refl (sym (at-filter_map by_number number_of_change (λ n. change n (course log n)) (own_change log) c change_numbers) ∙ e)
   where
     of : member by_number c change_numbers ≡ true → (b : Option ChangeAttributes) → change_attributes (course log c) ≡ b → option_map (change_with c (course log c)) b ≡ Some x → IsOf log c x
-    of m (Some b) is f = record { numbered = m; given = b; has = is; is = sym (some-is (change_with c (course log c) b) x f) }
+    of m (Some b) is f = record { numbered = m; given = b; has = is; is = sym (same_Some (change_with c (course log c) b) x f) }
     of m None is f = none-some x f
 
     go : (m : Bool) → member by_number c change_numbers ≡ m → cond m (change c (course log c)) None ≡ Some x → IsOf log c x
@@ -158,7 +156,7 @@ pub attributes-of : (log : Log) (o : Observation) → observation log ≡ Some o
 attributes-of log o e = go (attributes log) refl e
   where
     go : (b : Option Attributes) → attributes log ≡ b → option_map (observation_with log) b ≡ Some o → (a : Attributes) × (attributes log ≡ Some a) × (observation_with log a ≡ o)
-    go (Some a) is f = (a, is, some-is (observation_with log a) o f)
+    go (Some a) is f = (a, is, same_Some (observation_with log a) o f)
     go None is f = none-some o f
 
 -- an event that leaves the attributes makes what stands after it

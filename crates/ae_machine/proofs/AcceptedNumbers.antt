@@ -1,15 +1,12 @@
 -- While there are fewer changes than numbers, a number is free.
 use Rattle.std.proofs.Common.{◌≡◌, ℕ, zero, suc, ◌+◌, ◌<◌, ◌≤◌, refl, sym, ◌∙◌, ap, List, [], ◌∷◌, Option, Some, None, Bool, true, false, cond, not, length, nat_eq, eqb-true, ◌⊎◌, inl, inr, find, arith}
 use Rattle.std.specs.Prelude.{filter, is_some, nat_le, IsSomeAnd}
-use Rattle.std.proofs.lemmas.Bool.{leb-true}
+use Rattle.std.proofs.lemmas.Bool.{leb-true, false≢true}
 use Rattle.ae_types.specs.Found.{has_number}
 use Rattle.ae_types.specs.Observation.{Observation}
 use Rattle.ae_log.specs.Applies.{IsChangeNumber}
 use Rattle.ae_log.specs.Settings.{upward, change_numbers}
 use Rattle.ae_machine.specs.Verdict.{is_unused, free_number}
-
-never : {P : Type 0} → false ≡ true → P
-never e = cc
 
 -- the numbers but for one
 abbrev pub others : ℕ → List ℕ → List ℕ
@@ -24,7 +21,7 @@ no-longer n (m ∷ numbers) = go (nat_eq n m) (no-longer n numbers)
     go false h = omega (arith, h)
 
 shorter : (n : ℕ) (numbers : List ℕ) → has_number numbers n ≡ true → length (others n numbers) < length numbers
-shorter n [] h = never h
+shorter n [] h = absurd (false≢true h)
 shorter n (m ∷ numbers) h = go (nat_eq n m) h (shorter n numbers)
   where
     go : (b : Bool) → is_some (cond b (Some m) (find (λ other. nat_eq n other) numbers)) ≡ true → (has_number numbers n ≡ true → length (others n numbers) < length numbers)
@@ -34,7 +31,7 @@ shorter n (m ∷ numbers) h = go (nat_eq n m) h (shorter n numbers)
 
 -- a greater number is still among the others
 still : (n k : ℕ) (numbers : List ℕ) → n < k → has_number numbers k ≡ true → has_number (others n numbers) k ≡ true
-still n k [] above h = never h
+still n k [] above h = absurd (false≢true h)
 still n k (m ∷ numbers) above h = go (nat_eq n m) refl (nat_eq k m) refl h (still n k numbers above)
   where
     go : (b : Bool) → nat_eq n m ≡ b → (d : Bool) → nat_eq k m ≡ d → is_some (cond d (Some m) (find (λ other. nat_eq k other) numbers)) ≡ true

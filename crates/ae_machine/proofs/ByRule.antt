@@ -7,6 +7,7 @@ use Rattle.std.specs.FinMap.Entries.{by_order}
 use Rattle.std.specs.declared.cmp.Ordering.{Ordering}
 use Rattle.std.specs.declared.cmp.Ordering.TheVariants.{Less, Equal, Greater}
 use Rattle.std.proofs.Common.{refl, sym, ap, subst, ◌∙◌, cond}
+use Rattle.ae_files.proofs.Laid.{puts-ascend}
 use Rattle.ae_base.specs.Rows.{Row, Rows, put_row, text_cmp}
 use Rattle.ae_types.specs.declared.change.Change.{Change}
 use Rattle.ae_types.specs.declared.change.ChangeFile.{ChangeFile}
@@ -19,12 +20,11 @@ use Rattle.ae_types.specs.Trees.{TreeRow, tree_path, frozen_row, baseline_of, ca
 use Rattle.ae_types.proofs.Keys.{by_text}
 use Rattle.ae_types.proofs.Ordered.{Above, Ascends, at, at-above, at-filter, at-put, at-rows, filter-ascends, found-key, if_so, put-ascends, rows-ascend}
 use Rattle.ae_types.proofs.TreePaths.{has-at}
-use Rattle.ae_log.proofs.PassedTree.{frozen_own}
+use Rattle.ae_log.proofs.PassedTree.{frozen_own, at-put_rows}
 use Rattle.ae_machine.specs.declared.view.View.{View}
 use Rattle.ae_machine.specs.Call.{Call, Given}
 use Rattle.ae_machine.specs.Rules.{PathsWithRule, PathsEverRule, CandidateRule, BaseTreeRule, there_by, row_by, path_of_row, bytes_row_at, row_with_bytes, is_test_read, row_of_base}
 use Rattle.ae_machine.specs.Sight.{row_at, with_bytes, bytes_of, kept_paths, read_at, tree_read, paths_read, overlaid, only_tests, base_tree}
-use Rattle.ae_machine.proofs.CandidateStands.{at-put_rows, put_rows-ascend}
 use Rattle.ae_machine.proofs.PathsThere.{keys-has, paths-by, with-has}
 use Rattle.ae_machine.proofs.PathsUp.{baseline-up, keys-up, paths-with-ascend, with-up}
 
@@ -67,12 +67,12 @@ candidate-rule o change table a = record {
       at-put_rows (filter_map frozen_row change.files) (filter (outside change) (baseline_of o)) path (rows-ascend by_text file_path tree_path frozen_row frozen_own change.files a)
       ∙ (λ i. option_or (at-rows by_text file_path tree_path frozen_row frozen_own path change.files a i) (at-filter by_text tree_path (outside change) path (baseline_of o) (baseline-up o table) i))
       ∙ by-file change path (file_in change.files path) refl (row_at (baseline_of o) path) (found-key by_text tree_path path (baseline_of o));
-  ascend = put_rows-ascend (filter_map frozen_row change.files) (filter (outside change) (baseline_of o)) (filter-ascends by_text tree_path (outside change) (baseline_of o) (baseline-up o table));
+  ascend = puts-ascend (filter_map frozen_row change.files) (filter (outside change) (baseline_of o)) (filter-ascends by_text tree_path (outside change) (baseline_of o) (baseline-up o table));
 }
 
 -- ---- rows with bytes, one over another
 
-put-is : (path : List ℕ) (bytes : Option (List ℕ)) (rows : Rows) → put_row path bytes rows ≡ put_by text_cmp path_of_row (path, bytes) rows
+pub put-is : (path : List ℕ) (bytes : Option (List ℕ)) (rows : Rows) → put_row path bytes rows ≡ put_by text_cmp path_of_row (path, bytes) rows
 put-is path bytes [] = refl
 put-is path bytes (row ∷ rows) = go (text_cmp path row.0) refl (put-is path bytes rows)
   where
@@ -94,7 +94,7 @@ at-overlaid tree (row ∷ rows) path a =
     go true e = ap (λ (v : Option Row). option_or v (Some row)) (at-above by_text path_of_row path rows (subst (λ p. Above by_text path_of_row p rows) (sym (by_text.same_is path row.0 e)) a.0))
     go false e = refl
 
-overlaid-up : (tree rows : Rows) → Ascends by_text path_of_row tree → Ascends by_text path_of_row (overlaid tree rows)
+pub overlaid-up : (tree rows : Rows) → Ascends by_text path_of_row tree → Ascends by_text path_of_row (overlaid tree rows)
 overlaid-up tree [] a = a
 overlaid-up tree (row ∷ rows) a =
     overlaid-up (put_row row.0 row.1 tree) rows (subst (λ (rs : Rows). Ascends by_text path_of_row rs) (sym (put-is row.0 row.1 tree)) (put-ascends by_text path_of_row row tree a))
@@ -130,11 +130,11 @@ at-bytes bytes (row ∷ rows) path = go (bytes_eq path row.path) (at-bytes bytes
     go true rest = refl
     go false rest = rest
 
-above-bytes : (bytes : ℕ → List ℕ) (k : List ℕ) (rows : List TreeRow) → Above by_text tree_path k rows → Above by_text path_of_row k (with_bytes bytes rows)
+pub above-bytes : (bytes : ℕ → List ℕ) (k : List ℕ) (rows : List TreeRow) → Above by_text tree_path k rows → Above by_text path_of_row k (with_bytes bytes rows)
 above-bytes bytes k [] a = tt
 above-bytes bytes k (row ∷ rows) a = (a.0, above-bytes bytes k rows a.1)
 
-bytes-up : (bytes : ℕ → List ℕ) (rows : List TreeRow) → Ascends by_text tree_path rows → Ascends by_text path_of_row (with_bytes bytes rows)
+pub bytes-up : (bytes : ℕ → List ℕ) (rows : List TreeRow) → Ascends by_text tree_path rows → Ascends by_text path_of_row (with_bytes bytes rows)
 bytes-up bytes [] a = tt
 bytes-up bytes (row ∷ rows) a = (above-bytes bytes row.path rows a.0, bytes-up bytes rows a.1)
 

@@ -7,6 +7,8 @@ use Rattle.std.specs.Cmp.{nat_cmp_is}
 use Rattle.std.specs.declared.cmp.Ordering.{Ordering}
 use Rattle.std.specs.declared.cmp.Ordering.TheVariants.{Less, Equal, Greater}
 use Rattle.std.proofs.Common.{refl, sym, ap, subst, ◌∙◌, cond, if◌then◌else◌, ◌⊎◌, inl, inr}
+use Rattle.std.proofs.lemmas.Bool.{and_parts, not-true}
+use Rattle.std.proofs.lemmas.Option.{same_Some}
 use Rattle.ae_base.specs.Names.{is_slash}
 use Rattle.ae_base.specs.declared.refusal.Refusal.TheVariants.{PathClash}
 use Rattle.ae_types.specs.declared.change.ChangeFile.{ChangeFile}
@@ -22,8 +24,8 @@ use Rattle.ae_base.specs.Rows.{text_cmp}
 use Rattle.ae_types.proofs.Clashing.{has-in, in-has}
 use Rattle.ae_types.proofs.Keys.{by_text}
 use Rattle.ae_types.proofs.Members.{In}
-use Rattle.ae_types.proofs.Ordered.{Above, Ascends, found-key, greater-less, less-other, none-some, some-is}
-use Rattle.ae_types.proofs.Searched.{found-in, in-found}
+use Rattle.ae_types.proofs.Ordered.{Above, Ascends, found-key, greater-less, less-other, none-some}
+use Rattle.ae_types.proofs.Searched.{found-in, in-found, is_less}
 use Rattle.ae_types.proofs.TreePaths.{stands}
 use Rattle.ae_machine.specs.Filing.{are_clear}
 use Rattle.ae_machine.specs.LeastClash.{file_folder, folder_in, least_folder, least_from, lesser, path_in, row_folder, rows_folder, standing_path}
@@ -50,11 +52,6 @@ most-trans c e d ce ed l = go (text_cmp d e) refl
 most-same : (c d : List ℕ) → d ≡ c → AtMost c d
 most-same c d e l = less-other by_text d c l e
 
-less-than : (r : Ordering) → is_lt r ≡ true → r ≡ Less
-less-than Less e = refl
-less-than Equal e = cc
-less-than Greater e = cc
-
 not-less : (r : Ordering) → is_lt r ≡ false → r ≡ Less → ⊥
 not-less Less e is = cc
 not-less Equal e is = cc
@@ -68,7 +65,7 @@ record IsLesser (a b : Option (List ℕ)) (c : List ℕ) : Type 0 where
   right : (d : List ℕ) → b ≡ Some d → AtMost c d
 
 one-of : (v : Option (List ℕ)) (c d : List ℕ) → v ≡ Some c → v ≡ Some d → AtMost c d
-one-of v c d is e = most-same c d (some-is d c (sym e ∙ is))
+one-of v c d is e = most-same c d (same_Some d c (sym e ∙ is))
 
 lesser-is : (a b : Option (List ℕ)) (c : List ℕ) → lesser a b ≡ Some c → IsLesser a b c
 lesser-is None b c e = record { among = inr e; left = λ d i. none-some d i; right = λ d i. one-of b c d e i }
@@ -77,11 +74,11 @@ lesser-is (Some p) (Some q) c e = go (is_lt (text_cmp q p)) refl e
   where
     go : (b : Bool) → is_lt (text_cmp q p) ≡ b → (if b then Some q else Some p) ≡ Some c → IsLesser (Some p) (Some q) c
     go true is e =
-        let below : AtMost c p = λ l. less-other by_text q q (by_text.total.trans q p q (less-than (text_cmp q p) is) (subst (λ (x : List ℕ). text_cmp p x ≡ Less) (sym (some-is q c e)) l)) refl in
-        record { among = inr e; left = λ d i. subst (AtMost c) (some-is p d i) below; right = λ d i. one-of (Some q) c d e i }
+        let below : AtMost c p = λ l. less-other by_text q q (by_text.total.trans q p q (is_less (text_cmp q p) is) (subst (λ (x : List ℕ). text_cmp p x ≡ Less) (sym (same_Some q c e)) l)) refl in
+        record { among = inr e; left = λ d i. subst (AtMost c) (same_Some p d i) below; right = λ d i. one-of (Some q) c d e i }
     go false is e =
-        let below : AtMost c q = λ l. not-less (text_cmp q p) is (subst (λ (x : List ℕ). text_cmp q x ≡ Less) (sym (some-is p c e)) l) in
-        record { among = inl e; left = λ d i. one-of (Some p) c d e i; right = λ d i. subst (AtMost c) (some-is q d i) below }
+        let below : AtMost c q = λ l. not-less (text_cmp q p) is (subst (λ (x : List ℕ). text_cmp q x ≡ Less) (sym (same_Some p c e)) l) in
+        record { among = inl e; left = λ d i. one-of (Some p) c d e i; right = λ d i. subst (AtMost c) (same_Some q d i) below }
 
 lesser-none : (a b : Option (List ℕ)) → lesser a b ≡ None → (a ≡ None) × (b ≡ None)
 lesser-none None b e = (refl, e)
@@ -194,12 +191,12 @@ first-is t [] c up e = none-some c e
 first-is t (x ∷ xs) c up e = go (t x) refl e (first-is t xs c up.1)
   where
     go : (b : Bool) → t x ≡ b → cond b (Some x) (find t xs) ≡ Some c → (find t xs ≡ Some c → IsFirst t xs c) → IsFirst t (x ∷ xs) c
-    go true is e rest = record { there = inl (some-is x c e); passes = ap t (sym (some-is x c e)) ∙ is; least = least }
+    go true is e rest = record { there = inl (same_Some x c e); passes = ap t (sym (same_Some x c e)) ∙ is; least = least }
       where
         least : (f : List ℕ) → In (x ∷ xs) f → t f ≡ true → AtMost c f
-        least f (inl same) p = most-same c f (sym same ∙ some-is x c e)
+        least f (inl same) p = most-same c f (sym same ∙ same_Some x c e)
         least f (inr m) p = λ l.
-            let above : text_cmp c f ≡ Less = subst (λ (z : List ℕ). text_cmp z f ≡ Less) (some-is x c e) (above-in x xs f up.0 m) in
+            let above : text_cmp c f ≡ Less = subst (λ (z : List ℕ). text_cmp z f ≡ Less) (same_Some x c e) (above-in x xs f up.0 m) in
             less-other by_text c c (by_text.total.trans c f c above l) refl
     go false is e rest = let known = rest e in record { there = inr known.there; passes = known.passes; least = least known }
       where
@@ -223,14 +220,6 @@ first-none t (x ∷ xs) e f m p = go (t x) refl e m (first-none t xs)
     go false is e (inr m) rest = rest e f m p
 
 -- ---- the paths of the project
-
-and-true : (a b : Bool) → (a && b) ≡ true → (a ≡ true) × (b ≡ true)
-and-true true b e = (refl, e)
-and-true false b e = cc
-
-not-so : (b : Bool) → not b ≡ true → b ≡ false
-not-so true e = cc
-not-so false e = refl
 
 module _ (o : Observation) (files : List ChangeFile) (s : Sound o) (up : Ascends by_text file_path files) where
   abbrev paths : List (List ℕ)
@@ -259,12 +248,12 @@ module _ (o : Observation) (files : List ChangeFile) (s : Sound o) (up : Ascends
       row_of None is e none = cc
 
       go : (v : Option ChangeFile) → file_in files q ≡ v → there_by v (stands (last_delta o) o.files q) ≡ true → FromRow q ⊎ FromFile q
-      go (Some file) is e = inr (file, found-in by_text file_path files q file is, found-key by_text file_path q files file is, not-so (is_remove file.action) e)
+      go (Some file) is e = inr (file, found-in by_text file_path files q file is, found-key by_text file_path q files file is, not-true (is_remove file.action) e)
       go None is e = inl (row_of (row_in o.files q) refl e is)
 
   pub row-path : (row : FileRow) → In o.files row → row_counts row ≡ true → In paths row.path
   row-path row m e =
-      let both = and-true (is_some (tree_row (last_delta o) row)) (is_none (file_in files row.path)) e in
+      let both = and_parts (is_some (tree_row (last_delta o) row)) (is_none (file_in files row.path)) e in
       has-in paths row.path (there row.path ∙ go (file_in files row.path) both.1 ∙ ap (λ v. is_some (option_and_then (tree_row (last_delta o)) v)) (in-found by_text row_path o.files s.rows.ascend row m) ∙ both.0)
     where
       go : (v : Option ChangeFile) → is_none v ≡ true → there_by v (stands (last_delta o) o.files row.path) ≡ stands (last_delta o) o.files row.path

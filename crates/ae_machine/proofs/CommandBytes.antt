@@ -10,6 +10,7 @@ use Rattle.std.specs.Char.{digit_value}
 use Rattle.std.proofs.lemmas.Bool.Decides.{nat_tests}
 use Rattle.std.proofs.lemmas.Fmt.{decimal_is_IsNumeral}
 use Rattle.std.proofs.lemmas.List.Folds.{list_all-append}
+use Rattle.std.proofs.lemmas.Bool.{and_parts, and_from}
 use Rattle.ae_base.specs.Names.{is_letter, is_name_byte, is_path_byte, is_part, is_slash, parts, before_first_part, IsPath, IsProjectName}
 use Rattle.ae_conf.specs.Config.{Template}
 use Rattle.ae_conf.specs.declared.expansion.Values.{Values}
@@ -39,27 +40,15 @@ path-byte-stands b is = grind (arith, nat_tests)
 letter-stands : (b : ℕ) → is_letter b ≡ true → may_stand_in_command b ≡ true
 letter-stands b is = grind (arith, nat_tests)
 
-first-of : (a b : Bool) → (a && b) ≡ true → a ≡ true
-first-of true b e = refl
-first-of false b e = e
-
-last-of : (a b : Bool) → (a && b) ≡ true → b ≡ true
-last-of true b e = e
-last-of false b e = cc
-
-both : (a b : Bool) → a ≡ true → b ≡ true → (a && b) ≡ true
-both true b e f = f
-both false b e f = e
-
 all-stand : (test : ℕ → Bool) → ((b : ℕ) → test b ≡ true → may_stand_in_command b ≡ true) → (bs : List ℕ) → list_all test bs ≡ true → IsCommand bs
 all-stand test each [] e = refl
-all-stand test each (b ∷ bs) e = both _ _ (each b (first-of _ _ e)) (all-stand test each bs (last-of _ _ e))
+all-stand test each (b ∷ bs) e = and_from _ _ (each b ((and_parts _ _ e).0)) (all-stand test each bs ((and_parts _ _ e).1))
 
 project-stands : (name : List ℕ) → IsProjectName name → IsCommand name
 project-stands [] is = cc
 project-stands (b ∷ bs) is =
-    both _ _ (letter-stands b (first-of (is_letter b) (nat_le (length bs) 63) (first-of (is_letter b && nat_le (length bs) 63) (list_all is_name_byte bs) is)))
-    (all-stand is_name_byte name-byte-stands bs (last-of (is_letter b && nat_le (length bs) 63) (list_all is_name_byte bs) is))
+    and_from _ _ (letter-stands b ((and_parts (is_letter b) (nat_le (length bs) 63) ((and_parts (is_letter b && nat_le (length bs) 63) (list_all is_name_byte bs) is).0)).0))
+    (all-stand is_name_byte name-byte-stands bs ((and_parts (is_letter b && nat_le (length bs) 63) (list_all is_name_byte bs) is).1))
 
 -- each part has only such bytes
 abbrev PartsStand : List (List ℕ) → Type 0
@@ -68,8 +57,8 @@ PartsStand ps = list_all (λ part. list_all may_stand_in_command part) ps ≡ tr
 parts-are : (ps : List (List ℕ)) → list_all is_part ps ≡ true → PartsStand ps
 parts-are [] e = refl
 parts-are (p ∷ ps) e =
-    let here = last-of _ (list_all is_path_byte p) (first-of (is_part p) (list_all is_part ps) e) in
-    both _ _ (all-stand is_path_byte path-byte-stands p here) (parts-are ps (last-of (is_part p) _ e))
+    let here = (and_parts _ (list_all is_path_byte p) ((and_parts (is_part p) (list_all is_part ps) e).0)).1 in
+    and_from _ _ (all-stand is_path_byte path-byte-stands p here) (parts-are ps ((and_parts (is_part p) _ e).1))
 
 slash-stands : (b : ℕ) → is_slash b ≡ true → may_stand_in_command b ≡ true
 slash-stands b is = grind (arith, nat_tests)
@@ -79,15 +68,15 @@ path-of-parts [] all = refl
 path-of-parts (b ∷ bs) all = go (is_slash b) refl all (path-of-parts bs)
   where
     first : (ps : List (List ℕ)) → PartsStand (before_first_part b ps) → (may_stand_in_command b ≡ true) × PartsStand ps
-    first [] all = (first-of _ _ (first-of _ _ all), refl)
-    first (p ∷ ps) all = (first-of _ _ (first-of _ _ all), both _ _ (last-of (may_stand_in_command b) _ (first-of _ _ all)) (last-of (list_all may_stand_in_command (b ∷ p)) _ all))
+    first [] all = ((and_parts _ _ ((and_parts _ _ all).0)).0, refl)
+    first (p ∷ ps) all = ((and_parts _ _ ((and_parts _ _ all).0)).0, and_from _ _ ((and_parts (may_stand_in_command b) _ ((and_parts _ _ all).0)).1) ((and_parts (list_all may_stand_in_command (b ∷ p)) _ all).1))
 
     go : (slash : Bool) → is_slash b ≡ slash → PartsStand (cond slash ([] ∷ parts bs) (before_first_part b (parts bs))) → (PartsStand (parts bs) → IsCommand bs) → IsCommand (b ∷ bs)
-    go true is all rest = both _ _ (slash-stands b is) (rest all)
-    go false is all rest = let p = first (parts bs) all in both _ _ p.0 (rest p.1)
+    go true is all rest = and_from _ _ (slash-stands b is) (rest all)
+    go false is all rest = let p = first (parts bs) all in and_from _ _ p.0 (rest p.1)
 
 path-stands : (path : List ℕ) → IsPath path → IsCommand path
-path-stands path is = path-of-parts path (parts-are (parts path) (last-of _ (list_all is_part (parts path)) is))
+path-stands path is = path-of-parts path (parts-are (parts path) ((and_parts _ (list_all is_part (parts path)) is).1))
 
 -- what is put for the names has only such bytes
 named-stands : (values : Values) (name : List ℕ) → AreValues values → IfSome (value_named values name) IsCommand
@@ -114,14 +103,14 @@ IsGoodPiece piece = IsCommand piece.stands_for × IsCommand piece.behind
 drop-stands : (k : ℕ) (bs : List ℕ) → IsCommand bs → IsCommand (drop k bs)
 drop-stands zero bs e = e
 drop-stands (suc k) [] e = e
-drop-stands (suc k) (b ∷ bs) e = drop-stands k bs (last-of (may_stand_in_command b) _ e)
+drop-stands (suc k) (b ∷ bs) e = drop-stands k bs ((and_parts (may_stand_in_command b) _ e).1)
 
 brace-stands : (bs : List ℕ) → IsCommand bs → IfSome (behind_brace bs) IsCommand
 brace-stands [] e = tt
 brace-stands (b ∷ bs) e = go (nat_eq b 125)
   where
     go : (t : Bool) → IfSome (cond t (Some bs) None) IsCommand
-    go true = last-of (may_stand_in_command b) _ e
+    go true = (and_parts (may_stand_in_command b) _ e).1
     go false = tt
 
 named-piece : (behind : List ℕ) (value : Option (List ℕ)) → IsCommand behind → IfSome value IsCommand → IfSome (option_map (piece_of behind) value) IsGoodPiece
@@ -139,7 +128,7 @@ either false x y f g = g
 substituted-stands : (values : Values) (bs : List ℕ) → AreValues values → IsCommand bs → IfSome (substituted values bs) IsGoodPiece
 substituted-stands values [] are e = (refl, refl)
 substituted-stands values (b ∷ bs) are e =
-    let rest = last-of (may_stand_in_command b) (list_all may_stand_in_command bs) e in
+    let rest = (and_parts (may_stand_in_command b) (list_all may_stand_in_command bs) e).1 in
     either (nat_eq b 36) _ _ (refl, rest)
     (either (nat_eq b 123) _ _ (braced-piece (behind_brace (behind_name bs)) (value_named values (name_at bs)) (brace-stands (behind_name bs) (drop-stands (length (name_at bs)) bs rest)) (named-stands values (name_at bs) are))
     (either (is_letter b) _ _ (named-piece (behind_name (b ∷ bs)) (value_named values (name_at (b ∷ bs))) (drop-stands (length (name_at (b ∷ bs))) (b ∷ bs) e) (named-stands values (name_at (b ∷ bs)) are))
@@ -147,8 +136,8 @@ substituted-stands values (b ∷ bs) are e =
 
 piece-stands : (values : Values) (b : ℕ) (bs : List ℕ) → AreValues values → IsCommand (b ∷ bs) → IfSome (first_piece values b bs) IsGoodPiece
 piece-stands values b bs are e =
-    let rest = last-of (may_stand_in_command b) (list_all may_stand_in_command bs) e in
-    either (nat_eq b 36) _ _ (substituted-stands values bs are rest) (both _ true (first-of (may_stand_in_command b) _ e) refl, rest)
+    let rest = (and_parts (may_stand_in_command b) (list_all may_stand_in_command bs) e).1 in
+    either (nat_eq b 36) _ _ (substituted-stands values bs are rest) (and_from _ true ((and_parts (may_stand_in_command b) _ e).0) refl, rest)
 
 pieces-stand : (n : ℕ) (values : Values) (bs : List ℕ) → AreValues values → IsCommand bs → IfSome (pieces_from n values bs) IsCommand
 pieces-stand zero values bs are e = refl
@@ -156,7 +145,7 @@ pieces-stand (suc n) values [] are e = refl
 pieces-stand (suc n) values (b ∷ bs) are e = go (first_piece values b bs) (piece-stands values b bs are e) (λ behind good. pieces-stand n values behind are good)
   where
     joined : (text : List ℕ) (rest : Option (List ℕ)) → IsCommand text → IfSome rest IsCommand → IfSome (option_map (λ more. text ++ more) rest) IsCommand
-    joined text (Some more) f g = list_all-append may_stand_in_command text more ∙ both _ _ f g
+    joined text (Some more) f g = list_all-append may_stand_in_command text more ∙ and_from _ _ f g
     joined text None f g = tt
 
     go : (piece : Option Piece) → IfSome piece IsGoodPiece → ((behind : List ℕ) → IsCommand behind → IfSome (pieces_from n values behind) IsCommand)

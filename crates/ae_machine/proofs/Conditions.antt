@@ -1,10 +1,10 @@
 -- The first refusal of several conditions, asked one after another or some at a time.
-use Rattle.std.specs.Prelude.{◌≡◌, Bool, true, false, List, [], ◌∷◌, ◌++◌, Option, Some, None}
+use Rattle.std.specs.Prelude.{◌≡◌, List, [], ◌∷◌, ◌++◌, Option, Some, None}
 use Rattle.std.specs.Option.{option_and_then, option_or}
 use Rattle.std.proofs.Common.{refl, sym, ap, ◌∙◌}
 use Rattle.ae_base.specs.declared.refusal.Refusal.{Refusal}
 use Rattle.ae_types.specs.declared.change.Change.{Change}
-use Rattle.ae_machine.specs.Call.{Call, Condition, change_of, first_of, on_change, unless}
+use Rattle.ae_machine.specs.Call.{Call, Condition, change_of, first_of, on_change}
 
 abbrev R : Type 0
 R = Option Refusal
@@ -56,8 +56,3 @@ pub caller-asked : (phase person : Condition) (a b : Call → Change → Option 
 caller-asked phase person a b call change right is =
     let rest : Option Change → R = λ (v : Option Change). option_or (person call) (option_or (option_and_then (a call) v) (option_or (option_and_then (b call) v) None)) in
     sym (ap (λ (x : R). option_or x (rest (change_of call))) right ∙ ap rest is ∙ ap (λ (x : R). option_or (person call) (option_or (a call change) x)) (alone (b call change)))
-
--- what isn't refused passes its test
-pub passes : (test : Bool) (refusal : Refusal) → unless test refusal ≡ None → test ≡ true
-passes true refusal e = refl
-passes false refusal e = cc

@@ -4,6 +4,7 @@ use Rattle.std.specs.Prelude.{IfSome}
 use Rattle.std.specs.List.{find}
 use Rattle.std.specs.Option.{option_map, option_and_then}
 use Rattle.std.specs.Str.{bytes_eq}
+use Rattle.std.proofs.lemmas.Option.{same_Some}
 use Rattle.ae_base.specs.Rows.{Row, Rows}
 use Rattle.ae_outside.specs.declared.dir.Content.{Content}
 use Rattle.ae_outside.specs.declared.dir.Content.TheVariants.{Absent, Bytes, TooLong}
@@ -12,7 +13,7 @@ use Rattle.ae_types.specs.declared.version.VersionRef.{VersionRef}
 use Rattle.ae_types.specs.Observation.{Observation}
 use Rattle.ae_types.specs.Phases.{is_remove}
 use Rattle.ae_types.proofs.Members.{In}
-use Rattle.ae_types.proofs.Ordered.{some-is, none-some}
+use Rattle.ae_types.proofs.Ordered.{none-some}
 use Rattle.ae_log.specs.Applies.{AreInSpace}
 use Rattle.ae_log.specs.Files.{Version, present, ref_of}
 use Rattle.ae_space.specs.declared.extent.Extent.{Extent}
@@ -29,11 +30,11 @@ use Rattle.ae_machine.proofs.Lists.{all-members, members-all}
 -- ---- as many places as versions
 
 as-many : (taken : List Extent) (made : List (List ℕ)) (places : List ℕ) → places_of taken made ≡ Some places → length places ≡ length made
-as-many taken [] places e = ap length (sym (some-is [] places e))
+as-many taken [] places e = ap length (sym (same_Some [] places e))
 as-many taken (bytes ∷ more) places e = go (fit taken (units_of bytes)) e (λ at. as-many (record { at = at; units = units_of bytes } ∷ taken) more)
   where
     behind : (at : ℕ) (v : Option (List ℕ)) → option_map (λ places. at ∷ places) v ≡ Some places → ((others : List ℕ) → v ≡ Some others → length others ≡ length more) → length places ≡ length (bytes ∷ more)
-    behind at (Some others) e rest = let n = rest others refl in let is = ap length (sym (some-is (at ∷ others) places e)) in omega (arith, n, is)
+    behind at (Some others) e rest = let n = rest others refl in let is = ap length (sym (same_Some (at ∷ others) places e)) in omega (arith, n, is)
     behind at None e rest = none-some places e
 
     go : (v : Option ℕ) → option_and_then (λ at. option_map (λ places. at ∷ places) (places_of (record { at = at; units = units_of bytes } ∷ taken) more)) v ≡ Some places
@@ -72,7 +73,7 @@ read-short view short (file ∷ files) row (inl is) = subst (λ (row : Row). IfS
 -- ---- the whole
 
 pub made-is : (x : Option Version) (v : VersionRef) → option_map ref_of x ≡ Some v → (w : Version) × (x ≡ Some w) × (ref_of w ≡ v)
-made-is (Some w) v e = (w, refl, some-is (ref_of w) v e)
+made-is (Some w) v e = (w, refl, same_Some (ref_of w) v e)
 made-is None v e = none-some v e
 
 pub placed-length : (o : Observation) (tree : Rows) (places : List ℕ) → placing o tree ≡ Some places → length places ≡ length (present tree)

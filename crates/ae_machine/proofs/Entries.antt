@@ -4,6 +4,7 @@ use Rattle.std.specs.Option.{option_map, option_and_then}
 use Rattle.std.proofs.Common.{refl, sym, ap, ◌∙◌, cond, arith}
 use Rattle.std.proofs.Math.ListN.{get_or}
 use Rattle.std.proofs.lemmas.List.{take_more}
+use Rattle.ae_log.proofs.PassedTree.{tree_own}
 use Rattle.ae_base.specs.declared.words.Usage.{Usage}
 use Rattle.ae_types.specs.declared.file_table.FileRow.{FileRow}
 use Rattle.ae_types.specs.declared.file_table.FileVersion.{FileVersion}
@@ -12,7 +13,7 @@ use Rattle.ae_types.specs.Found.{row_path, row_in}
 use Rattle.ae_types.specs.Observation.{Observation}
 use Rattle.ae_types.specs.Ordered.{Ascends}
 use Rattle.ae_types.specs.Sound.{Sound}
-use Rattle.ae_types.specs.Trees.{TreeRow, tree_path, entry_row, last_up_to, tree_at, tree_of, tree_row}
+use Rattle.ae_types.specs.Trees.{tree_path, entry_row, last_up_to, tree_at, tree_of, tree_row}
 use Rattle.ae_base.specs.Rows.{text_cmp}
 use Rattle.ae_types.proofs.Keys.{by_text}
 use Rattle.ae_types.proofs.Ordered.{at-rows}
@@ -45,19 +46,8 @@ count-more past i entry delta old new b below is so_far test made =
 
 -- ---- a path's row at a delta
 
-pub own : (delta : ℕ) (row : FileRow) (r : TreeRow) → tree_row delta row ≡ Some r → tree_path r ≡ row_path row
-own delta row r is = go (last_up_to delta row.past) is
-  where
-    made : (usage : _) (v : Option VersionRef) → option_map (λ (version : VersionRef). record { path = row.path; usage = usage; version = version }) v ≡ Some r → tree_path r ≡ row_path row
-    made usage (Some v) e = cc
-    made usage None e = cc
-
-    go : (last : Option FileVersion) → option_and_then (entry_row row.path) last ≡ Some r → tree_path r ≡ row_path row
-    go (Some entry) e = made entry.usage entry.version e
-    go None e = cc
-
 pub row-at-is : (delta : ℕ) (rows : List FileRow) (path : List ℕ) → Ascends text_cmp row_path rows → row_at (tree_at delta rows) path ≡ option_and_then (tree_row delta) (row_in rows path)
-row-at-is delta rows path a = at-rows by_text row_path tree_path (tree_row delta) (own delta) path rows a
+row-at-is delta rows path a = at-rows by_text row_path tree_path (tree_row delta) (tree_own delta) path rows a
 
 abbrev pub usage_by : Option FileVersion → Option Usage
 usage_by (Some entry) = if is_some entry.version then Some entry.usage else None

@@ -3,6 +3,7 @@ use Rattle.std.proofs.Common.{◌≡◌, ℕ, refl, sym, ◌∙◌, ap, subst, L
 use Rattle.std.specs.Prelude.{IsSomeAnd}
 use Rattle.std.specs.Option.{option_map}
 use Rattle.std.specs.Str.{bytes_eq}
+use Rattle.std.proofs.lemmas.Bool.{false≢true}
 use Rattle.ae_base.specs.declared.words.Ground.TheVariants.{Integrate}
 use Rattle.ae_types.specs.declared.change.Change.{Change}
 use Rattle.ae_types.specs.declared.change.Evidence.{Evidence}
@@ -13,7 +14,7 @@ use Rattle.ae_types.specs.Runs.{RunKey, Needed, required, wanted, missing, has_c
 use Rattle.ae_types.specs.Sound.{Sound}
 use Rattle.ae_types.specs.Trees.{candidate_of}
 use Rattle.ae_types.proofs.Keys.{by_text}
-use Rattle.ae_types.proofs.Splits.{never, and3}
+use Rattle.ae_types.proofs.Splits.{and3}
 use Rattle.ae_log.specs.declared.event.EventKind.{EventKind}
 use Rattle.ae_log.specs.declared.event.EventKind.TheVariants as on
 use Rattle.ae_log.specs.Baseline.{candidate}
@@ -71,7 +72,7 @@ module _ (log : Log) (who : List ℕ) (when n : ℕ) (o : Observation) (stood : 
     where
       go : (v : Option Evidence) → latest_of x Integrate needed.kind needed.path ≡ v → there_and v (counts digest) ≡ true → IsSomeAnd v (IsEvident log n x digest needed)
       go (Some row) is c = counted needed row is c has
-      go None is c = never c
+      go None is c = absurd (false≢true c)
 
   has-evidence : HasEvidence log n o x
   has-evidence =

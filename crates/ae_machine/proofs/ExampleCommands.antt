@@ -2,9 +2,9 @@
 use Rattle.std.proofs.Common.{◌≡◌, ◌≢◌, ℕ, refl, ◌∙◌, ap, arith, List, [], ◌∷◌, map, Some, Ok}
 use Rattle.std.specs.Prelude.{codes}
 use Rattle.std.specs.Str.{bytes_eq}
+use Rattle.std.proofs.lemmas.Bool.{false≢true}
 use Rattle.ae_base.specs.declared.words.Kind.{Kind}
 use Rattle.ae_base.specs.declared.words.Kind.TheVariants as kind
-use Rattle.ae_types.proofs.Splits.{never}
 use Rattle.ae_text.specs.Canonical.{piece, text}
 use Rattle.ae_text.specs.Grammar.{Reads, ReadsFields, IsSentence, line_of}
 use Rattle.ae_text.specs.Token.{Placed}
@@ -22,7 +22,7 @@ abbrev said : Members
 said = member build_name (str (codes "b")) (member test_name (str (codes "t")) no_members)
 
 names-differ : build_name ≢ test_name
-names-differ e = never (ap (λ name. bytes_eq name test_name) e)
+names-differ e = absurd (false≢true (ap (λ name. bytes_eq name test_name) e))
 
 well-formed : IsWellFormed (fields said)
 well-formed = ((cc, tt, (cc, tt, tt)), ((names-differ, tt), tt, (tt, tt, tt)), (tt, (tt, tt)))

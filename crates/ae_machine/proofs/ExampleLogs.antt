@@ -3,10 +3,10 @@ use Rattle.std.proofs.Common.{zero, suc, ◌<◌, refl, ap, arith, [], ◌∷◌
 use Rattle.std.specs.Prelude.{All, IsSomeAnd, nat_eq}
 use Rattle.std.specs.Option.{option_eq}
 use Rattle.std.specs.Str.{bytes_eq}
+use Rattle.std.proofs.lemmas.Bool.{false≢true}
 use Rattle.ae_base.specs.declared.words.Kind.TheVariants as kind
 use Rattle.ae_types.specs.declared.change.Change.{Change}
 use Rattle.ae_types.specs.Runs.{Needed}
-use Rattle.ae_types.proofs.Splits.{never}
 use Rattle.ae_log.specs.declared.event.EventKind.TheVariants as on
 use Rattle.ae_log.specs.Log.{Log, course, standing}
 use Rattle.ae_log.specs.Observed.{change_with}
@@ -47,13 +47,13 @@ was-tested : WasRun test
 was-tested = record { command = gives (values_in before 10 test) kind.Test; status = refl; before = refl; after = refl }
 
 was-reviewed : IsSomeAnd (standing reviewer_mark (course before 10)) (IsReview (course before 10))
-was-reviewed = record { last = refl; by_reviewer = refl; apart = λ same. never (ap (λ who. option_eq bytes_eq who (Some cal)) same) }
+was-reviewed = record { last = refl; by_reviewer = refl; apart = λ same. absurd (false≢true (ap (λ who. option_eq bytes_eq who (Some cal)) same)) }
 
 pub is-provided : Provenance first_baseline
 is-provided = (
   record {
     runs = both WasRun build test was-built was-tested;
-    tests = λ needed none. never (ap (λ tests. nat_eq (length tests) 0) none);
+    tests = λ needed none. absurd (false≢true (ap (λ tests. nat_eq (length tests) 0) none));
     review = was-reviewed;
     baseline = refl;
   },
@@ -61,10 +61,10 @@ is-provided = (
 )
 
 pub developer-passed : Provenance passed_by_developer → ⊥
-developer-passed p = let apart = p.0.review.apart refl in never apart
+developer-passed p = let apart = p.0.review.apart refl in (absurd (false≢true apart))
 
 pub anybody-passed : Provenance passed_by_anybody → ⊥
-anybody-passed p = never p.0.review.by_reviewer
+anybody-passed p = absurd (false≢true p.0.review.by_reviewer)
 
 pub ended-later : Provenance ended_after_pass → ⊥
 ended-later p = p.0.review
@@ -73,7 +73,7 @@ pub unclean : Provenance left_unclean → ⊥
 unclean p =
     let one : 1 < 2 = omega arith in
     let run = p.0.runs 1 no_run one in
-    never (ap (λ rows. same_rows rows files) run.after)
+    (absurd (false≢true (ap (λ rows. same_rows rows files) run.after)))
 
 pub unbuilt : Provenance not_built → ⊥
 unbuilt p = let first : 0 < 2 = omega arith in p.0.runs 0 no_run first

@@ -8,6 +8,7 @@ use Rattle.std.specs.Ordering.{is_eq, is_lt, nat_cmp, ordering_reverse, ordering
 use Rattle.std.specs.Cmp.{nat_cmp_is}
 use Rattle.std.specs.declared.cmp.Ordering.{Ordering}
 use Rattle.std.specs.declared.cmp.Ordering.TheVariants.{Less, Equal, Greater}
+use Rattle.ae_types.proofs.Searched.{is_less}
 use Rattle.ae_base.specs.Names.{IsFolderOf}
 use Rattle.ae_base.specs.Rows.{text_cmp}
 use Rattle.ae_types.proofs.Keys.{by_number, by_text}
@@ -109,11 +110,6 @@ less-behind (a ∷ folder) (b ∷ x) (c ∷ y) l p = go (nat_cmp b c) refl l (na
     go r is l Less e p rest = cc
     go Greater is l q e p rest = cc
 
-lt-less : (r : Ordering) → is_lt r ≡ true → r ≡ Less
-lt-less Less e = refl
-lt-less Equal e = cc
-lt-less Greater e = cc
-
 -- ---- ascending rows
 
 module _ {A : Type 0} (key : A → List ℕ) (folder : List ℕ) where
@@ -129,7 +125,7 @@ module _ {A : Type 0} (key : A → List ℕ) (folder : List ℕ) where
   pub partitioned : (rows : List A) → Ascends by_text key rows → IsPartitionedBy before rows
   partitioned [] a i j d low high e = absurd (omega (arith, high))
   partitioned (row ∷ rows) a zero zero d low high e = e
-  partitioned (row ∷ rows) a zero (suc j) d low high e = ap is_lt (less-before folder (key row) (key (get_or rows j d)) (above-get (key row) rows a.0 j d (omega (arith, high))) (lt-less (place_to folder (key (get_or rows j d))) e))
+  partitioned (row ∷ rows) a zero (suc j) d low high e = ap is_lt (less-before folder (key row) (key (get_or rows j d)) (above-get (key row) rows a.0 j d (omega (arith, high))) (is_less (place_to folder (key (get_or rows j d))) e))
   partitioned (row ∷ rows) a (suc i) zero d low high e = absurd (omega (arith, low))
   partitioned (row ∷ rows) a (suc i) (suc j) d low high e = partitioned rows a.1 i j d (omega (arith, low)) (omega (arith, high)) e
 

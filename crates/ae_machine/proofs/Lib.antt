@@ -38,17 +38,17 @@ mod Conditions
 mod PathSplits
 mod LeastClash
 mod PathsThere
-mod PathsUp
+pub mod PathsUp
 mod PathsEver
 mod InFolder
 mod PathClash
 mod ClashingPaths
-mod ByRule
+pub mod ByRule
 pub mod CommandBytes
 pub mod CommandsRead
 mod WhoWorks
 mod Reviews
-mod SnapshotRows
+pub mod SnapshotRows
 mod Picked
 pub mod ShownVersions
 pub mod RunsMade

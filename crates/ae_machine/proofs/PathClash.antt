@@ -1,6 +1,6 @@
 -- Where the files were clear before one path was put or taken, what clashes after it involves the path, and the test of the
 -- path alone finds the least path that clashes.
-use Rattle.std.specs.Prelude.{◌≡◌, ℕ, Bool, true, false, ◌&&◌, ◌||◌, not, List, Option, Some, None}
+use Rattle.std.specs.Prelude.{◌≡◌, ℕ, Bool, true, false, ◌&&◌, not, List, Option, Some, None}
 use Rattle.std.specs.List.{list_any}
 use Rattle.std.specs.Option.{option_and_then, option_map, option_or}
 use Rattle.std.specs.Ordering.{is_eq}
@@ -8,6 +8,7 @@ use Rattle.std.specs.Str.{bytes_eq}
 use Rattle.std.specs.declared.cmp.Ordering.{Ordering}
 use Rattle.std.specs.declared.cmp.Ordering.TheVariants.{Less, Equal, Greater}
 use Rattle.std.proofs.Common.{refl, sym, ap, subst, ◌∙◌, cond, if◌then◌else◌, ◌⊎◌, inl, inr}
+use Rattle.std.proofs.lemmas.Bool.{or_cases, or_left, or_right, false≢true, and_parts, false_from_ne_true}
 use Rattle.ae_base.specs.declared.refusal.Refusal.{Refusal}
 use Rattle.ae_base.specs.declared.refusal.Refusal.TheVariants.{PathClash}
 use Rattle.ae_types.specs.declared.change.ChangeFile.{ChangeFile}
@@ -22,7 +23,7 @@ use Rattle.ae_types.proofs.Clashing.{folders-in, has-in, in-folders, in-has}
 use Rattle.ae_types.proofs.Keys.{by_text}
 use Rattle.ae_types.proofs.Members.{In, any-in, in-any}
 use Rattle.ae_types.proofs.Ordered.{Ascends, at-put, less-other}
-use Rattle.ae_types.proofs.Splits.{and2, is-false, never, not-is}
+use Rattle.ae_types.proofs.Splits.{not-is}
 use Rattle.ae_types.proofs.TreePaths.{stands}
 use Rattle.ae_words.specs.declared.table.Function.{Function}
 use Rattle.ae_words.specs.declared.table.Function.TheVariants as function
@@ -41,17 +42,6 @@ use Rattle.ae_machine.proofs.PathSplits.{set-ascends}
 use Rattle.ae_machine.proofs.PathsThere.{paths-there}
 use Rattle.ae_machine.proofs.PathsUp.{paths-with-up}
 use Rattle.ae_machine.proofs.ReversedPaths.{at-without}
-
-either : (a b : Bool) → (a || b) ≡ true → (a ≡ true) ⊎ (b ≡ true)
-either true b e = inl refl
-either false b e = inr e
-
-or-left : (a b : Bool) → a ≡ true → (a || b) ≡ true
-or-left a b e = ap (λ c. c || b) e
-
-or-right : (a b : Bool) → b ≡ true → (a || b) ≡ true
-or-right true b e = refl
-or-right false b e = e
 
 is-equal : (r : Ordering) → is_eq r ≡ true → r ≡ Equal
 is-equal Less e = cc
@@ -87,29 +77,29 @@ module _ (o : Observation) (files : List ChangeFile) (s : Sound o) (up : Ascends
   place-in folder q path is on = ap (λ (p : List ℕ). is_eq (place_to folder p)) is ∙ ap is_eq (folder-place folder q (in-folders q folder on))
 
   pub holds-some : (folder : List ℕ) → holds_paths o files folder ≡ true → Holds folder
-  holds-some folder e = go (either (of_rows folder) (of_files folder) e)
+  holds-some folder e = go (or_cases (of_rows folder) (of_files folder) e)
     where
       go : (of_rows folder ≡ true) ⊎ (of_files folder ≡ true) → Holds folder
       go (inl h) =
           let r = any-in (inside row_path (row_stays o files) folder) o.files (sym (rows-are folder) ∙ h) in
-          let both = and2 (is_eq (place_to folder r.0.path)) (row_stays o files r.0) r.2 in
+          let both = and_parts (is_eq (place_to folder r.0.path)) (row_stays o files r.0) r.2 in
           (r.0.path, row-path o files s up r.0 r.1 both.1, lies-in folder r.0.path both.0)
       go (inr h) =
           let r = any-in (inside file_path file_stays folder) files (sym (files-are folder) ∙ h) in
-          let both = and2 (is_eq (place_to folder r.0.path)) (file_stays r.0) r.2 in
+          let both = and_parts (is_eq (place_to folder r.0.path)) (file_stays r.0) r.2 in
           (r.0.path, file-path o files s up r.0 r.1 (kept r.0 both.1), lies-in folder r.0.path both.0)
         where
           kept : (file : ChangeFile) → file_stays file ≡ true → is_remove file.action ≡ false
-          kept file stays = is-false (is_remove file.action) (not-is (is_remove file.action) stays)
+          kept file stays = false_from_ne_true (is_remove file.action) (not-is (is_remove file.action) stays)
 
   pub some-holds : (folder q : List ℕ) → In paths q → In (folders_of q) folder → holds_paths o files folder ≡ true
   some-holds folder q m on = go (source o files s up q m)
     where
       go : FromRow o files s up q ⊎ FromFile o files s up q → holds_paths o files folder ≡ true
       go (inl (row, there, is, stays)) =
-          or-left (of_rows folder) (of_files folder) (rows-are folder ∙ in-any (inside row_path (row_stays o files) folder) o.files row there (ap (λ b. b && row_stays o files row) (place-in folder q row.path is on) ∙ stays))
+          or_left (of_rows folder) (of_files folder) (rows-are folder ∙ in-any (inside row_path (row_stays o files) folder) o.files row there (ap (λ b. b && row_stays o files row) (place-in folder q row.path is on) ∙ stays))
       go (inr (file, there, is, stays)) =
-          or-right (of_rows folder) (of_files folder) (files-are folder ∙ in-any (inside file_path file_stays folder) files file there (ap (λ b. b && file_stays file) (place-in folder q file.path is on) ∙ ap not stays))
+          or_right (of_rows folder) (of_files folder) (files-are folder ∙ in-any (inside file_path file_stays folder) files file there (ap (λ b. b && file_stays file) (place-in folder q file.path is on) ∙ ap not stays))
 
 -- ---- the least path that clashes
 
@@ -128,8 +118,8 @@ module _ (o : Observation) (files : List ChangeFile) (path : List ℕ) (s : Soun
   absent-clear e = clash-none all (λ f q m n on. go f q m n (one-is f q m n on))
     where
       go : (f q : List ℕ) → In all f → In all q → (f ≡ path) ⊎ (q ≡ path) → ⊥
-      go f q m n (inl is) = never (sym e ∙ ap (has_path all) (sym is) ∙ in-has all f m)
-      go f q m n (inr is) = never (sym e ∙ ap (has_path all) (sym is) ∙ in-has all q n)
+      go f q m n (inl is) = absurd (false≢true (sym e ∙ ap (has_path all) (sym is) ∙ in-has all f m))
+      go f q m n (inr is) = absurd (false≢true (sym e ∙ ap (has_path all) (sym is) ∙ in-has all q n))
 
   -- the shortest folder on the way to it
   folder-clashes : has_path all path ≡ true → (d : List ℕ) → folder_in all path ≡ Some d → are_clear o files ≡ Some (PathClash d)
@@ -160,7 +150,7 @@ module _ (o : Observation) (files : List ChangeFile) (path : List ℕ) (s : Soun
   nothing-clashes none holds = clash-none all (λ f q m n on. go f q m n on (one-is f q m n on))
     where
       go : (f q : List ℕ) → In all f → In all q → In (folders_of q) f → (f ≡ path) ⊎ (q ≡ path) → ⊥
-      go f q m n on (inl at) = never (sym holds ∙ some-holds o files s up path q n (subst (λ (g : List ℕ). In (folders_of q) g) at on))
+      go f q m n on (inl at) = absurd (false≢true (sym holds ∙ some-holds o files s up path q n (subst (λ (g : List ℕ). In (folders_of q) g) at on)))
       go f q m n on (inr at) = no-folder none f q m on at
 
   pub path-clear-is : are_clear o files ≡ option_map PathClash (path_clash o files path)
@@ -215,4 +205,4 @@ asked-clear function.CopyFile o files e asks = first-none-of (are_clear o files)
 asked-clear function.NewFile o files e asks = first-none-of (are_clear o files) (are_few files) e
 asked-clear function.NewTest o files e asks = first-none-of (are_clear o files) (are_few files) e
 asked-clear function.RemoveFileUndo o files e asks = e
-asked-clear _ o files e asks = never asks
+asked-clear _ o files e asks = absurd (false≢true asks)

@@ -3,13 +3,14 @@ use Rattle.std.proofs.Common.{◌≡◌, ℕ, ◌+◌, ◌<◌, ◌≤◌, refl,
 use Rattle.std.specs.Prelude.{IsSomeAnd, nat_le}
 use Rattle.std.specs.List.{filter_map}
 use Rattle.std.specs.Option.{option_map, option_and_then}
+use Rattle.std.proofs.lemmas.Option.{same_Some}
 use Rattle.ae_types.specs.declared.file_table.FileRow.{FileRow}
 use Rattle.ae_types.specs.declared.project.DeltaRow.{DeltaRow}
 use Rattle.ae_types.specs.Found.{delta_in, row_in, row_path}
 use Rattle.ae_types.specs.Observation.{Observation}
 use Rattle.ae_types.specs.Trees.{unless_later, last_up_to as last_version}
 use Rattle.ae_types.proofs.Keys.{by_number, by_text}
-use Rattle.ae_types.proofs.Ordered.{at-listed, some-is, none-some}
+use Rattle.ae_types.proofs.Ordered.{at-listed, none-some}
 use Rattle.ae_log.specs.declared.event.EventKind.{EventKind}
 use Rattle.ae_log.specs.declared.event.EventKind.TheVariants as on
 use Rattle.ae_log.specs.Baseline.{Entry, TreeFile, deltas, deltas_after, past, with_entry, last_up_to, entry_file, tree_file, tree_file_of, baseline, candidate}
@@ -134,7 +135,7 @@ module _ (log : Log) (who : List ℕ) (when n : ℕ) (provided : ProvidedAt log 
       go : (f : Option FileFact) → last_up_to (last + 1) (with_entry (last + 1) (frozen_file (frozen (course log n)) p) f (past log p)) ≡ Some entry → IsTraced (pass.event ∷ log) entry t
       go (Some f) new =
           let made : Entry = record { delta = last + 1; usage = f.usage; version = version_of (frozen_file (frozen (course log n)) p) } in
-          by-this e (ap (λ (x : Entry). x.delta) (some-is made entry (sym (last-new (last + 1) (past log p) made refl) ∙ new)))
+          by-this e (ap (λ (x : Entry). x.delta) (same_Some made entry (sym (last-new (last + 1) (past log p) made refl) ∙ new)))
       go None old =
           let e = sym (last-more last (past log p) (past-there log p)) ∙ old in
           by-earlier (past-there log p entry (last-in last (past log p) entry e)) (rest e)
@@ -175,7 +176,7 @@ row-found : (log : Log) (p : List ℕ) → row_in (filter_map (λ path. file_row
 row-found log p = at-listed by_text row_path (λ path. file_row path (past log path)) (own_row log) (paths log) (λ path out. ap (file_row path) (unlisted-past log path out)) p
 
 made-usage : (p : List ℕ) (entry : Entry) (v : Option Version) (t : TreeFile) → option_map (tree_file_of p entry.usage) v ≡ Some t → entry.usage ≡ t.usage
-made-usage p entry (Some v) t e = ap (λ (u : TreeFile). u.usage) (some-is (tree_file_of p entry.usage v) t e)
+made-usage p entry (Some v) t e = ap (λ (u : TreeFile). u.usage) (same_Some (tree_file_of p entry.usage v) t e)
 made-usage p entry None t e = none-some t e
 
 -- ---- the whole

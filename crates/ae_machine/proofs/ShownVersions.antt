@@ -1,11 +1,11 @@
 -- Where what a command sees shows the versions, its answer depends on what it sees alone.
-use Rattle.std.proofs.Common.{◌≡◌, ℕ, refl, sym, ◌∙◌, ap, subst, List, [], ◌∷◌, Bool, true, false, not, ◌&&◌, cond, Option, Some, None}
+use Rattle.std.proofs.Common.{◌≡◌, ℕ, refl, sym, ◌∙◌, ap, subst, List, [], ◌∷◌, Bool, true, false, not, cond, Option, Some, None}
 use Rattle.std.specs.Prelude.{is_some}
 use Rattle.std.specs.List.{list_all, find, cons_option}
 use Rattle.std.specs.Option.{option_map, option_or, option_and_then}
 use Rattle.std.specs.Str.{bytes_eq}
-use Rattle.ae_outside.specs.declared.dir.Content.{Content}
-use Rattle.ae_outside.specs.declared.dir.Content.TheVariants.{Absent, Bytes, TooLong}
+use Rattle.std.proofs.lemmas.Bool.{and_parts}
+use Rattle.ae_machine.proofs.RightRuns.{these-are}
 use Rattle.ae_base.specs.declared.refusal.Refusal.TheVariants.{Differs}
 use Rattle.ae_types.specs.declared.change.Change.{Change}
 use Rattle.ae_types.specs.Phases.{is_integrating}
@@ -15,21 +15,12 @@ use Rattle.ae_machine.specs.declared.view.View.{View}
 use Rattle.ae_machine.specs.Call.{Call, Given, change_of}
 use Rattle.ae_machine.specs.Commands.{config_seen}
 use Rattle.ae_machine.specs.Fits.{makes_runs}
-use Rattle.ae_machine.specs.Freezing.{is_these, first_content_refused, first_difference, right_files}
+use Rattle.ae_machine.specs.Freezing.{first_content_refused, first_difference, right_files}
 use Rattle.ae_machine.specs.Runs.{config_bytes, version_bytes_of}
 use Rattle.ae_machine.specs.Sight.{bytes_of, config_below, config_path, has_config, paths_read, read_at, row_at}
 use Rattle.ae_machine.specs.Versions.{files_refused, is_shown, versions_asked, versions_of_change, versions_of_runs}
 
-both : (a b : Bool) → (a && b) ≡ true → (a ≡ true) × (b ≡ true)
-both true b e = (refl, e)
-both false b e = cc
-
 -- ---- one version
-
-these : (bytes : List ℕ) (content : Content) → is_these bytes content ≡ true → bytes_of content ≡ Some bytes
-these bytes (Bytes other) e = ap Some (sym (by_text.same_is bytes other e))
-these bytes Absent e = cc
-these bytes TooLong e = cc
 
 -- what is found passes, and passes what all pass
 pub record IsFound {A : Type 0} (test all : A → Bool) (x : A) : Type 0 where
@@ -38,16 +29,16 @@ pub record IsFound {A : Type 0} (test all : A → Bool) (x : A) : Type 0 where
 
 pub found : {A : Type 0} (test all : A → Bool) (xs : List A) (x : A) → list_all all xs ≡ true → find test xs ≡ Some x → IsFound test all x
 found test all [] x a f = cc
-found {A} test all (y ∷ ys) x a f = go (test y) refl f (λ g. found test all ys x (both (all y) (list_all all ys) a).1 g)
+found {A} test all (y ∷ ys) x a f = go (test y) refl f (λ g. found test all ys x (and_parts (all y) (list_all all ys) a).1 g)
   where
     go : (b : Bool) → test y ≡ b → cond b (Some y) (find test ys) ≡ Some x → (find test ys ≡ Some x → IsFound test all x) → IsFound test all x
-    go true e f rest = let is : y ≡ x = cc in subst (IsFound test all) is (record { passes = e; as_all = (both (all y) (list_all all ys) a).0 })
+    go true e f rest = let is : y ≡ x = cc in subst (IsFound test all) is (record { passes = e; as_all = (and_parts (all y) (list_all all ys) a).0 })
     go false e f rest = rest f
 
 -- none is found that doesn't pass what all pass
 none-fails : {A : Type 0} (all : A → Bool) (xs : List A) → list_all all xs ≡ true → find (λ x. not (all x)) xs ≡ None
 none-fails all [] a = refl
-none-fails {A} all (x ∷ xs) a = let p = both (all x) (list_all all xs) a in ap (λ b. cond (not b) (Some x) (find (λ y. not (all y)) xs)) p.0 ∙ none-fails all xs p.1
+none-fails {A} all (x ∷ xs) a = let p = and_parts (all x) (list_all all xs) a in ap (λ b. cond (not b) (Some x) (find (λ y. not (all y)) xs)) p.0 ∙ none-fails all xs p.1
 
 module _ (bytes : ℕ → List ℕ) (view : View) where
   -- the version of a path that is shown is what was read there
@@ -55,7 +46,7 @@ module _ (bytes : ℕ → List ℕ) (view : View) where
   shown-at rows path row all is =
       let f = found (λ (r : TreeRow). bytes_eq path (tree_path r)) (is_shown bytes view) rows row all is in
       let same : path ≡ row.path = by_text.same_is path row.path f.passes in
-      ap (λ p. bytes_of (read_at view p)) same ∙ these (bytes row.version.number) (read_at view row.path) f.as_all
+      ap (λ p. bytes_of (read_at view p)) same ∙ these-are (bytes row.version.number) (read_at view row.path) f.as_all
 
   in-candidate : (rows : List TreeRow) → list_all (is_shown bytes view) rows ≡ true
       → version_bytes_of bytes (row_at rows config_path) ≡ cond (is_some (row_at rows config_path)) (bytes_of (read_at view config_path)) None
@@ -74,7 +65,7 @@ module _ (bytes : ℕ → List ℕ) (view : View) where
       none None = refl
   in-baseline (Some row) at all =
       let read : bytes_of (read_at view config_path) ≡ Some (bytes row.version.number) =
-      ap (λ p. bytes_of (read_at view p)) (sym (at row refl)) ∙ these (bytes row.version.number) (read_at view row.path) (both (is_shown bytes view row) true all).0 in
+      ap (λ p. bytes_of (read_at view p)) (sym (at row refl)) ∙ these-are (bytes row.version.number) (read_at view row.path) (and_parts (is_shown bytes view row) true all).0 in
       ap (λ x. option_or x (Some (bytes row.version.number))) read ∙ sym read
 
 -- the baseline's aegis.conf has that path

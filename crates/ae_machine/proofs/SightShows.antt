@@ -5,6 +5,7 @@ use Rattle.std.specs.List.{list_all, list_any, find, cons_option}
 use Rattle.std.specs.Option.{option_or, option_and_then}
 use Rattle.std.specs.Str.{bytes_eq}
 use Rattle.std.proofs.lemmas.List.Folds.{find-append}
+use Rattle.std.proofs.lemmas.Bool.{or_parts}
 use Rattle.ae_outside.specs.declared.dir.Content.{Content}
 use Rattle.ae_outside.specs.declared.dir.Content.TheVariants.{Bytes}
 use Rattle.ae_types.specs.declared.change.Change.{Change}
@@ -27,20 +28,16 @@ use Rattle.ae_machine.proofs.ShownVersions.{below-at}
 abbrev pub Read : Type 0
 Read = List (List ℕ × Content)
 
-either : (a b : Bool) → (a || b) ≡ false → (a ≡ false) × (b ≡ false)
-either true b e = cc
-either false b e = (refl, e)
-
 -- ---- which paths are read
 
-reads-too : (f : Function) → makes_runs f ≡ true → reads_files f ≡ true
+pub reads-too : (f : Function) → makes_runs f ≡ true → reads_files f ≡ true
 reads-too function.Build e = refl
 reads-too function.Test e = refl
 reads-too _ e = cc
 
 not-kept : (files : List ChangeFile) → list_any is_config (map file_path files) ≡ false → list_any is_config (kept files) ≡ false
 not-kept [] e = refl
-not-kept (f ∷ fs) e = let p = either (is_config f.path) (list_any is_config (map file_path fs)) e in go (not (is_remove f.action)) p.0 (not-kept fs p.1)
+not-kept (f ∷ fs) e = let p = or_parts (is_config f.path) (list_any is_config (map file_path fs)) e in go (not (is_remove f.action)) p.0 (not-kept fs p.1)
   where
     go : (b : Bool) → is_config f.path ≡ false → list_any is_config (kept fs) ≡ false
         → list_any is_config (map file_path (cond b (f ∷ filter (λ (file : ChangeFile). not (is_remove file.action)) fs) (filter (λ (file : ChangeFile). not (is_remove file.action)) fs))) ≡ false
@@ -66,7 +63,7 @@ other-path path other a b = go (bytes_eq path other) refl
 none-at : (rows : Read) (path : List ℕ) → list_any is_config (map path_of_row rows) ≡ false → is_config path ≡ true → find (λ (row : List ℕ × Content). bytes_eq path row.0) rows ≡ None
 none-at [] path e is = refl
 none-at (row ∷ rows) path e is =
-    let p = either (is_config row.0) (list_any is_config (map path_of_row rows)) e in
+    let p = or_parts (is_config row.0) (list_any is_config (map path_of_row rows)) e in
     ap (λ b. cond b (Some row) (find (λ (r : List ℕ × Content). bytes_eq path r.0) rows)) (go (bytes_eq path row.0) refl p.0) ∙ none-at rows path p.1 is
   where
     go : (t : Bool) → bytes_eq path row.0 ≡ t → is_config row.0 ≡ false → t ≡ false
@@ -91,7 +88,7 @@ refused-same : (one two : View) (row : List ℕ × Content) (paths : List (List 
     → first_content_refused one paths ≡ first_content_refused two paths
 refused-same one two row [] more is differs = refl
 refused-same one two row (path ∷ paths) more is differs =
-    let p = either (is_config path) (list_any is_config paths) differs in
+    let p = or_parts (is_config path) (list_any is_config paths) differs in
     let read : read_at one path ≡ read_at two path =
     sym (ap content_of (ap (find (λ (r : List ℕ × Content). bytes_eq path r.0)) more ∙ same-read one.develop row path is p.0)) in
     λ i. option_or (content_is_good path (read i)) (refused-same one two row paths more is p.1 i)

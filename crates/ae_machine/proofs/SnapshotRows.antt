@@ -7,7 +7,7 @@ use Rattle.ae_base.specs.Rows.{Rows, text_cmp}
 use Rattle.ae_base.specs.Rows as base
 use Rattle.ae_types.specs.Ordered.{Above, Ascends, itself}
 
-both : (a b : Bool) → T a → T b → T (a && b)
+pub both : (a b : Bool) → T a → T b → T (a && b)
 both true b x y = y
 both false b x y = x
 

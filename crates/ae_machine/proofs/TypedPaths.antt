@@ -7,6 +7,8 @@ use Rattle.std.specs.declared.cmp.Ordering.{Ordering}
 use Rattle.std.specs.declared.cmp.Ordering.TheVariants as ordering
 use Rattle.std.specs.FinMap.Entries.{by_order}
 use Rattle.std.proofs.lemmas.List.Elements.{All-map, All-nil}
+use Rattle.std.proofs.lemmas.Bool.{and_parts}
+use Rattle.ae_words.proofs.Formed.{third}
 use Rattle.ae_base.specs.declared.words.Role.TheVariants.{Administrator, Developer, Reviewer, Integrator}
 use Rattle.ae_base.specs.Names.{is_path, IsPath}
 use Rattle.ae_base.specs.Rows.{text_cmp}
@@ -19,7 +21,6 @@ use Rattle.ae_types.specs.Phases.{is_integrating, is_remove}
 use Rattle.ae_types.specs.Trees.{TreeRow, baseline_of, candidate_of, frozen_row, last_delta, put_rows, tree_path, tree_row}
 use Rattle.ae_types.proofs.Members.{In, in-map, some-in}
 use Rattle.ae_types.proofs.Ordered.{none-some}
-use Rattle.ae_types.proofs.Splits.{and2}
 use Rattle.ae_log.specs.declared.event.Event.{Event}
 use Rattle.ae_log.specs.declared.event.EventKind.{EventKind}
 use Rattle.ae_log.specs.declared.event.EventKind.TheVariants as on
@@ -84,10 +85,6 @@ of-runs given None who when number = tt
 
 -- ---- the functions
 
--- the third of five tests that hold
-third : (a b c d e : Bool) → (a && b && c && d && e) ≡ true → c ≡ true
-third a b c d e is = (and2 (a && b) c (and2 (a && b && c) d (and2 (a && b && c && d) e is).0).0).1
-
 module _ (log : Log) (o : Observation) (c : Command) (who : List ℕ) (when : ℕ) (view : View) (events : List Event) where
   abbrev is_given : Function → Given
   is_given g = given_of placing o (version_bytes log) (with_function g c) who when view
@@ -100,12 +97,12 @@ module _ (log : Log) (o : Observation) (c : Command) (who : List ℕ) (when : �
   plain are is = third (is_none c.name) (is_empty c.users) are (is_none c.listing) (is_empty c.numbers) is
 
   paths-have : (g : Function) → are_paths c.paths ≡ true → HavePaths (map (event_of who when c.change) (map (path_event (is_given g).call) c.paths))
-  paths-have g are = go c.paths (and2 (list_all is_path c.paths) (nat_le (length c.paths) 1000) are).0
+  paths-have g are = go c.paths (and_parts (list_all is_path c.paths) (nat_le (length c.paths) 1000) are).0
     where
       go : (ps : List (List ℕ)) → list_all is_path ps ≡ true → HavePaths (map (event_of who when c.change) (map (path_event (is_given g).call) ps))
       go [] are = tt
       go (p ∷ ps) are =
-          let both = and2 (is_path p) (list_all is_path ps) are in
+          let both = and_parts (is_path p) (list_all is_path ps) are in
           (of-path p (file_made g (is_given g).call p) both.0, go ps both.1)
 
   have-by : (g : Function) → IsFormed (with_function g c) → IsPassed (is_given g) events → HavePaths events
@@ -124,7 +121,7 @@ module _ (log : Log) (o : Observation) (c : Command) (who : List ℕ) (when : �
   have-by function.CopyFileUndo formed p = these _ p.these (paths-have function.CopyFileUndo (plain (are_paths c.paths) formed.plain))
   have-by function.NewFile formed p = these _ p.these (paths-have function.NewFile (plain (are_paths c.paths) formed.plain))
   have-by function.NewFileUndo formed p = these _ p.these (paths-have function.NewFileUndo (plain (are_paths c.paths) formed.plain))
-  have-by function.NewTest formed p = these _ p.these (paths-have function.NewTest (and2 (list_all is_no_config c.paths) (are_paths c.paths) (plain (are_tests c.paths) formed.plain)).1)
+  have-by function.NewTest formed p = these _ p.these (paths-have function.NewTest (and_parts (list_all is_no_config c.paths) (are_paths c.paths) (plain (are_tests c.paths) formed.plain)).1)
   have-by function.NewTestUndo formed p = these _ p.these (paths-have function.NewTestUndo (plain (are_paths c.paths) formed.plain))
   have-by function.RemoveFile formed p = these _ p.these (paths-have function.RemoveFile (plain (are_paths c.paths) formed.plain))
   have-by function.RemoveFileUndo formed p = these _ p.these (paths-have function.RemoveFileUndo (plain (are_paths c.paths) formed.plain))

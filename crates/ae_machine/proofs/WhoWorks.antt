@@ -3,6 +3,7 @@ use Rattle.std.specs.Prelude.{◌≡◌, ℕ, ◌+◌, ◌<◌, List, [], ◌∷
 use Rattle.std.specs.Option.{option_and_then, option_or}
 use Rattle.std.proofs.Common.{refl, sym, ap, ◌∙◌, arith, get_or, zero, suc}
 use Rattle.std.proofs.lemmas.Bool.Decides.{nat_tests}
+use Rattle.ae_machine.proofs.Accepted.{tested}
 use Rattle.ae_base.specs.Limits.{most_deltas}
 use Rattle.ae_base.specs.declared.words.Phase.{Phase}
 use Rattle.ae_base.specs.declared.words.Phase.TheVariants as phase
@@ -16,7 +17,7 @@ use Rattle.ae_types.specs.Rules.{counts_up}
 use Rattle.ae_types.specs.Sound.{Sound, IsGoodChange}
 use Rattle.ae_machine.specs.Call.{Call, change_named, change_of, first_of}
 use Rattle.ae_machine.specs.Permission.{caller_works, may_come_in, phase_is_right, right_phase, worker_is_caller}
-use Rattle.ae_machine.proofs.Conditions.{of-change, passes}
+use Rattle.ae_machine.proofs.Conditions.{of-change}
 
 -- what stands of the change that is named
 pub named-good : (o : Observation) (number : Option ℕ) (change : Change) → Sound o → change_named o number ≡ Some change → IsGoodChange change
@@ -42,7 +43,7 @@ integrator-there change good e = good.people.integrator ∙ integrator-in change
 
 -- the function comes in the phase of the change
 pub comes : (call : Call) (change : Change) → change_of call ≡ Some change → right_phase call ≡ None → may_come_in call.command.function change.phase ≡ true
-comes call change is right = passes (may_come_in call.command.function change.phase) (WrongPhase change.phase) (sym (of-change phase_is_right call change is) ∙ right)
+comes call change is right = tested (may_come_in call.command.function change.phase) (WrongPhase change.phase) (sym (of-change phase_is_right call change is) ∙ right)
 
 -- where it comes only when development was begun, there is a developer
 pub developer-there : (call : Call) (change : Change) → Sound call.stands → change_of call ≡ Some change → right_phase call ≡ None → may_come_in call.command.function phase.AwaitingDevelopment ≡ false → is_some change.developer ≡ true

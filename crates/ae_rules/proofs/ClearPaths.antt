@@ -3,6 +3,7 @@ use Rattle.std.proofs.Common.{◌≡◌, ◌⊎◌, inl, inr, ℕ, refl, sym, �
 use Rattle.std.specs.Prelude.{is_some, nat_le}
 use Rattle.std.specs.List.{list_all}
 use Rattle.std.specs.Option.{option_map, option_and_then}
+use Rattle.std.proofs.lemmas.Bool.{or_left, or_right, or_cases, not-true, false≢true, and_parts}
 use Rattle.ae_base.specs.Names.{is_slash}
 use Rattle.ae_types.specs.declared.change.Change.{Change}
 use Rattle.ae_types.specs.declared.change.ChangeFile.{ChangeFile}
@@ -17,7 +18,7 @@ use Rattle.ae_types.proofs.Keys.{by_text}
 use Rattle.ae_types.proofs.Members.{In, all-in, in-all}
 use Rattle.ae_types.proofs.Ordered.{found-key}
 use Rattle.ae_types.proofs.Searched.{found-in, in-found}
-use Rattle.ae_types.proofs.Splits.{never, and2, where-so, so-where, same-true}
+use Rattle.ae_types.proofs.Splits.{where-so, so-where, same-true}
 use Rattle.ae_types.proofs.TreePaths.{tree-has, overlaid-has, frozen-some, stands, overlaid_stands}
 use Rattle.ae_rules.specs.Overlay.{paths_over, AreOrdered, is_in, is_clear, row_is_clear, file_is_clear}
 
@@ -100,18 +101,6 @@ pub over-has : (deltas : ℕ) (rows : List FileRow) (change : Option Change) →
 over-has n rows None a path = tree-has n rows a.0 path
 over-has n rows (Some x) a path = overlaid-has n rows x a.0 a.1 path
 
-or-left : (a b : Bool) → a ≡ true → (a || b) ≡ true
-or-left true b e = refl
-or-left false b e = never e
-
-or-right : (a b : Bool) → b ≡ true → (a || b) ≡ true
-or-right true b e = refl
-or-right false b e = e
-
-or-either : (a b : Bool) → (a || b) ≡ true → (a ≡ true) ⊎ (b ≡ true)
-or-either true b e = inl refl
-or-either false b e = inr e
-
 or3 : (a b c : Bool) → (a ≡ true → b ≡ false → c ≡ true) → (not a || b || c) ≡ true
 or3 true true c h = refl
 or3 true false c h = h refl refl
@@ -119,10 +108,6 @@ or3 false b c h = refl
 
 in3 : (a b c : Bool) → (not a || b || c) ≡ true → a ≡ true → b ≡ false → c ≡ true
 in3 a b c e is away = sym (λ i. not (is i) || away i || c) ∙ e
-
-is-true : (b : Bool) → not b ≡ true → b ≡ false
-is-true true e = never e
-is-true false e = refl
 
 module _ (n : ℕ) (rows : List FileRow) where
   -- each path that stands is clear, said of rows and files
@@ -135,12 +120,12 @@ module _ (n : ℕ) (rows : List FileRow) where
 
       stood : (change : Option Change) → is_some (tree_row n row) ≡ true → is_in change row.path ≡ false → stands_over n rows change row.path ≡ true
       stood None there out = at_row ∙ there
-      stood (Some x) there out = or-right (is_some (option_and_then frozen_row (file_in x.files row.path))) (not (has_file x row.path) && stands n rows row.path) (ap (λ b. not b && stands n rows row.path) out ∙ at_row ∙ there)
+      stood (Some x) there out = or_right (is_some (option_and_then frozen_row (file_in x.files row.path))) (not (has_file x row.path) && stands n rows row.path) (ap (λ b. not b && stands n rows row.path) out ∙ at_row ∙ there)
 
   file-clear : (x : Change) → AreOrdered rows (Some x) → none_clash (paths_over n rows (Some x)) ≡ true → (file : ChangeFile) → In x.files file → file_is_clear n rows x file ≡ true
   file-clear x a e file m = so-where (is_some file.frozen) (is_clear (paths_over n rows (Some x)) file.path) (λ there.
       all-in (is_clear (paths_over n rows (Some x))) (paths_over n rows (Some x)) e file.path (has-in (paths_over n rows (Some x)) file.path (over-has n rows (Some x) a file.path
-      ∙ or-left (is_some (option_and_then frozen_row (file_in x.files file.path))) (not (has_file x file.path) && stands n rows file.path)
+      ∙ or_left (is_some (option_and_then frozen_row (file_in x.files file.path))) (not (has_file x file.path) && stands n rows file.path)
       (ap (λ v. is_some (option_and_then frozen_row v)) (in-found by_text file_path x.files a.1 file m) ∙ frozen-some file ∙ there))))
 
   -- a path that stands is that of such a row or file
@@ -155,7 +140,7 @@ module _ (n : ℕ) (rows : List FileRow) where
           let same : row.path ≡ path = found-key by_text row_path path rows row is in
           subst (λ q. clear_in change q ≡ true) same (in3 (is_some (tree_row n row)) (is_in change row.path) (clear_in change row.path)
           (all-in (row_is_clear n rows change) rows e row (found-in by_text row_path rows path row is)) there (ap (is_in change) same ∙ out))
-      go None is there = never there
+      go None is there = absurd (false≢true there)
 
   file-path : (x : Change) → list_all (file_is_clear n rows x) x.files ≡ true → (path : List ℕ) → is_some (option_and_then frozen_row (file_in x.files path)) ≡ true → clear_in (Some x) path ≡ true
   file-path x e path there = go (file_in x.files path) refl there
@@ -163,7 +148,7 @@ module _ (n : ℕ) (rows : List FileRow) where
       go : (v : Option ChangeFile) → file_in x.files path ≡ v → is_some (option_and_then frozen_row v) ≡ true → clear_in (Some x) path ≡ true
       go (Some file) is there = subst (λ q. clear_in (Some x) q ≡ true) (found-key by_text file_path path x.files file is)
           (where-so (is_some file.frozen) (clear_in (Some x) file.path) (all-in (file_is_clear n rows x) x.files e file (found-in by_text file_path x.files path file is)) (sym (frozen-some file) ∙ there))
-      go None is there = never there
+      go None is there = absurd (false≢true there)
 
   pub clear-tree : AreOrdered rows None → none_clash (paths_over n rows None) ≡ list_all (row_is_clear n rows None) rows
   clear-tree a = same-true (none_clash (paths_over n rows None)) (list_all (row_is_clear n rows None) rows)
@@ -173,14 +158,14 @@ module _ (n : ℕ) (rows : List FileRow) where
   pub clear-candidate : (x : Change) → AreOrdered rows (Some x) → none_clash (paths_over n rows (Some x)) ≡ (list_all (row_is_clear n rows (Some x)) rows && list_all (file_is_clear n rows x) x.files)
   clear-candidate x a = same-true (none_clash (paths_over n rows (Some x))) (list_all (row_is_clear n rows (Some x)) rows && list_all (file_is_clear n rows x) x.files)
       (λ e i. in-all (row_is_clear n rows (Some x)) rows (λ row m. row-clear (Some x) a e row m) i && in-all (file_is_clear n rows x) x.files (λ file m. file-clear x a e file m) i)
-      (λ e. let p = and2 (list_all (row_is_clear n rows (Some x)) rows) (list_all (file_is_clear n rows x) x.files) e in
+      (λ e. let p = and_parts (list_all (row_is_clear n rows (Some x)) rows) (list_all (file_is_clear n rows x) x.files) e in
       in-all (clear_in (Some x)) (paths_over n rows (Some x)) (λ path m.
-      go p.0 p.1 path (or-either (is_some (option_and_then frozen_row (file_in x.files path))) (not (has_file x path) && stands n rows path) (sym (over-has n rows (Some x) a path) ∙ in-has (paths_over n rows (Some x)) path m))))
+      go p.0 p.1 path (or_cases (is_some (option_and_then frozen_row (file_in x.files path))) (not (has_file x path) && stands n rows path) (sym (over-has n rows (Some x) a path) ∙ in-has (paths_over n rows (Some x)) path m))))
     where
       go : list_all (row_is_clear n rows (Some x)) rows ≡ true → list_all (file_is_clear n rows x) x.files ≡ true → (path : List ℕ)
           → (is_some (option_and_then frozen_row (file_in x.files path)) ≡ true) ⊎ ((not (has_file x path) && stands n rows path) ≡ true) → clear_in (Some x) path ≡ true
       go rs fs path (inl there) = file-path x fs path there
-      go rs fs path (inr there) = let p = and2 (not (has_file x path)) (stands n rows path) there in row-path (Some x) rs path p.1 (is-true (has_file x path) p.0)
+      go rs fs path (inr there) = let p = and_parts (not (has_file x path)) (stands n rows path) there in row-path (Some x) rs path p.1 (not-true (has_file x path) p.0)
 
 -- ---- as the code asks
 

@@ -5,10 +5,11 @@ use Rattle.std.specs.List.{list_any, list_all, swap}
 use Rattle.std.specs.List.Sorted.{IsPermutation, IsNonDecreasingBy}
 use Rattle.std.proofs.lemmas.List.Edits.{swapped_from_swap, length-swap}
 use Rattle.std.proofs.lemmas.List.Sorted.{IsPermutation-keeps, IsPermutation-sym, list_any-IsPermutation}
+use Rattle.std.proofs.lemmas.Bool.{false≢true, and_parts, false_from_ne_true, not_from_false}
 use Rattle.ae_types.specs.Versions.{no_two}
 use Rattle.ae_types.proofs.BinarySearch.{in-place, place-in}
 use Rattle.ae_types.proofs.Members.{In, any-in, in-any, all-in, in-all}
-use Rattle.ae_types.proofs.Splits.{never, and2, is-false, is-not, not-is, same-true}
+use Rattle.ae_types.proofs.Splits.{not-is, same-true}
 use Rattle.ae_types.proofs.Adjacent.{each_next}
 
 eqb-false : (m n : ℕ) → nat_eq m n ≡ false → m ≡ n → ⊥
@@ -20,24 +21,24 @@ module _ {V : Type 0} (related : V → V → Bool) (both_ways : (v w : V) → re
   Apart xs = (i j : ℕ) (d : V) → i < length xs → j < length xs → (i ≡ j → ⊥) → related (get_or xs i d) (get_or xs j d) ≡ false
 
   first-apart : (x : V) (xs : List V) → no_two related (x ∷ xs) ≡ true → (j : ℕ) (d : V) → j < length xs → related x (get_or xs j d) ≡ false
-  first-apart x xs e j d h = is-false (related x (get_or xs j d)) (λ is. not-is (list_any (related x) xs) (and2 (not (list_any (related x) xs)) (no_two related xs) e).0 (in-any (related x) xs (get_or xs j d) (place-in xs j d h) is))
+  first-apart x xs e j d h = false_from_ne_true (related x (get_or xs j d)) (λ is. not-is (list_any (related x) xs) (and_parts (not (list_any (related x) xs)) (no_two related xs) e).0 (in-any (related x) xs (get_or xs j d) (place-in xs j d h) is))
 
   no_two-places : (xs : List V) → no_two related xs ≡ true → Apart xs
   no_two-places [] e i j d h m ne = absurd (omega (arith, h))
   no_two-places (x ∷ xs) e zero zero d h m ne = absurd (ne refl)
   no_two-places (x ∷ xs) e zero (suc j) d h m ne = first-apart x xs e j d (omega (arith, m))
   no_two-places (x ∷ xs) e (suc i) zero d h m ne = both_ways (get_or xs i d) x ∙ first-apart x xs e i d (omega (arith, h))
-  no_two-places (x ∷ xs) e (suc i) (suc j) d h m ne = no_two-places xs (and2 (not (list_any (related x) xs)) (no_two related xs) e).1 i j d (omega (arith, h)) (omega (arith, m)) (λ is. ne (ap suc is))
+  no_two-places (x ∷ xs) e (suc i) (suc j) d h m ne = no_two-places xs (and_parts (not (list_any (related x) xs)) (no_two related xs) e).1 i j d (omega (arith, h)) (omega (arith, m)) (λ is. ne (ap suc is))
 
   places-no_two : (xs : List V) → Apart xs → no_two related xs ≡ true
   places-no_two [] a = refl
-  places-no_two (x ∷ xs) a = λ i. is-not (list_any (related x) xs) (is-false (list_any (related x) xs) none) i && places-no_two xs (λ i j d h m ne. a (suc i) (suc j) d (omega (arith, h)) (omega (arith, m)) (λ is. ne (omega (arith, is)))) i
+  places-no_two (x ∷ xs) a = λ i. not_from_false (list_any (related x) xs) (false_from_ne_true (list_any (related x) xs) none) i && places-no_two xs (λ i j d h m ne. a (suc i) (suc j) d (omega (arith, h)) (omega (arith, m)) (λ is. ne (omega (arith, is)))) i
     where
       none : list_any (related x) xs ≡ true → ⊥
       none e =
           let r = any-in (related x) xs e in
           let p = in-place xs r.0 r.1 in
-          never (sym (a 0 (suc p.0) r.0 (omega arith) (omega (arith, p.1)) (λ is. absurd (omega (arith, is)))) ∙ ap (related x) p.2 ∙ r.2)
+          (absurd (false≢true (sym (a 0 (suc p.0) r.0 (omega arith) (omega (arith, p.1)) (λ is. absurd (omega (arith, is)))) ∙ ap (related x) p.2 ∙ r.2)))
 
   swap-apart : (xs : List V) (a b : ℕ) → a < length xs → b < length xs → Apart xs → Apart (swap xs a b)
   swap-apart xs a b ha hb apart i j d hi hj ne = go (nat_eq i a) refl (nat_eq i b) refl (nat_eq j a) refl (nat_eq j b) refl
@@ -92,54 +93,54 @@ module _ {V : Type 0} (related : V → V → Bool) (both_ways : (v w : V) → re
       (stands : (x y : V) → fits x ≡ true → fits y ≡ true → key x ≤ key y → related x y ≡ false → before x y ≡ true) where
     all-before : (x : V) (xs : List V) → each_next before (x ∷ xs) ≡ true → list_all fits xs ≡ true → (z : V) → In xs z → before x z ≡ true
     all-before x [] e f z h = absurd h
-    all-before x (y ∷ ys) e f z (inl is) = subst (λ w. before x w ≡ true) is (and2 (before x y) (each_next before (y ∷ ys)) e).0
+    all-before x (y ∷ ys) e f z (inl is) = subst (λ w. before x w ≡ true) is (and_parts (before x y) (each_next before (y ∷ ys)) e).0
     all-before x (y ∷ ys) e f z (inr h) =
-        let a = and2 (before x y) (each_next before (y ∷ ys)) e in
-        let b = and2 (fits y) (list_all fits ys) f in
+        let a = and_parts (before x y) (each_next before (y ∷ ys)) e in
+        let b = and_parts (fits y) (list_all fits ys) f in
         chains x y z b.0 a.0 (all-before y ys a.1 b.1 z h)
 
     rest-next : (x : V) (xs : List V) → each_next before (x ∷ xs) ≡ true → each_next before xs ≡ true
     rest-next x [] e = refl
-    rest-next x (y ∷ ys) e = (and2 (before x y) (each_next before (y ∷ ys)) e).1
+    rest-next x (y ∷ ys) e = (and_parts (before x y) (each_next before (y ∷ ys)) e).1
 
     next-apart : (xs : List V) → list_all fits xs ≡ true → each_next before xs ≡ true → no_two related xs ≡ true
     next-apart [] f e = refl
-    next-apart (x ∷ xs) f e = λ i. is-not (list_any (related x) xs) (is-false (list_any (related x) xs) none) i && next-apart xs parts.1 (rest-next x xs e) i
+    next-apart (x ∷ xs) f e = λ i. not_from_false (list_any (related x) xs) (false_from_ne_true (list_any (related x) xs) none) i && next-apart xs parts.1 (rest-next x xs e) i
       where
         parts : (fits x ≡ true) × (list_all fits xs ≡ true)
-        parts = and2 (fits x) (list_all fits xs) f
+        parts = and_parts (fits x) (list_all fits xs) f
 
         none : list_any (related x) xs ≡ true → ⊥
-        none is = let r = any-in (related x) xs is in never (sym (apart x r.0 (all-before x xs e parts.1 r.0 r.1)) ∙ r.2)
+        none is = let r = any-in (related x) xs is in (absurd (false≢true (sym (apart x r.0 (all-before x xs e parts.1 r.0 r.1)) ∙ r.2)))
 
     apart-next : (xs : List V) → list_all fits xs ≡ true → IsNonDecreasingBy key xs → no_two related xs ≡ true → each_next before xs ≡ true
     apart-next [] f up e = refl
     apart-next (x ∷ []) f up e = refl
-    apart-next (x ∷ y ∷ ys) f up e = λ i. stands x y parts.0 (and2 (fits y) (list_all fits ys) parts.1).0 (up 0 1 x (omega arith) (omega arith)) away i
+    apart-next (x ∷ y ∷ ys) f up e = λ i. stands x y parts.0 (and_parts (fits y) (list_all fits ys) parts.1).0 (up 0 1 x (omega arith) (omega arith)) away i
         && apart-next (y ∷ ys) parts.1 (λ i j d h m. up (suc i) (suc j) d (omega (arith, h)) (omega (arith, m))) rest.1 i
       where
         parts : (fits x ≡ true) × (list_all fits (y ∷ ys) ≡ true)
-        parts = and2 (fits x) (list_all fits (y ∷ ys)) f
+        parts = and_parts (fits x) (list_all fits (y ∷ ys)) f
 
         rest : (not (list_any (related x) (y ∷ ys)) ≡ true) × (no_two related (y ∷ ys) ≡ true)
-        rest = and2 (not (list_any (related x) (y ∷ ys))) (no_two related (y ∷ ys)) e
+        rest = and_parts (not (list_any (related x) (y ∷ ys))) (no_two related (y ∷ ys)) e
 
         away : related x y ≡ false
-        away = is-false (related x y) (λ is. not-is (list_any (related x) (y ∷ ys)) rest.0 (in-any (related x) (y ∷ ys) y (inl refl) is))
+        away = false_from_ne_true (related x y) (λ is. not-is (list_any (related x) (y ∷ ys)) rest.0 (in-any (related x) (y ∷ ys) y (inl refl) is))
 
     all-permuted : (xs ys : List V) → IsPermutation xs ys → list_all fits xs ≡ true → list_all fits ys ≡ true
     all-permuted xs ys p f = in-all fits ys (λ y m. go y m (fits y) refl)
       where
         abbrevd : (b : Bool) → not b ≡ true → b ≡ false
-        abbrevd true e = never e
+        abbrevd true e = absurd (false≢true e)
         abbrevd false e = refl
 
         go : (y : V) → In ys y → (b : Bool) → fits y ≡ b → fits y ≡ true
         go y m true e = e
         go y m false e =
-            let any = list_any-IsPermutation (λ w. not (fits w)) xs ys p ∙ in-any (λ w. not (fits w)) ys y m (is-not (fits y) e) in
+            let any = list_any-IsPermutation (λ w. not (fits w)) xs ys p ∙ in-any (λ w. not (fits w)) ys y m (not_from_false (fits y) e) in
             let r = any-in (λ w. not (fits w)) xs any in
-            never (sym (abbrevd (fits r.0) r.2) ∙ all-in fits xs f r.0 r.1)
+            (absurd (false≢true (sym (abbrevd (fits r.0) r.2) ∙ all-in fits xs f r.0 r.1)))
 
     -- once sorted, neighbours tell
     pub sorted-tells : (xs ys : List V) → IsPermutation xs ys → IsNonDecreasingBy key ys → list_all fits xs ≡ true → each_next before ys ≡ no_two related xs

@@ -13,9 +13,6 @@ use Rattle.ae_schema.proofs.RowLists.{same_structure}
 pub no_none : {A P : Type 0} (x : A) → None ≡ Some x → P
 no_none x e = absurd (cc)
 
-pub some_is : {A : Type 0} (x y : A) → Some x ≡ Some y → x ≡ y
-some_is x y e = cc
-
 -- the hex digits of a digest decode to it
 pub decoded : (x text : List ℕ) → IsDigest x → encode_lower x ≡ text → decode_sized text 32 ≡ Ok x
 decoded x text fits e =

@@ -1,6 +1,7 @@
 -- The causes of faults.
 use Rattle.std.specs.Prelude.{◌≡◌, ◌⊎◌, ◌≤◌, ℕ, List}
 use Rattle.std.proofs.Common.{inl, inr, sym, subst}
+use Rattle.ae_outside.proofs.Rising.{risen_later}
 use Rattle.ae_base.specs.declared.outcome.Outcome.{Outcome}
 use Rattle.ae_base.specs.declared.outcome.Outcome.TheVariants.{Done, RunFailed, Refused, BadWords, BadScript, DiskFault, SiteFault, SinkFault, SourceFault, Damaged, Memory}
 use Rattle.ae_outside.specs.Causes.{HasRisen}
@@ -10,7 +11,6 @@ use Rattle.ae_telling.specs.Telling.{IsTold, IsToldOrMemory, SinkUse, unless_tol
 use Rattle.ae_script.specs.Causes.{IsCaused}
 use Rattle.ae_script.specs.Step.{IsStoppedBy}
 use Rattle.ae_script.specs.declared.manner.Manner.{Manner}
-use Rattle.ae_script.proofs.Ended.{risen_from}
 
 module _ (d s i o d' s' i' o' : Type 0) (d_on : d → d') (s_on : s → s') (i_on : i → i') (o_on : o → o') where
   pub caused_on : (r : Outcome) → IsCaused d s i o r → IsCaused d' s' i' o' r
@@ -75,5 +75,5 @@ pub caused_by_line : (manner : Manner) (disk disk_mid disk_new site site_mid sit
 caused_by_line manner disk disk_mid disk_new site site_mid site_new source source_new sink sink_new meant result text sink_is disk_later site_later on is stopped =
     caused_told (HasRisen disk disk_new) (HasRisen site site_new) (HasRisen source source_new) (HasRisen sink sink_new) meant result
     (caused_on (HasRisen disk_mid disk_new) (HasRisen site_mid site_new) ⊥ ⊥ (HasRisen disk disk_new) (HasRisen site site_new) (HasRisen source source_new) (HasRisen sink sink_new)
-    (risen_from disk disk_mid disk_new disk_later) (risen_from site site_mid site_new site_later) (λ none. absurd none) (λ none. absurd none) meant is)
+    (risen_later disk disk_mid disk_new disk_later) (risen_later site site_mid site_new site_later) (λ none. absurd none) (λ none. absurd none) meant is)
     (elim stopped.how [ inl ended ↦ inl ended.1 | inr untold ↦ inr (untold.0, on untold.1) ])

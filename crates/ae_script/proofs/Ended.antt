@@ -27,9 +27,6 @@ use Rattle.ae_script.proofs.SoFar.{SoFar, ends_behind, ends_with_line, fault_unt
 pub risen_on : (a b c : ℕ) → b ≤ c → HasRisen a b → HasRisen a c
 risen_on a b c later rose = omega (arith, later, rose)
 
-pub risen_from : (a b c : ℕ) → a ≤ b → HasRisen b c → HasRisen a c
-risen_from a b c later rose = omega (arith, later, rose)
-
 -- ---- a line that isn't understood
 
 pub record BadHere (at : ℕ) (rest : List ℕ) : Type 0 where

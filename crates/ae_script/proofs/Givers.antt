@@ -22,7 +22,7 @@ user_is text read user o is same some = go (is_user read) refl
     go true good = let known : Some user ≡ Some read = sym some ∙ is ∙ (rw good refl) in let named : user ≡ read = cc in named ∙ same
     go false bad = absurd (let none : Some user ≡ None = sym some ∙ is ∙ (rw bad refl) in cc)
 
-may_is : (text : List ℕ) (o : Option (List ℕ)) (user : List ℕ) (now : ℕ) → o ≡ read_as is_user text → o ≡ Some user → now ≤ 4102444799 → may_give text now ≡ true
+pub may_is : (text : List ℕ) (o : Option (List ℕ)) (user : List ℕ) (now : ℕ) → o ≡ read_as is_user text → o ≡ Some user → now ≤ 4102444799 → may_give text now ≡ true
 may_is text o user now read some early = go (is_user text) refl
   where
     go : (b : Bool) → is_user text ≡ b → may_give text now ≡ true

@@ -1,8 +1,5 @@
 -- What words ask for, once.
-use Rattle.std.proofs.Common.{◌≡◌, ◌≤◌, ℕ, List, Bool, true, false, Option, Some, None, Result, Err, refl, sym, ap, subst, ◌∙◌, arith}
-use Rattle.std.proofs.lemmas.Grind.{common_steps}
-use Rattle.ae_base.specs.Bytes.{read_as}
-use Rattle.ae_base.specs.Names.{is_user}
+use Rattle.std.proofs.Common.{◌≡◌, ℕ, List, true, false, Result, Err, refl, sym, ap, subst, ◌∙◌}
 use Rattle.ae_words.specs.Answer.{IsAnswer, told}
 use Rattle.ae_words.specs.declared.command.Command.{Command}
 use Rattle.ae_words.specs.declared.read.WordsError.{WordsError}
@@ -102,10 +99,3 @@ same_place place other is same at = let one : other ≡ place = cc in sym one �
 
 pub bad_answer : (words : List (List ℕ)) (e : WordsError) (place : ℕ) → e ≡ words_error.Bad place → IsAnswer words (Err e) → (first : ℕ) × IsFirstBad words first × (place ≡ told first)
 bad_answer words e place is answer = subst (λ (e : WordsError). IsAnswer words (Err e)) is answer
-
-pub may_is : (text : List ℕ) (who : Option (List ℕ)) (user : List ℕ) (now : ℕ) → who ≡ read_as is_user text → who ≡ Some user → now ≤ 4102444799 → may_give text now ≡ true
-may_is text who user now read some early = go (is_user text) refl
-  where
-    go : (b : Bool) → is_user text ≡ b → may_give text now ≡ true
-    go true is = grind (arith, common_steps, is, early)
-    go false is = absurd (let none : who ≡ None = grind (arith, common_steps, read, is) in cc)

@@ -3,7 +3,7 @@ use Rattle.std.proofs.Common.{◌≡◌, inl, inr, ℕ, zero, suc, ◌+◌, ◌-
 use Rattle.std.specs.Prelude.{nat_le, nat_lt, nat_eq, filter, All}
 use Rattle.std.specs.List.{list_all, count_by}
 use Rattle.std.specs.List.Sorted.{IsPermutation, IsNonDecreasingBy}
-use Rattle.std.proofs.lemmas.Bool.{cases_lt}
+use Rattle.std.proofs.lemmas.Bool.{cases_lt, and_parts}
 use Rattle.std.proofs.lemmas.Bool.Decides.{nat_tests}
 use Rattle.std.proofs.lemmas.List.Elements.{All-filter, filter_passes}
 use Rattle.std.proofs.lemmas.List.{at_drop_more, at_drop_all}
@@ -13,7 +13,7 @@ use Rattle.std.proofs.lemmas.Map.Views.{any-filter_same}
 use Rattle.ae_space.specs.declared.extent.Extent.{Extent}
 use Rattle.ae_space.specs.Fit.{region, is_outside, none_meet, is_inside, are_inside}
 use Rattle.ae_space.specs.Gaps.{has_unit, one_has, Leaves, AreSpread, AreInOrder, gaps_from}
-use Rattle.ae_space.proofs.Tests.{both, has-unit, unit-in, no-unit, outside-is}
+use Rattle.ae_space.proofs.Tests.{has-unit, unit-in, no-unit, outside-is}
 use Rattle.ae_space.proofs.Runs.{spread-lower, none-below}
 
 -- ---- gaps
@@ -69,7 +69,7 @@ none-cover : (k : ℕ) (e : Extent) (extents : List Extent) → has_unit k e ≡
 unfolding cover
 none-cover k e [] has all = refl
 none-cover k e (x ∷ extents) has all =
-    let parts = both (is_outside e.at e.units x) (list_all (is_outside e.at e.units) extents) all in
+    let parts = and_parts (is_outside e.at e.units x) (list_all (is_outside e.at e.units) extents) all in
     let within = unit-in k e has in
     ap (λ (b : Bool). cond b (1 + cover k extents) (cover k extents)) (outside-is e.at e.units x parts.0 k within.0 within.1) ∙ none-cover k e extents has parts.1
 
@@ -79,7 +79,7 @@ apart-cover k [] apart = omega arith
 apart-cover k (e ∷ extents) apart = go (has_unit k e) refl (apart-cover k extents)
   where
     parts : (list_all (is_outside e.at e.units) extents ≡ true) × (none_meet extents ≡ true)
-    parts = both (list_all (is_outside e.at e.units) extents) (none_meet extents) apart
+    parts = and_parts (list_all (is_outside e.at e.units) extents) (none_meet extents) apart
 
     go : (b : Bool) → has_unit k e ≡ b → (none_meet extents ≡ true → cover k extents ≤ 1) → cond b (1 + cover k extents) (cover k extents) ≤ 1
     go true has rest = let none = none-cover k e extents has parts.0 in omega (arith, none)
@@ -177,8 +177,8 @@ sorted-order extents sorted apart inside p up =
 
     each : (xs : List Extent) → list_all is_inside xs ≡ true → All (λ (e : Extent). is_inside e ≡ true) xs
     each [] all i d lt = absurd (omega (arith, lt))
-    each (x ∷ xs) all zero d lt = (both (is_inside x) (list_all is_inside xs) all).0
-    each (x ∷ xs) all (suc i) d lt = each xs (both (is_inside x) (list_all is_inside xs) all).1 i d (omega (arith, lt))
+    each (x ∷ xs) all zero d lt = (and_parts (is_inside x) (list_all is_inside xs) all).0
+    each (x ∷ xs) all (suc i) d lt = each xs (and_parts (is_inside x) (list_all is_inside xs) all).1 i d (omega (arith, lt))
 
 pub sorted-leaves : (extents sorted gaps : List Extent) → IsPermutation (filter some_units extents) sorted → Leaves sorted gaps → Leaves extents gaps
 sorted-leaves extents sorted gaps p leaves = record {

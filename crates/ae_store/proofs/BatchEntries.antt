@@ -10,10 +10,10 @@ use Rattle.std.specs.Str.{bytes_eq}
 use Rattle.std.proofs.lemmas.Slice.Eq.{bytes_eq-Decides}
 use Rattle.std.proofs.lemmas.List.Sorted.{searchable_from_sorted}
 use Rattle.std.proofs.lemmas.List.Edits.{length-insert}
+use Rattle.std.proofs.lemmas.Bool.{and_parts, cases_Bool}
+use Rattle.ae_types.proofs.Searched.{is_less}
 use Rattle.ae_types.proofs.Keys.{by_text}
 use Rattle.ae_types.proofs.Ordered.{Above, Ascends, above-above, greater-less, less-other}
-use Rattle.ae_types.proofs.Splits.{and2}
-use Rattle.ae_vault.proofs.Files.{bool_cases}
 use Rattle.ae_vault.specs.declared.entry.Entry.{Entry}
 use Rattle.ae_vault.specs.Vault.{content_of, or_else, names_ascend, all_entry_names, is_entry_name}
 use Rattle.ae_vault.specs.Pieces.{pack}
@@ -27,18 +27,13 @@ entry_name e = e.name
 abbrev one : Entry → List ℕ → Option (List ℕ)
 one e name = if bytes_eq e.name name then Some (unwrap_or e.bytes []) else None
 
-is_less : (x : Ordering) → is_lt x ≡ true → x ≡ Less
-is_less Less e = refl
-is_less Equal e = cc
-is_less Greater e = cc
-
 -- ---- the order
 
 ascends_of : (es : List Entry) → names_ascend es ≡ true → Ascends by_text entry_name es
 ascends_of [] h = tt
 ascends_of (e ∷ []) h = (tt, tt)
 ascends_of (e ∷ f ∷ es) h =
-    let parts = and2 (is_lt (by_text.cmp e.name f.name)) (names_ascend (f ∷ es)) h in
+    let parts = and_parts (is_lt (by_text.cmp e.name f.name)) (names_ascend (f ∷ es)) h in
     let less = is_less (by_text.cmp e.name f.name) parts.0 in
     let rest = ascends_of (f ∷ es) parts.1 in
     ((less, above-above by_text entry_name e.name f.name es less rest.0), rest)
@@ -94,13 +89,13 @@ no_bytes a b None (inl none) = ap (λ (o : Option (List ℕ)). or_else o b) none
 no_bytes a b None (inr none) = ap (λ (o : Option (List ℕ)). or_else a o) none ∙ last a ∙ sym (ap (λ (o : Option (List ℕ)). or_else o a) none)
 
 one_none : (e : Entry) (name : List ℕ) → (e.name ≡ name → ⊥) → one e name ≡ None
-one_none e name other = elim (bool_cases (bytes_eq e.name name)) [
+one_none e name other = elim (cases_Bool (bytes_eq e.name name)) [
   | inl is ↦ absurd (other ((bytes_eq-Decides e.name name).0 is))
   | inr isnt ↦ ap (λ (b : Bool). if b then Some (unwrap_or e.bytes []) else None) isnt
 ]
 
 not_both : (x e : Entry) (name : List ℕ) → by_text.cmp x.name e.name ≡ Less → (one e name ≡ None) ⊎ (one x name ≡ None)
-not_both x e name less = elim (bool_cases (bytes_eq e.name name)) [
+not_both x e name less = elim (cases_Bool (bytes_eq e.name name)) [
   | inl is ↦ inr (one_none x name (λ same. less-other by_text x.name e.name less (same ∙ sym ((bytes_eq-Decides e.name name).0 is))))
   | inr isnt ↦ inl (ap (λ (b : Bool). if b then Some (unwrap_or e.bytes []) else None) isnt)
 ]
@@ -131,7 +126,7 @@ given (x ∷ es) (suc i) name h is other = go (content_of es name) (given es i n
     go None a b = sym a ∙ b ∙ ap (λ (o : Option (List ℕ)). or_else o other) a
 
 content_there : (es : List Entry) (i : ℕ) (e : Entry) → i < length es → ((d : Entry) → by_text.cmp (get_or es i d).name e.name ≡ Equal) → (name : List ℕ) → content_of es name ≡ content_of (e ∷ es) name
-content_there es i e h is name = elim (bool_cases (bytes_eq e.name name)) [
+content_there es i e h is name = elim (cases_Bool (bytes_eq e.name name)) [
   | inl here ↦ given es i name h (λ d. by_text.anti (get_or es i d).name e.name (is d) ∙ (bytes_eq-Decides e.name name).0 here) (one e name)
   | inr other ↦ sym (last (content_of es name)) ∙ ap (λ (b : Bool). or_else (content_of es name) (if b then Some (unwrap_or e.bytes []) else None)) (sym other)
 ]
@@ -140,7 +135,7 @@ content_there es i e h is name = elim (bool_cases (bytes_eq e.name name)) [
 
 place_of : (es : List Entry) (i : ℕ) (e : Entry) → AreOrdered es → (IsNonDecreasingBy (λ (y : Entry). ordering_index (by_text.cmp y.name e.name)) es → IsPlace e.name es i) → IsPlace e.name es i
 place_of es i e ordered parted =
-    let names = and2 (all_entry_names es) (names_ascend es) ordered.names in
+    let names = and_parts (all_entry_names es) (names_ascend es) ordered.names in
     parted (searchable_from_sorted by_text.total entry_name es e.name (sorted es (ascends_of es names.1)))
 
 content_inserted : (es : List Entry) (i : ℕ) (e : Entry) → AreOrdered es → i ≤ length es
@@ -153,15 +148,15 @@ all_insert test [] zero e is h = ap (λ (b : Bool). b && true) is
 all_insert test [] (suc i) e is h = ap (λ (b : Bool). b && true) is
 all_insert test (x ∷ es) zero e is h = ap (λ (b : Bool). b && list_all test (x ∷ es)) is ∙ h
 all_insert test (x ∷ es) (suc i) e is h =
-    let parts = and2 (test x) (list_all test es) h in
+    let parts = and_parts (test x) (list_all test es) h in
     ap (λ (b : Bool). b && list_all test (insert es i e)) parts.0 ∙ all_insert test es i e is parts.1
 
 ordered_inserted : (es : List Entry) (i : ℕ) (e : Entry) → AreOrdered es → i ≤ length es → is_state_name e.name ≡ true → length es + 1 < 2 ^ 32
     → (IsNonDecreasingBy (λ (y : Entry). ordering_index (by_text.cmp y.name e.name)) es → IsPlace e.name es i)
     → AreOrdered (insert es i e)
 ordered_inserted es i e ordered h name few parted =
-    let is = and2 (is_entry_name e.name) (not (bytes_eq e.name pack)) name in
-    let names = and2 (all_entry_names es) (names_ascend es) ordered.names in
+    let is = and_parts (is_entry_name e.name) (not (bytes_eq e.name pack)) name in
+    let names = and_parts (all_entry_names es) (names_ascend es) ordered.names in
     let all : all_entry_names (insert es i e) ≡ true = all_insert (λ (f : Entry). is_entry_name f.name) es i e is.0 names.0 in
     let ascend : names_ascend (insert es i e) ≡ true = test_of (insert es i e) (ascends_insert es i e h (place_of es i e ordered parted) (ascends_of es names.1)) in
     record {

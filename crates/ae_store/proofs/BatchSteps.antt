@@ -2,7 +2,8 @@
 use Rattle.std.proofs.Common.{◌≡◌, inl, inr, ℕ, refl, sym, ◌∙◌, ap, Bool, if◌then◌else◌, List, Option, Some, None}
 use Rattle.std.specs.Str.{bytes_eq}
 use Rattle.std.proofs.lemmas.Slice.Eq.{bytes_eq-Decides}
-use Rattle.ae_vault.proofs.Files.{bool_cases, option_cases}
+use Rattle.std.proofs.lemmas.Bool.{cases_Bool}
+use Rattle.ae_vault.proofs.Files.{option_cases}
 use Rattle.ae_vault.specs.declared.entry.Entry.{Entry}
 use Rattle.ae_vault.specs.Vault.{content_of, or_else}
 use Rattle.ae_types.specs.Observation.{Observation}
@@ -24,7 +25,7 @@ right_after wanted before after file goes right name bytes e = elim (option_case
       right name bytes (some.1 ∙ sym there ∙ e)
   | inl none ↦
       let there : after name ≡ (if bytes_eq file name then wanted file else None) = goes name ∙ ap (λ (o : Option (List ℕ)). or_else o (if bytes_eq file name then wanted file else None)) none in
-      elim (bool_cases (bytes_eq file name)) [
+      elim (cases_Bool (bytes_eq file name)) [
         | inl is ↦
             let same : file ≡ name = (bytes_eq-Decides file name).0 is in
             ap wanted (sym same) ∙ sym (ap (λ (b : Bool). if b then wanted file else None) is) ∙ sym there ∙ e
@@ -43,7 +44,7 @@ done_after wanted before after file goes right = elim (option_cases (before file
 kept_after : (wanted before after : Contents) (file : List ℕ) → Goes wanted before after file → (name : List ℕ) → before name ≡ wanted name → after name ≡ wanted name
 kept_after wanted before after file goes name done = elim (option_cases (wanted name)) [
   | inr some ↦ goes name ∙ ap (λ (o : Option (List ℕ)). or_else o (if bytes_eq file name then wanted file else None)) (done ∙ some.1) ∙ sym some.1
-  | inl none ↦ goes name ∙ ap (λ (o : Option (List ℕ)). or_else o (if bytes_eq file name then wanted file else None)) (done ∙ none) ∙ elim (bool_cases (bytes_eq file name)) [
+  | inl none ↦ goes name ∙ ap (λ (o : Option (List ℕ)). or_else o (if bytes_eq file name then wanted file else None)) (done ∙ none) ∙ elim (cases_Bool (bytes_eq file name)) [
     | inl is ↦ ap (λ (b : Bool). if b then wanted file else None) is ∙ ap wanted ((bytes_eq-Decides file name).0 is)
     | inr isnt ↦ ap (λ (b : Bool). if b then wanted file else None) isnt ∙ sym none
   ]

@@ -3,15 +3,16 @@ use Rattle.std.proofs.Common.{◌≡◌, ℕ, suc, ◌<◌, ◌≤◌, refl, sym
 use Rattle.std.specs.Prelude.{All, is_some, Result, Ok, Err, IfOk, IfSome}
 use Rattle.std.specs.List.{find}
 use Rattle.std.specs.Str.{bytes_eq}
+use Rattle.std.proofs.lemmas.Option.{same_Some}
+use Rattle.std.proofs.lemmas.Bool.{false≢true}
 use Rattle.ae_types.specs.declared.change.Change.{Change}
 use Rattle.ae_types.specs.Found.{change_at, change_in, number_of_change, has_number}
 use Rattle.ae_types.specs.Observation.{Observation}
 use Rattle.ae_types.specs.Sound.{Sound}
 use Rattle.ae_types.proofs.BinarySearch.{place-in}
 use Rattle.ae_types.proofs.Keys.{by_number}
-use Rattle.ae_types.proofs.Ordered.{some-is}
 use Rattle.ae_types.proofs.Searched.{in-found}
-use Rattle.ae_types.proofs.Splits.{never, to-if}
+use Rattle.ae_types.proofs.Splits.{to-if}
 use Rattle.ae_schema.specs.Fits.{IsChangeNo, ProjectAscends, HoldsProject, HoldsFiles, HoldsChange, FitsProject, FitsChange, FilesAscend}
 use Rattle.ae_schema.specs.Files.{project_fields, files_fields, change_fields}
 use Rattle.ae_schema.specs.Records.{IsTextOf}
@@ -26,7 +27,7 @@ use Rattle.ae_store.proofs.BatchNames.{same_number}
 
 -- what holds of each number holds of one that is among them
 pub each_has : (P : ℕ → Type 0) (numbers : List ℕ) (n : ℕ) → ((k : ℕ) → k < length numbers → P (get_or numbers k 0)) → has_number numbers n ≡ true → P n
-each_has P [] n all has = never has
+each_has P [] n all has = absurd (false≢true has)
 each_has P (m ∷ numbers) n all has = go (nat_eq n m) refl has (each_has P numbers n (λ k h. all (suc k) (omega (arith, h))))
   where
     go : (b : Bool) → nat_eq n m ≡ b → is_some (cond b (Some m) (find (λ other. nat_eq n other) numbers)) ≡ true → (has_number numbers n ≡ true → P n) → P n
@@ -101,5 +102,5 @@ change_written (Some o) n h all sound change found text is again holds =
     let fits : FitsChange change = (holds, (good.files.ascend, good.runs.ascend)) in
     let same : canonical (change_fields change) ≡ text_in o (change_file n) = ap text_of_change found ∙ sym (text_is (Some o) n h all) in
     to-if (λ (c : Change). IsChange (text_in o (change_file n)) c) (change_at o n)
-    (λ (c : Change) e. subst (λ (x : Change). IsChange (text_in o (change_file n)) x) (some-is change c (found ∙ e))
+    (λ (c : Change) e. subst (λ (x : Change). IsChange (text_in o (change_file n)) x) (same_Some change c (found ∙ e))
     (fits, subst (λ (t : List ℕ). IsTextOf t (change_fields change)) (is ∙ same) again))

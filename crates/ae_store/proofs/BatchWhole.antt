@@ -3,8 +3,9 @@ use Rattle.std.proofs.Common.{◌≡◌, ◌≢◌, ◌⊎◌, inl, inr, ℕ, �
 use Rattle.std.specs.Prelude.{IfSome}
 use Rattle.std.specs.Str.{bytes_eq}
 use Rattle.std.proofs.lemmas.Slice.Eq.{bytes_eq-Decides}
+use Rattle.std.proofs.lemmas.Bool.{cases_Bool}
 use Rattle.ae_outside.specs.Image.{Image}
-use Rattle.ae_vault.proofs.Files.{bool_cases, option_cases}
+use Rattle.ae_vault.proofs.Files.{option_cases}
 use Rattle.ae_vault.specs.declared.entry.Entry.{Entry}
 use Rattle.ae_vault.specs.Vault.{content_of, put}
 use Rattle.ae_types.specs.declared.change.Change.{Change}
@@ -73,7 +74,7 @@ module _ (old : Option Observation) (new : Observation) (entries : List Entry) w
   each_old : ((k : ℕ) → k < length new.numbers → Done (change_file (get_or new.numbers k 0)))
       → ((k : ℕ) → k < length (numbers_of old) → has_number new.numbers (get_or (numbers_of old) k 0) ≡ false → Done (change_file (get_or (numbers_of old) k 0)))
       → (k : ℕ) → k < length (numbers_of old) → Done (change_file (get_or (numbers_of old) k 0))
-  each_old there gone k inside = elim (bool_cases (has_number new.numbers (get_or (numbers_of old) k 0))) [
+  each_old there gone k inside = elim (cases_Bool (has_number new.numbers (get_or (numbers_of old) k 0))) [
     | inl is ↦ each_has (λ n. Done (change_file n)) new.numbers (get_or (numbers_of old) k 0) there is
     | inr is_gone ↦ gone k inside is_gone
   ]
@@ -85,9 +86,9 @@ module _ (old : Option Observation) (new : Observation) (entries : List Entry) w
       → (name : List ℕ) → Done name
   all_done right project table sound_old sound_new done_new done_gone name = elim (option_cases (content_of entries name)) [
     | inr some ↦ some.1 ∙ sym (right.right name some.0 some.1)
-    | inl none ↦ elim (bool_cases (bytes_eq name project_file)) [
+    | inl none ↦ elim (cases_Bool (bytes_eq name project_file)) [
       | inl is ↦ subst Done (sym ((bytes_eq-Decides name project_file).0 is)) project
-      | inr not_project ↦ elim (bool_cases (bytes_eq name files_file)) [
+      | inr not_project ↦ elim (cases_Bool (bytes_eq name files_file)) [
         | inl is ↦ subst Done (sym ((bytes_eq-Decides name files_file).0 is)) table
         | inr not_files ↦ elim (looked new sound_new done_new name) [
           | inr is ↦ is
@@ -108,7 +109,7 @@ Backs told file = (told ≡ []) ⊎ ((fields : List Named) × IsTextOf told fiel
 
 -- what a batch leaves in a file is the new record
 left : (told text file : List ℕ) (fields : List Named) → text ≢ [] → IsTextOf text fields → Backs told file → IsTextOf (unwrap_or (change_of told text) file) fields
-left told text file fields some is backs = elim (bool_cases (bytes_eq told text)) [
+left told text file fields some is backs = elim (cases_Bool (bytes_eq told text)) [
   | inr differ ↦ subst (λ (b : Bool). IsTextOf (unwrap_or (if b then None else Some text) file) fields) (sym differ) is
   | inl same ↦
       let equal : told ≡ text = (bytes_eq-Decides told text).0 same in

@@ -1,8 +1,10 @@
 -- A text is the record of at most one value.
-use Rattle.std.proofs.Common.{◌≡◌, ℕ, zero, suc, Bool, true, false, List, [], ◌∷◌, map, Option, Some, None, IfSome, unwrap_or, All, refl, sym, ◌∙◌, ap, subst, Result, Ok, Err}
+use Rattle.std.proofs.Common.{◌≡◌, ℕ, zero, suc, Bool, true, false, List, [], ◌∷◌, map, Option, Some, None, IfSome, All, refl, sym, ◌∙◌, ap, subst, Result, Ok, Err}
 use Rattle.std.specs.Prelude.{codes}
 use Rattle.std.specs.Str.{bytes_eq}
 use Rattle.std.proofs.lemmas.List.Elements.{All-head, All-tail}
+use Rattle.std.proofs.lemmas.Bool.{true≢false, false≢true}
+use Rattle.std.proofs.lemmas.Option.{same_Some}
 use Rattle.hex.specs.Hex.{encode_lower, decode_of}
 use Rattle.hex.specs.declared.error.FromHexError.{FromHexError}
 use Rattle.hex.proofs.HexLemmas.{decode_of-encode_lower}
@@ -85,12 +87,6 @@ abbrev has_members : Node → Bool
 has_members (fields (member k j ms)) = true
 has_members _ = false
 
-not_both : {P : Type 0} → true ≡ false → P
-not_both e = cc
-
-not_either : {P : Type 0} → false ≡ true → P
-not_either e = cc
-
 -- ---- values
 
 one_str : (x y : List ℕ) → str x ≡ str y → x ≡ y
@@ -102,38 +98,35 @@ one_number x y e = ap number_in e
 one_flag : (x y : Bool) → flag x ≡ flag y → x ≡ y
 one_flag true true e = refl
 one_flag false false e = refl
-one_flag true false e = not_both (ap (λ (n : Node). bytes_eq (codes "true") (word_in n)) e)
-one_flag false true e = not_either (ap (λ (n : Node). bytes_eq (codes "true") (word_in n)) e)
+one_flag true false e = absurd (true≢false (ap (λ (n : Node). bytes_eq (codes "true") (word_in n)) e))
+one_flag false true e = absurd (false≢true (ap (λ (n : Node). bytes_eq (codes "true") (word_in n)) e))
 
 one_end : (x y : EndAction) → word (end_action_word x) ≡ word (end_action_word y) → x ≡ y
 one_end BeingReviewed BeingReviewed e = refl
 one_end AwaitingReview AwaitingReview e = refl
-one_end BeingReviewed AwaitingReview e = not_both (ap (λ (n : Node). bytes_eq (codes "goto_being_reviewed") (word_in n)) e)
-one_end AwaitingReview BeingReviewed e = not_either (ap (λ (n : Node). bytes_eq (codes "goto_being_reviewed") (word_in n)) e)
-
-pub same_some : {A : Type 0} (x y : A) → Some x ≡ Some y → x ≡ y
-same_some x y e = ap (λ o. unwrap_or o x) e
+one_end BeingReviewed AwaitingReview e = absurd (true≢false (ap (λ (n : Node). bytes_eq (codes "goto_being_reviewed") (word_in n)) e))
+one_end AwaitingReview BeingReviewed e = absurd (false≢true (ap (λ (n : Node). bytes_eq (codes "goto_being_reviewed") (word_in n)) e))
 
 one_phase : (x y : Phase) → word (phase_word x) ≡ word (phase_word y) → x ≡ y
-one_phase x y e = same_some x y (sym ((phase_found (phase_word x) x).1 refl) ∙ (phase_found (phase_word x) y).1 (ap word_in e))
+one_phase x y e = same_Some x y (sym ((phase_found (phase_word x) x).1 refl) ∙ (phase_found (phase_word x) y).1 (ap word_in e))
 
 one_action : (x y : Action) → word (action_word x) ≡ word (action_word y) → x ≡ y
-one_action x y e = same_some x y (sym ((action_found (action_word x) x).1 refl) ∙ (action_found (action_word x) y).1 (ap word_in e))
+one_action x y e = same_Some x y (sym ((action_found (action_word x) x).1 refl) ∙ (action_found (action_word x) y).1 (ap word_in e))
 
 one_usage : (x y : Usage) → word (usage_word x) ≡ word (usage_word y) → x ≡ y
-one_usage x y e = same_some x y (sym ((usage_found (usage_word x) x).1 refl) ∙ (usage_found (usage_word x) y).1 (ap word_in e))
+one_usage x y e = same_Some x y (sym ((usage_found (usage_word x) x).1 refl) ∙ (usage_found (usage_word x) y).1 (ap word_in e))
 
 one_cause : (x y : Cause) → word (cause_word x) ≡ word (cause_word y) → x ≡ y
-one_cause x y e = same_some x y (sym ((cause_found (cause_word x) x).1 refl) ∙ (cause_found (cause_word x) y).1 (ap word_in e))
+one_cause x y e = same_Some x y (sym ((cause_found (cause_word x) x).1 refl) ∙ (cause_found (cause_word x) y).1 (ap word_in e))
 
 one_ground : (x y : Ground) → word (ground_word x) ≡ word (ground_word y) → x ≡ y
-one_ground x y e = same_some x y (sym ((ground_found (ground_word x) x).1 refl) ∙ (ground_found (ground_word x) y).1 (ap word_in e))
+one_ground x y e = same_Some x y (sym ((ground_found (ground_word x) x).1 refl) ∙ (ground_found (ground_word x) y).1 (ap word_in e))
 
 one_kind : (x y : Kind) → word (kind_word x) ≡ word (kind_word y) → x ≡ y
-one_kind x y e = same_some x y (sym ((kind_found (kind_word x) x).1 refl) ∙ (kind_found (kind_word x) y).1 (ap word_in e))
+one_kind x y e = same_Some x y (sym ((kind_found (kind_word x) x).1 refl) ∙ (kind_found (kind_word x) y).1 (ap word_in e))
 
 one_what : (x y : What) → word (what_word x) ≡ word (what_word y) → x ≡ y
-one_what x y e = same_some x y (sym ((what_found (what_word x) x).1 refl) ∙ (what_found (what_word x) y).1 (ap word_in e))
+one_what x y e = same_Some x y (sym ((what_found (what_word x) x).1 refl) ∙ (what_found (what_word x) y).1 (ap word_in e))
 
 -- a name or none, where no name is empty
 one_optional : (P : List ℕ → Type 0) → (P [] → ⊥) → (x y : Option (List ℕ)) → IfSome x P → IfSome y P → optional x ≡ optional y → x ≡ y
@@ -155,8 +148,8 @@ one_list Fits spelled one xs ys fx fy e = go xs ys fx fy (ap items_in e)
   where
     go : (xs ys : List _) → All Fits xs → All Fits ys → items_of (map spelled xs) ≡ items_of (map spelled ys) → xs ≡ ys
     go [] [] fx fy e = refl
-    go [] (y ∷ ys) fx fy e = not_either (ap is_item e)
-    go (x ∷ xs) [] fx fy e = not_both (ap is_item e)
+    go [] (y ∷ ys) fx fy e = absurd (false≢true (ap is_item e))
+    go (x ∷ xs) [] fx fy e = absurd (true≢false (ap is_item e))
     go (x ∷ xs) (y ∷ ys) fx fy e =
         let head = one x y (All-head Fits x xs fx) (All-head Fits y ys fy) (ap first_item e) in
         let tail = go xs ys (All-tail Fits x xs fx) (All-tail Fits y ys fy) (ap more_items e) in
@@ -186,8 +179,8 @@ one_version v w fv fw e =
 one_optional_version : (x y : Option VersionRef) → IfSome x FitsVersion → IfSome y FitsVersion → optional_version x ≡ optional_version y → x ≡ y
 one_optional_version None None fx fy e = refl
 one_optional_version (Some x) (Some y) fx fy e = ap Some (one_version x y fx fy e)
-one_optional_version None (Some y) fx fy e = not_either (ap has_members e)
-one_optional_version (Some x) None fx fy e = not_both (ap has_members e)
+one_optional_version None (Some y) fx fy e = absurd (false≢true (ap has_members e))
+one_optional_version (Some x) None fx fy e = absurd (true≢false (ap has_members e))
 
 one_delta : (x y : DeltaRow) → delta_row x ≡ delta_row y → x ≡ y
 one_delta x y e =
@@ -254,7 +247,7 @@ one_structure bytes ms ns one other = (one_tree bytes (structure ms) (structure 
 nothing_read : (ms : List Named) → has_members (structure ms) ≡ true → IsTextOf [] ms → ⊥
 nothing_read ms some reads =
     let none = text_again (structure []) [] (tt, tt, tt) tt refl in
-    not_both (sym some ∙ ap has_members (one_structure [] ms [] reads none))
+    (absurd (true≢false (sym some ∙ ap has_members (one_structure [] ms [] reads none))))
 
 pub some_project : (project : Project) (numbers : List ℕ) → IsProject [] project numbers → ⊥
 some_project project numbers is = nothing_read (project_fields (project, numbers)) refl is.1

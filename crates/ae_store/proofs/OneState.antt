@@ -1,6 +1,6 @@
 -- Files stand for one thing, or blame one file, and never both.
-use Rattle.std.proofs.Common.{◌≡◌, ◌≢◌, ℕ, Bool, true, false, ◌&&◌, not, if◌then◌else◌, List, [], ◌∷◌, ◌++◌, Option, Some, None, IsSomeAnd, refl, sym, ◌∙◌, ap, subst}
-use Rattle.std.specs.Option.{option_or, option_map}
+use Rattle.std.proofs.Common.{◌≡◌, ◌≢◌, ℕ, Bool, true, false, not, if◌then◌else◌, List, [], ◌∷◌, ◌++◌, Option, Some, None, IsSomeAnd, refl, sym, ◌∙◌, ap, subst}
+use Rattle.std.specs.Option.{option_map}
 use Rattle.std.specs.List.{find}
 use Rattle.ae_outside.specs.Image.{Image}
 use Rattle.ae_types.specs.declared.blame.Blame.{Blame}
@@ -10,17 +10,19 @@ use Rattle.ae_types.specs.declared.file_table.FileRow.{FileRow}
 use Rattle.ae_types.specs.declared.file_table.Lock.{Lock}
 use Rattle.ae_types.specs.declared.project.Project.{Project}
 use Rattle.ae_types.specs.Observation.{Observation}
-use Rattle.ae_types.specs.Rules.{blamed, blame_unless, bad_change, is_change_of, change_is_good, project_is_good}
+use Rattle.ae_types.specs.Rules.{blamed, bad_change, is_change_of, change_is_good, project_is_good}
 use Rattle.ae_types.specs.Found.{has_number, number_of_change}
 use Rattle.ae_types.specs.Ordered.{ascends}
 use Rattle.std.specs.Ordering.{nat_cmp}
+use Rattle.std.proofs.lemmas.Option.{same_Some}
+use Rattle.std.proofs.lemmas.Bool.{and_parts}
 use Rattle.ae_types.specs.Sound.{Sound}
-use Rattle.ae_types.proofs.RulesAre.{sound-blamed}
+use Rattle.ae_types.proofs.RulesAre.{sound-blamed, no-change, last-blamed}
 use Rattle.ae_store.specs.Names.{project_file, files_file, change_file}
 use Rattle.ae_store.specs.Records.{IsProject, IsChange, AreChangeFiles, AreRecords, StandsFor, Stands, nothing, records}
 use Rattle.ae_vault.specs.Kept.{ByFiles}
 use Rattle.ae_store.specs.Damage.{ReadsProject, ReadsTable, ReadsChange, ReadsChanges, IsDamaged, project, table, change, beside}
-use Rattle.ae_store.proofs.OneRecord.{same_some, one_project, one_table, one_change, some_project}
+use Rattle.ae_store.proofs.OneRecord.{one_project, one_table, one_change, some_project}
 
 -- ---- what files stand for
 
@@ -76,23 +78,11 @@ pub record Reads (files : Image) (o : Observation) : Type 0 where
 pub read_records : (files : Image) (o : Observation) → Reads files o → AreRecords files o
 read_records files o reads = record { project = reads.project.is; table = reads.table.is; changes = change_files files o.numbers o.changes reads.changes }
 
-pub or_none : (x y : Option Blame) → option_or x y ≡ None → (x ≡ None) × (y ≡ None)
-or_none None y e = (refl, e)
-or_none (Some b) y e = cc
-
-unless_none : (test : Bool) (b : Blame) → blame_unless test b ≡ None → test ≡ true
-unless_none true b e = refl
-unless_none false b e = cc
-
-pub both : (a b : Bool) → (a && b) ≡ true → (a ≡ true) × (b ≡ true)
-both true b e = (refl, e)
-both false b e = cc
-
 good_first : (files : Image) (all : List ℕ) (n : ℕ) (numbers : List ℕ) (c : Change) (cs : List Change) (b : Bool) → is_change_of all c ≡ b
     → (bad_change all cs ≡ None → ReadsChanges files numbers cs) → bad_change all (c ∷ cs) ≡ None → IsChange (files (change_file n)) c → c.number ≡ n → ReadsChanges files (n ∷ numbers) (c ∷ cs)
 good_first files all n numbers c cs true good rest none is numbered =
     let no_more : bad_change all cs ≡ None = ap (λ (b : Bool). option_map (λ (change : Change). blame.Change change.number) (if not b then Some c else find (λ change. not (is_change_of all change)) cs)) (sym good) ∙ none in
-    (record { is = is; numbered = numbered; good = (both (has_number all c.number) (change_is_good c) good).1 }, rest no_more)
+    (record { is = is; numbered = numbered; good = (and_parts (has_number all c.number) (change_is_good c) good).1 }, rest no_more)
 good_first files all n numbers c cs false bad rest none is numbered =
     let no : bad_change all (c ∷ cs) ≡ Some (blame.Change c.number) = ap (λ (b : Bool). option_map (λ (change : Change). blame.Change change.number) (if not b then Some c else find (λ change. not (is_change_of all change)) cs)) bad in
     cc
@@ -107,12 +97,12 @@ good_changes files all (n ∷ numbers) (c ∷ cs) none are =
 pub sound_reads : (files : Image) (o : Observation) → AreRecords files o → Sound o → Reads files o
 sound_reads files o are sound =
     let none = sound-blamed o sound in
-    let first = or_none _ _ none in
-    let second = or_none _ _ first.1 in
-    let third = or_none _ _ second.1 in
+    let first = no-change _ _ none in
+    let second = no-change _ _ first.1 in
+    let third = no-change _ _ second.1 in
     record {
-      project = record { is = are.project; good = (both (project_is_good o.project o.numbers) (ascends nat_cmp number_of_change o.changes) (unless_none _ _ first.0)).0 };
-      table = record { is = are.table; good = unless_none _ _ second.0 };
+      project = record { is = are.project; good = (and_parts (project_is_good o.project o.numbers) (ascends nat_cmp number_of_change o.changes) (last-blamed _ _ first.0)).0 };
+      table = record { is = are.table; good = last-blamed _ _ second.0 };
       changes = good_changes files o.numbers o.numbers o.changes third.0 are.changes;
     }
 
@@ -203,7 +193,7 @@ one_blamed files _ _ (beside o b rp rt rc blames) (change q others rq rows locks
     absurd (not_first files o.numbers before number after o.changes ((one_project (files project_file) o.project q o.numbers others rp.is rq.is).1 ∙ splits) rc worse)
 one_blamed files _ _ (beside o b rp rt rc blames) (beside p c rq rt2 rc2 blames2) =
     let same = same_records files o p (read_records files o (record { project = rp; table = rt; changes = rc })) (read_records files p (record { project = rq; table = rt2; changes = rc2 })) in
-    same_some b c (sym blames ∙ ap blamed same ∙ blames2)
+    same_Some b c (sym blames ∙ ap blamed same ∙ blames2)
 
 -- the effective files say what an image stands for
 pub by_files : ByFiles Stands

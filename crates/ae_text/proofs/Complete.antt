@@ -1,9 +1,10 @@
 -- What is in the grammar is read.
-use Rattle.std.proofs.Common.{◌≡◌, ◌≢◌, ℕ, suc, ◌+◌, ◌-◌, ◌<◌, inl, inr, Bool, true, false, ◌||◌, length, arith, List, [], ◌∷◌, ◌++◌, Result, refl, ap, ◌∙◌, append_assoc}
+use Rattle.std.proofs.Common.{◌≡◌, ◌≢◌, ℕ, suc, ◌+◌, ◌-◌, ◌<◌, inl, inr, false, length, arith, List, [], ◌∷◌, ◌++◌, Result, refl, ap, ◌∙◌, append_assoc}
 use Rattle.std.specs.Str.{bytes_eq}
 use Rattle.std.proofs.lemmas.Slice.Eq.{bytes_eq-Decides}
 use Rattle.std.proofs.lemmas.Bool.Decides.{nat_tests}
 use Rattle.std.proofs.lemmas.List.{append-nil}
+use Rattle.std.proofs.lemmas.Bool.{or_parts}
 use Rattle.ae_text.specs.Tree.{Node, list, fields, Items, no_items, item, Members, no_members, member}
 use Rattle.ae_text.specs.Tree as tree
 use Rattle.ae_text.specs.Token.{Token, word, number, string, sign, Placed}
@@ -72,17 +73,13 @@ abbrev pub Fresh : List (List ℕ × Node) → Members → Type 0
 Fresh fs no_members = Unit {0}
 Fresh fs (member k j ms) = (has_name k fs ≡ false) × Fresh fs ms
 
-pub neither : (a b : Bool) → (a || b) ≡ false → (a ≡ false) × (b ≡ false)
-neither true b e = absurd cc
-neither false b e = (refl, e)
-
 different : (h k : List ℕ) → h ≢ k → bytes_eq h k ≡ false
 different h k ne = grind (arith, bytes_eq-Decides h k)
 
 has_name-push : (k : List ℕ) (fs : List (List ℕ × Node)) (h : List ℕ) (j : Node) → has_name k fs ≡ false → h ≢ k → has_name k (fs ++ (h, j) ∷ []) ≡ false
 has_name-push k [] h j none ne = rw (different h k ne) refl
 has_name-push k (f ∷ fs) h j none ne =
-    let parts : (bytes_eq f.0 k ≡ false) × (has_name k fs ≡ false) = neither _ _ none in
+    let parts : (bytes_eq f.0 k ≡ false) × (has_name k fs ≡ false) = or_parts _ _ none in
     rw (parts.0, has_name-push k fs h j parts.1 ne) refl
 
 pub Fresh-push : (fs : List (List ℕ × Node)) (h : List ℕ) (j : Node) (ms : Members) → Fresh fs ms → LacksName h ms → Fresh (fs ++ (h, j) ∷ []) ms

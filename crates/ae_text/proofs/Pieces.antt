@@ -1,7 +1,7 @@
 -- Words, numbers and strings.
 use Rattle.std.proofs.Common.{◌≡◌, ℕ, zero, suc, ◌+◌, ◌-◌, ◌*◌, ◌^◌, ◌<◌, ◌≤◌, Bool, true, false, cond, eqb, ltb, ◌||◌, ◌&&◌, length, take, drop, arith, List, [], ◌∷◌, ◌++◌, Option, Some, None, refl, sym, ap, subst, ◌∙◌, append_assoc}
 use Rattle.std.specs.Prelude.{fold}
-use Rattle.std.proofs.lemmas.Bool.{eqb-true, eqb-false, ltb-true, lt-ltb, ne_eqb}
+use Rattle.std.proofs.lemmas.Bool.{eqb-true, eqb-false, ltb-true, lt-ltb, ne_eqb, and_parts, and_from}
 use Rattle.std.proofs.lemmas.Bool.Decides.{nat_tests}
 use Rattle.std.proofs.lemmas.List.{length-append, append-nil}
 use Rattle.std.specs.List.{list_all}
@@ -11,13 +11,6 @@ use Rattle.ae_text.specs.Token.{stops, all_digits, IsOctal, IsPiece, plain, line
 use Rattle.ae_text.specs.Scan.{run_length, number_from, is_octal, octal_value, octal_byte, with_rest, octal_at, escape_at, piece_at, closed_string, string_step, string_in}
 use Rattle.ae_text.proofs.Gaps.{some, some_is}
 use Rattle.ae_text.proofs.Turns.{string_turn, string_end}
-
-pub both : (a b : Bool) → (a && b) ≡ true → (a ≡ true) × (b ≡ true)
-both true b e = (refl, e)
-both false b e = absurd cc
-
-pub together : (a b : Bool) → a ≡ true → b ≡ true → (a && b) ≡ true
-together a b p q = rw (p, q) refl
 
 -- ---- runs
 
@@ -38,7 +31,7 @@ run_none (y ∷ ys) e = by_test (goes_on_word y) e where
 
 pub run_exact : (xs ys : List ℕ) → list_all goes_on_word xs ≡ true → stops ys ≡ true → run_length (xs ++ ys) ≡ length xs
 run_exact [] ys h e = run_none ys e
-run_exact (b ∷ bs) ys h e = let p = both (goes_on_word b) (list_all goes_on_word bs) h in rw (p.0, run_exact bs ys p.1 e) refl
+run_exact (b ∷ bs) ys h e = let p = and_parts (goes_on_word b) (list_all goes_on_word bs) h in rw (p.0, run_exact bs ys p.1 e) refl
 
 -- ---- numbers
 
@@ -49,7 +42,7 @@ value_grows : (a : ℕ) (xs : List ℕ) → a ≤ value_from a xs
 value_grows a [] = omega arith
 value_grows a (b ∷ bs) = omega (arith, value_grows (10 * a + (b - 48)) bs)
 
-digit_goes_on : (b : ℕ) → is_digit b ≡ true → goes_on_word b ≡ true
+pub digit_goes_on : (b : ℕ) → is_digit b ≡ true → goes_on_word b ≡ true
 digit_goes_on b e = by_letter (begins_word b) where
   by_letter : (t : Bool) → (t || is_digit b) ≡ true
   by_letter true = refl
@@ -57,7 +50,7 @@ digit_goes_on b e = by_letter (begins_word b) where
 
 pub digits_go_on : (xs : List ℕ) → all_digits xs ≡ true → list_all goes_on_word xs ≡ true
 digits_go_on [] e = refl
-digits_go_on (b ∷ bs) e = let p = both (is_digit b) (all_digits bs) e in together (goes_on_word b) (list_all goes_on_word bs) (digit_goes_on b p.0) (digits_go_on bs p.1)
+digits_go_on (b ∷ bs) e = let p = and_parts (is_digit b) (all_digits bs) e in and_from (goes_on_word b) (list_all goes_on_word bs) (digit_goes_on b p.0) (digits_go_on bs p.1)
 
 pub number_found : (a : ℕ) (xs : List ℕ) (k : ℕ) → number_from a xs ≡ Some k → a < 2 ^ 64 → (all_digits xs ≡ true) × (value_from a xs ≡ k) × (k < 2 ^ 64)
 number_found a [] k e lt = let is : a ≡ k = some_is a k e in (refl, is, omega (arith, is))
@@ -65,14 +58,14 @@ number_found a (b ∷ bs) k e lt = by_test (is_digit b) (ltb (10 * a + (b - 48))
   by_test : (s t : Bool) → is_digit b ≡ s → ltb (10 * a + (b - 48)) (2 ^ 64) ≡ t → cond (s && t) (number_from (10 * a + (b - 48)) bs) None ≡ Some k
       → (number_from (10 * a + (b - 48)) bs ≡ Some k → 10 * a + (b - 48) < 2 ^ 64 → (all_digits bs ≡ true) × (value_from (10 * a + (b - 48)) bs ≡ k) × (k < 2 ^ 64))
       → (all_digits (b ∷ bs) ≡ true) × (value_from a (b ∷ bs) ≡ k) × (k < 2 ^ 64)
-  by_test true true hs ht e again = let r = again e (ltb-true _ _ ht) in (together (is_digit b) (all_digits bs) hs r.0, r.1, r.2)
+  by_test true true hs ht e again = let r = again e (ltb-true _ _ ht) in (and_from (is_digit b) (all_digits bs) hs r.0, r.1, r.2)
   by_test true false hs ht e again = absurd cc
   by_test false t hs ht e again = absurd cc
 
 pub number_reads : (a : ℕ) (xs : List ℕ) → all_digits xs ≡ true → value_from a xs < 2 ^ 64 → number_from a xs ≡ Some (value_from a xs)
 number_reads a [] e lt = refl
 number_reads a (b ∷ bs) e lt =
-    let p = both (is_digit b) (all_digits bs) e in
+    let p = and_parts (is_digit b) (all_digits bs) e in
     let small : 10 * a + (b - 48) < 2 ^ 64 = omega (arith, value_grows (10 * a + (b - 48)) bs) in
     rw (p.0, lt-ltb _ _ small) (number_reads (10 * a + (b - 48)) bs p.1 lt)
 

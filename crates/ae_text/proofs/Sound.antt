@@ -2,7 +2,7 @@
 use Rattle.std.proofs.Common.{◌≡◌, ◌≢◌, ℕ, zero, suc, ◌+◌, ◌-◌, ◌<◌, ◌⊎◌, inl, inr, Bool, true, false, cond, eqb, ltb, length, arith, List, [], ◌∷◌, ◌++◌, Result, Ok, Err, refl, sym, ap, subst, ◌∙◌, append_assoc}
 use Rattle.std.specs.Str.{bytes_eq}
 use Rattle.std.proofs.lemmas.Slice.Eq.{bytes_eq-Decides}
-use Rattle.std.proofs.lemmas.Bool.{eqb-true, ltb-true}
+use Rattle.std.proofs.lemmas.Bool.{eqb-true, ltb-true, or_parts}
 use Rattle.std.proofs.lemmas.List.{append-nil}
 use Rattle.ae_text.specs.Tree.{Node, list, fields, Items, no_items, item, Members, no_members, member}
 use Rattle.ae_text.specs.Tree as tree
@@ -12,7 +12,7 @@ use Rattle.ae_text.proofs.Shaped.{IsShaped, AreShaped, FieldsAreShaped}
 use Rattle.ae_text.specs.Grammar.{IsValue, AreItems, AreMoreItems, AreFields, IsSentence}
 use Rattle.ae_text.specs.View.{items_of, members_of}
 use Rattle.ae_text.specs.Pushdown.{Frame, in_list, in_fields, Place, at_name, at_equals, at_value, at_semicolon, at_item, at_comma, done, State, Fault, syntax, too_deep, moved, deliver, fields_of, list_of, has_name, noted, value_step, open_step, close_step, name_step, item_step, comma_step, is_sign_of, step, run}
-use Rattle.ae_text.proofs.Complete.{items_list, members_list, items_list-back, members_list-back, Fresh, neither}
+use Rattle.ae_text.proofs.Complete.{items_list, members_list, items_list-back, members_list-back, Fresh}
 
 pub run-err : (limit : ℕ) (e : Fault) (ps : List Placed) → run limit (Err e) ps ≡ Err e
 unfolding run
@@ -145,11 +145,11 @@ commas outer starts vs t s e = chosen (is_sign_of 44 t) refl e where
 -- ---- names that came before
 
 has_name-pull : (k : List ℕ) (fs : List (List ℕ × Node)) (h : List ℕ) (j : Node) → has_name k (fs ++ (h, j) ∷ []) ≡ false → (has_name k fs ≡ false) × (h ≢ k)
-has_name-pull k [] h j e = (refl, λ same. differ (neither _ _ e).0 same) where
+has_name-pull k [] h j e = (refl, λ same. differ (or_parts _ _ e).0 same) where
   differ : bytes_eq h k ≡ false → h ≡ k → ⊥
   differ unequal same = grind (arith, bytes_eq-Decides h k)
 has_name-pull k (f ∷ fs) h j e =
-    let parts : (bytes_eq f.0 k ≡ false) × (has_name k (fs ++ (h, j) ∷ []) ≡ false) = neither _ _ e in
+    let parts : (bytes_eq f.0 k ≡ false) × (has_name k (fs ++ (h, j) ∷ []) ≡ false) = or_parts _ _ e in
     let rest = has_name-pull k fs h j parts.1 in
     (rw (parts.0, rest.0) refl, rest.1)
 

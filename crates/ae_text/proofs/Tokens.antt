@@ -1,6 +1,6 @@
 -- The scanner's tokens are those of the definition.
 use Rattle.std.proofs.Common.{◌≡◌, ◌≢◌, ℕ, suc, ◌+◌, ◌-◌, ◌^◌, ◌<◌, Bool, true, false, cond, eqb, length, take, drop, arith, List, [], ◌∷◌, ◌++◌, Option, Some, None, refl, sym, ap, subst, ◌∙◌, append_assoc}
-use Rattle.std.proofs.lemmas.Bool.{eqb-true}
+use Rattle.std.proofs.lemmas.Bool.{eqb-true, and_parts, and_from}
 use Rattle.std.proofs.lemmas.Bool.Decides.{nat_tests}
 use Rattle.std.proofs.lemmas.List.{length-append, append-nil, take-append-drop, take_at, drop_at}
 use Rattle.std.specs.List.{list_all}
@@ -9,7 +9,7 @@ use Rattle.ae_text.specs.WellFormed.{begins_word, goes_on_word, is_word}
 use Rattle.ae_text.specs.Token.{Token, Placed, word, number, string, sign, end, bad, is_blank, is_sign, IsGap, none, IsNoToken, Spells, Stands, Begins, stops, all_digits, ArePieces}
 use Rattle.ae_text.specs.Scan.{run_length, number_from, number_token, string_at, string_token, token_at, after_one, gapless, skipped, next, behind, Leads}
 use Rattle.ae_text.proofs.Gaps.{gap_found, gap_skips, no_gap, one_found}
-use Rattle.ae_text.proofs.Pieces.{both, together, run_word, run_exact, digits_go_on, value_from, number_found, number_reads, string_found, string_reads}
+use Rattle.ae_text.proofs.Pieces.{run_word, run_exact, digits_go_on, value_from, number_found, number_reads, string_found, string_reads, digit_goes_on}
 
 abbrev pub Read : Type 0
 Read = Token × List ℕ
@@ -74,8 +74,8 @@ letter_goes_on b e = rw e refl
 word_reads : (s after : List ℕ) → is_word s ≡ true → stops after ≡ true → (token_at (s ++ after) ≡ (word s, after)) × (after_one (s ++ after) ≡ None)
 word_reads [] after e stop = absurd cc
 word_reads (b ∷ bs) after e stop =
-    let p = both (begins_word b) (list_all goes_on_word bs) e in
-    let n : run_length (b ∷ (bs ++ after)) ≡ length (b ∷ bs) = run_exact (b ∷ bs) after (together (goes_on_word b) (list_all goes_on_word bs) (letter_goes_on b p.0) p.1) stop in
+    let p = and_parts (begins_word b) (list_all goes_on_word bs) e in
+    let n : run_length (b ∷ (bs ++ after)) ≡ length (b ∷ bs) = run_exact (b ∷ bs) after (and_from (goes_on_word b) (list_all goes_on_word bs) (letter_goes_on b p.0) p.1) stop in
     let cut : ◌≡◌ {A = Read} (word (take (run_length (b ∷ (bs ++ after))) (b ∷ (bs ++ after))), drop (run_length (b ∷ (bs ++ after))) (b ∷ (bs ++ after))) (word (b ∷ bs), after) =
     ap (λ (k : ℕ). (word (take k (b ∷ (bs ++ after))), drop k (b ∷ (bs ++ after)))) n
     ∙ ap (λ (xs : List ℕ). (word xs, drop (length (b ∷ bs)) (b ∷ (bs ++ after)))) (take_at (b ∷ bs) after (length (b ∷ bs)) refl)
@@ -85,7 +85,7 @@ word_reads (b ∷ bs) after e stop =
 digits_read : (s after : List ℕ) (n : ℕ) → s ≢ [] → all_digits s ≡ true → value_from 0 s ≡ n → n < 2 ^ 64 → stops after ≡ true → (token_at (s ++ after) ≡ (number n, after)) × (after_one (s ++ after) ≡ None)
 digits_read [] after n some-is-there e is lt stop = absurd (some-is-there refl)
 digits_read (b ∷ bs) after n some-is-there e is lt stop =
-    let p = both (is_digit b) (all_digits bs) e in
+    let p = and_parts (is_digit b) (all_digits bs) e in
     let k : run_length (b ∷ (bs ++ after)) ≡ length (b ∷ bs) = run_exact (b ∷ bs) after (digits_go_on (b ∷ bs) e) stop in
     let read : number_from 0 (b ∷ bs) ≡ Some n = number_reads 0 (b ∷ bs) e (omega (arith, is)) ∙ ap (λ (x : ℕ). Some x) is in
     let cut : number_token (b ∷ (bs ++ after)) (drop (run_length (b ∷ (bs ++ after))) (b ∷ (bs ++ after))) (number_from 0 (take (run_length (b ∷ (bs ++ after))) (b ∷ (bs ++ after)))) ≡ (number n, after) =
@@ -119,9 +119,6 @@ spells-other s after (sign b) h e = cc
 spells-other s after end h e = absurd h
 spells-other s after bad h e = absurd h
 
-digit_on : (b : ℕ) → is_digit b ≡ true → goes_on_word b ≡ true
-digit_on b e = rw (digit_is_no_letter b e, e) refl
-
 pub bad_found : (bytes : List ℕ) → bytes ≢ [] → token_at bytes ≡ (bad, bytes) → after_one bytes ≡ None → IsNoToken bytes
 bad_found bytes more e stop = record {
   more = more;
@@ -140,7 +137,7 @@ word_head : (b : ℕ) (bs : List ℕ) → begins_word b ≡ true → is_word (ta
 word_head b bs e =
     let on = letter_goes_on b e in
     let go = (run_word bs).0 in
-    rw on (together (begins_word b) (list_all goes_on_word (take (run_length bs) bs)) e go)
+    rw on (and_from (begins_word b) (list_all goes_on_word (take (run_length bs) bs)) e go)
 
 run_some : (b : ℕ) (bs : List ℕ) → goes_on_word b ≡ true → take (run_length (b ∷ bs)) (b ∷ bs) ≢ []
 run_some b bs e = rw e (λ h. cc)
@@ -155,7 +152,7 @@ token_found (b ∷ bs) stop = by_kind (begins_word b) (is_digit b) (eqb b 34) (i
   by_number : (o : Option ℕ) → is_digit b ≡ true → number_from 0 (take (run_length (b ∷ bs)) (b ∷ bs)) ≡ o → TokenFound (b ∷ bs) (number_token (b ∷ bs) (drop (run_length (b ∷ bs)) (b ∷ bs)) o)
   by_number (Some n) hd e =
       let f = number_found 0 (take (run_length (b ∷ bs)) (b ∷ bs)) n e (omega arith) in
-      (take (run_length (b ∷ bs)) (b ∷ bs), sym (take-append-drop (run_length (b ∷ bs)) (b ∷ bs)), ((run_some b bs (digit_on b hd), f.0), f.1, f.2, (run_word (b ∷ bs)).1))
+      (take (run_length (b ∷ bs)) (b ∷ bs), sym (take-append-drop (run_length (b ∷ bs)) (b ∷ bs)), ((run_some b bs (digit_goes_on b hd), f.0), f.1, f.2, (run_word (b ∷ bs)).1))
   by_number None hd e = bad_here (at_number b bs hd ∙ ap (number_token (b ∷ bs) (drop (run_length (b ∷ bs)) (b ∷ bs))) e)
 
   by_string : (o : Option (List ℕ × List ℕ)) → b ≡ 34 → string_at bs ≡ o → TokenFound (b ∷ bs) (string_token (b ∷ bs) o)

@@ -3,6 +3,7 @@ use Rattle.std.proofs.Common.{◌≡◌, ◌⊎◌, inl, inr, ℕ, refl, sym, �
 use Rattle.std.specs.Prelude.{is_some}
 use Rattle.std.specs.List.{find, list_all}
 use Rattle.std.specs.Str.{bytes_eq}
+use Rattle.std.proofs.lemmas.Bool.{false≢true, false_from_ne_true, not_from_false}
 use Rattle.ae_base.specs.Names.{is_slash, IsFolderOf}
 use Rattle.ae_types.specs.Clashes.{folders_of, has_path, none_clash, NoneClash}
 use Rattle.ae_types.specs.Ordered.{itself}
@@ -10,7 +11,7 @@ use Rattle.ae_types.proofs.Keys.{by_text}
 use Rattle.ae_types.proofs.Members.{In, in-left, in-right, in-either, in-map, map-in, all-in, in-all}
 use Rattle.ae_types.proofs.Ordered.{found-key}
 use Rattle.ae_types.proofs.Searched.{found-in}
-use Rattle.ae_types.proofs.Splits.{never, is-false, is-not, not-is, some-found}
+use Rattle.ae_types.proofs.Splits.{not-is, some-found}
 
 -- ---- the folders of a path
 
@@ -20,10 +21,10 @@ folder-front b bs rest e = cc
 slash-is : (b : ℕ) → is_slash b ≡ true → b ≡ 47
 slash-is b e = eqb-true b 47 e
 
-heads : (a b : ℕ) (rs bs : List ℕ) → a ∷ rs ≡ b ∷ bs → a ≡ b
+pub heads : (a b : ℕ) (rs bs : List ℕ) → a ∷ rs ≡ b ∷ bs → a ≡ b
 heads a b rs bs e = cc
 
-tails : (a b : ℕ) (rs bs : List ℕ) → a ∷ rs ≡ b ∷ bs → rs ≡ bs
+pub tails : (a b : ℕ) (rs bs : List ℕ) → a ∷ rs ≡ b ∷ bs → rs ≡ bs
 tails a b rs bs e = cc
 
 pub in-folders : (path folder : List ℕ) → In (folders_of path) folder → IsFolderOf folder path
@@ -73,7 +74,7 @@ in-has (p ∷ ps) path h = go h (bytes_eq path p) refl (in-has ps path)
   where
     go : In (p ∷ ps) path → (b : Bool) → bytes_eq path p ≡ b → (In ps path → has_path ps path ≡ true) → is_some (cond b (Some p) (find (λ other. bytes_eq path other) ps)) ≡ true
     go h true e rest = refl
-    go (inl is) false e rest = never (sym e ∙ ap (bytes_eq path) is ∙ by_text.same_self path)
+    go (inl is) false e rest = absurd (false≢true (sym e ∙ ap (bytes_eq path) is ∙ by_text.same_self path))
     go (inr m) false e rest = rest m
 
 pub clash-facts : (paths : List (List ℕ)) → none_clash paths ≡ true → NoneClash paths
@@ -82,4 +83,4 @@ clash-facts paths e folder path has there on =
 
 pub facts-clash : (paths : List (List ℕ)) → NoneClash paths → none_clash paths ≡ true
 facts-clash paths h = in-all (λ p. list_all (λ f. not (has_path paths f)) (folders_of p)) paths (λ p m.
-    in-all (λ f. not (has_path paths f)) (folders_of p) (λ f n. is-not (has_path paths f) (is-false (has_path paths f) (λ has. h f p has (in-has paths p m) (in-folders p f n)))))
+    in-all (λ f. not (has_path paths f)) (folders_of p) (λ f n. not_from_false (has_path paths f) (false_from_ne_true (has_path paths f) (λ has. h f p has (in-has paths p m) (in-folders p f n)))))

@@ -1,9 +1,9 @@
 -- A role of a project stays good where a user is added or dropped who isn't refused.
-use Rattle.std.proofs.Common.{◌≡◌, ℕ, ◌<◌, refl, sym, ◌∙◌, List, [], ◌∷◌, ◌++◌, Some, None, Bool, true, false, cond, ◌&&◌, ◌||◌, not, arith, length-append}
+use Rattle.std.proofs.Common.{◌≡◌, ℕ, ◌<◌, refl, sym, ◌∙◌, List, [], ◌∷◌, ◌++◌, Some, None, Bool, true, false, cond, ◌&&◌, not, arith, length-append}
 use Rattle.std.specs.Prelude.{length, nat_le}
 use Rattle.std.specs.List.{list_any, IsDistinct, AllByRecursion}
 use Rattle.std.specs.Str.{bytes_eq}
-use Rattle.std.proofs.lemmas.Bool.{leb-false}
+use Rattle.std.proofs.lemmas.Bool.{leb-false, or_parts}
 use Rattle.std.proofs.lemmas.Cmp.{nat_list_eq_equiv}
 use Rattle.std.proofs.lemmas.Map.Made.{length-remove_key}
 use Rattle.ae_users.specs.Users.{AllDiffer, without}
@@ -20,14 +20,10 @@ apart-all : (user : List ℕ) (us : List (List ℕ)) → AllByRecursion (λ y. b
 apart-all user [] h v e = (e, tt)
 apart-all user (u ∷ us) h v e = (h.0, apart-all user us h.1 v e)
 
-or-none : (a b : Bool) → (a || b) ≡ false → (a ≡ false) × (b ≡ false)
-or-none true b e = cc
-or-none false b e = (refl, e)
-
 added-differ : (users : List (List ℕ)) (user : List ℕ) → AllDiffer users → list_any (bytes_eq user) users ≡ false → AllDiffer (users ++ user ∷ [])
 unfolding IsDistinct
 added-differ [] user d e = (tt, tt)
-added-differ (u ∷ us) user d e = let a = or-none (bytes_eq user u) (list_any (bytes_eq user) us) e in (apart-all u us d.0 user (nat_list_eq_equiv.symm u user ∙ a.0), added-differ us user d.1 a.1)
+added-differ (u ∷ us) user d e = let a = or_parts (bytes_eq user u) (list_any (bytes_eq user) us) e in (apart-all u us d.0 user (nat_list_eq_equiv.symm u user ∙ a.0), added-differ us user d.1 a.1)
 
 fewer-apart : (P : List ℕ → Type 0) (user : List ℕ) (us : List (List ℕ)) → AllByRecursion P us → AllByRecursion P (without user us)
 fewer-apart P user [] h = tt

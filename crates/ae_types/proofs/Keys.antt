@@ -2,7 +2,7 @@
 use Rattle.std.proofs.Common.{◌≡◌, ℕ, ◌<◌, refl, sym, ◌∙◌, ap, List, [], ◌∷◌, Option, Some, None, Bool, true, false, cond, nat_eq, eqb-true, arith, ◌&&◌}
 use Rattle.std.specs.Ordering.{nat_cmp}
 use Rattle.std.specs.Prelude.{nat_lt}
-use Rattle.std.proofs.lemmas.Bool.{ltb-true}
+use Rattle.std.proofs.lemmas.Bool.{ltb-true, and_parts}
 use Rattle.std.specs.declared.cmp.Ordering.TheVariants.{Less, Equal, Greater}
 use Rattle.std.specs.Cmp.{nat_cmp_is}
 use Rattle.std.specs.FinMap.{slice_cmp-IsAntisymmetric, nat_cmp-IsAntisymmetric}
@@ -61,7 +61,7 @@ same_kind-self kind.Test = refl
 same_kind-self kind.BaselineTest = refl
 same_kind-self kind.RegressionTest = refl
 
-same_path-is : (p q : Option (List ℕ)) → option_eq bytes_eq p q ≡ true → p ≡ q
+pub same_path-is : (p q : Option (List ℕ)) → option_eq bytes_eq p q ≡ true → p ≡ q
 same_path-is None None e = refl
 same_path-is (Some p) (Some q) e = ap (λ t. Some t) (same_bytes p q (sym e))
 same_path-is None (Some q) e = cc
@@ -71,14 +71,10 @@ same_path-self : (p : Option (List ℕ)) → option_eq bytes_eq p p ≡ true
 same_path-self None = refl
 same_path-self (Some p) = nat_list_eq_equiv.refl p
 
-both : (a b : Bool) → (a && b) ≡ true → (a ≡ true) × (b ≡ true)
-both true b e = (refl, e)
-both false b e = cc
-
 pub same_run-is : (j k : RunKey) → same_run j k ≡ true → j ≡ k
 same_run-is j k e =
-    let first = both _ _ e in
-    let second = both _ _ first.0 in
+    let first = and_parts _ _ e in
+    let second = and_parts _ _ first.0 in
     let g = same_during-is j.during k.during second.0 in
     let n = same_kind-is j.kind k.kind second.1 in
     let p = same_path-is j.path k.path first.1 in

@@ -2,8 +2,9 @@
 use Rattle.std.proofs.Common.{◌≡◌, ◌⊎◌, inl, inr, refl, sym, ◌∙◌, ap, subst, List, [], ◌∷◌, ◌++◌, map, Option, Some, None, Bool, true, false, ◌&&◌, ◌||◌, not}
 use Rattle.std.specs.Prelude.{flat_map}
 use Rattle.std.specs.List.{list_any, list_all, filter_map, cons_option}
+use Rattle.std.proofs.lemmas.Bool.{false≢true, and_parts, false_from_ne_true, not_from_false}
 use Rattle.ae_types.specs.Versions.{no_two}
-use Rattle.ae_types.proofs.Splits.{never, and2, is-false, is-not, not-is}
+use Rattle.ae_types.proofs.Splits.{not-is}
 
 abbrev pub In : {A : Type 0} → List A → A → Type 0
 In [] x = ⊥
@@ -32,15 +33,15 @@ module _ {A : Type 0} where
 
   pub all-in : (t : A → Bool) (xs : List A) → list_all t xs ≡ true → (x : A) → In xs x → t x ≡ true
   all-in t [] e x h = absurd h
-  all-in t (y ∷ ys) e x (inl is) = sym (ap t is) ∙ (and2 (t y) (list_all t ys) e).0
-  all-in t (y ∷ ys) e x (inr h) = all-in t ys (and2 (t y) (list_all t ys) e).1 x h
+  all-in t (y ∷ ys) e x (inl is) = sym (ap t is) ∙ (and_parts (t y) (list_all t ys) e).0
+  all-in t (y ∷ ys) e x (inr h) = all-in t ys (and_parts (t y) (list_all t ys) e).1 x h
 
   pub in-all : (t : A → Bool) (xs : List A) → ((x : A) → In xs x → t x ≡ true) → list_all t xs ≡ true
   in-all t [] h = refl
   in-all t (y ∷ ys) h = λ i. h y (inl refl) i && in-all t ys (λ x m. h x (inr m)) i
 
   pub any-in : (t : A → Bool) (xs : List A) → list_any t xs ≡ true → (x : A) × In xs x × (t x ≡ true)
-  any-in t [] e = never e
+  any-in t [] e = absurd (false≢true e)
   any-in t (y ∷ ys) e = go (t y) refl e (any-in t ys)
     where
       go : (b : Bool) → t y ≡ b → (b || list_any t ys) ≡ true → (list_any t ys ≡ true → (x : A) × In ys x × (t x ≡ true)) → (x : A) × In (y ∷ ys) x × (t x ≡ true)
@@ -123,7 +124,7 @@ module _ {A V : Type 0} (related : V → V → Bool) (both_ways : (v w : V) → 
   no_two-apart (x ∷ xs) e a b h m r = go h m r (no_two-apart xs parts.1 a b)
     where
       parts : (not (list_any (related (f x)) (map f xs)) ≡ true) × (no_two related (map f xs) ≡ true)
-      parts = and2 (not (list_any (related (f x)) (map f xs))) (no_two related (map f xs)) e
+      parts = and_parts (not (list_any (related (f x)) (map f xs))) (no_two related (map f xs)) e
 
       none : (c : A) → In xs c → related (f x) (f c) ≡ true → ⊥
       none c m is = not-is (list_any (related (f x)) (map f xs)) parts.0 (in-any (related (f x)) (map f xs) (f c) (in-map f xs c m) is)
@@ -137,7 +138,7 @@ module _ {A V : Type 0} (related : V → V → Bool) (both_ways : (v w : V) → 
   -- members whose keys differ, and of which those that are related have the same key
   pub apart-no_two : {K : Type 0} (key : A → K) (xs : List A) → Distinct key xs → ((a b : A) → In xs a → In xs b → related (f a) (f b) ≡ true → key a ≡ key b) → no_two related (map f xs) ≡ true
   apart-no_two key [] d h = refl
-  apart-no_two key (x ∷ xs) d h = λ i. is-not _ (is-false (list_any (related (f x)) (map f xs)) none) i && apart-no_two key xs d.1 (λ a b m n. h a b (inr m) (inr n)) i
+  apart-no_two key (x ∷ xs) d h = λ i. not_from_false _ (false_from_ne_true (list_any (related (f x)) (map f xs)) none) i && apart-no_two key xs d.1 (λ a b m n. h a b (inr m) (inr n)) i
     where
       none : list_any (related (f x)) (map f xs) ≡ true → ⊥
       none e = let r = any-in (related (f x)) (map f xs) e in

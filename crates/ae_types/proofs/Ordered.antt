@@ -1,6 +1,6 @@
 -- Rows in the ascending order of their keys: two of them are the same where each key finds the same.
 use Rattle.std.proofs.Common.{◌≡◌, refl, sym, ◌∙◌, ap, subst, List, [], ◌∷◌, map, Option, Some, None, Bool, true, false, cond, not}
-use Rattle.std.specs.Prelude.{filter, unwrap_or, is_some}
+use Rattle.std.specs.Prelude.{filter, is_some}
 use Rattle.std.specs.Option.{option_map, option_and_then}
 use Rattle.std.specs.List.{filter_map, cons_option, find}
 use Rattle.std.specs.Ordering.{ordering_reverse}
@@ -9,6 +9,7 @@ use Rattle.std.specs.declared.cmp.Ordering.TheVariants.{Less, Equal, Greater}
 use Rattle.std.specs.Cmp.{IsTotalOrder}
 use Rattle.std.specs.FinMap.{IsAntisymmetric}
 use Rattle.std.specs.FinMap.Entries.{by_order}
+use Rattle.std.proofs.lemmas.Option.{same_Some}
 use Rattle.ae_types.specs.Ordered.{put_by, itself}
 
 -- an order of keys, and the test of their equality
@@ -19,9 +20,6 @@ pub record Order (K : Type 0) : Type 1 where
   pub same : K → K → Bool
   pub same_is : (j k : K) → same j k ≡ true → j ≡ k
   pub same_self : (k : K) → same k k ≡ true
-
-pub some-is : {A : Type 0} (x y : A) → Some x ≡ Some y → x ≡ y
-some-is x y e = ap (λ o. unwrap_or o x) e
 
 pub none-some : {A : Type 0} {P : Type 0} (y : A) → None ≡ Some y → P
 none-some y e = cc
@@ -97,7 +95,7 @@ module _ {K : Type 0} (o : Order K) where
         go Less l rest = none-some x (sym (at-above (key x) (y ∷ ys) (l, above-above (key x) (key y) ys l b.0)) ∙ sym (all (key x)) ∙ at-first x xs)
         go Greater g rest = let l : o.cmp (key y) (key x) ≡ Less = greater-less (key x) (key y) g in none-some y (sym (at-above (key y) (x ∷ xs) (l, above-above (key y) (key x) xs l a.0)) ∙ all (key y) ∙ at-first y ys)
         go Equal e rest = let same_key : key x ≡ key y = o.anti (key x) (key y) e in
-            ap (λ r. r ∷ xs) (some-is x y (sym (at-first x xs) ∙ all (key x) ∙ ap (λ k. at k (y ∷ ys)) same_key ∙ at-first y ys)) ∙ ap (λ rows. y ∷ rows) (rest (tails same_key))
+            ap (λ r. r ∷ xs) (same_Some x y (sym (at-first x xs) ∙ all (key x) ∙ ap (λ k. at k (y ∷ ys)) same_key ∙ at-first y ys)) ∙ ap (λ rows. y ∷ rows) (rest (tails same_key))
 
     -- ---- one more row
 
@@ -351,5 +349,5 @@ found-key o key k [] r e = none-some r e
 found-key o key k (q ∷ rows) r e = go (o.same k (key q)) refl e (found-key o key k rows r)
   where
     go : (b : Bool) → o.same k (key q) ≡ b → cond b (Some q) (at o key k rows) ≡ Some r → (at o key k rows ≡ Some r → key r ≡ k) → key r ≡ k
-    go true is f rest = ap key (sym (some-is q r f)) ∙ sym (o.same_is k (key q) is)
+    go true is f rest = ap key (sym (same_Some q r f)) ∙ sym (o.same_is k (key q) is)
     go false is f rest = rest f

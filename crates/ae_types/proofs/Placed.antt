@@ -3,6 +3,7 @@ use Rattle.std.proofs.Common.{◌≡◌, ◌⊎◌, inl, inr, ℕ, refl, sym, �
 use Rattle.std.specs.Prelude.{flat_map}
 use Rattle.std.specs.List.{filter_map, cons_option}
 use Rattle.std.specs.Option.{option_map, option_and_then}
+use Rattle.std.proofs.lemmas.Option.{same_Some}
 use Rattle.ae_types.specs.declared.change.Change.{Change}
 use Rattle.ae_types.specs.declared.change.ChangeFile.{ChangeFile}
 use Rattle.ae_types.specs.declared.file_table.FileRow.{FileRow}
@@ -12,7 +13,7 @@ use Rattle.ae_types.specs.Versions.{Place, in_table, in_change, version_at, live
 use Rattle.ae_types.specs.Found.{number_of_change, file_path, row_path, entry_delta}
 use Rattle.ae_types.proofs.Keys.{by_text, by_number}
 use Rattle.ae_types.proofs.Members.{In, in-left, in-right, in-either, in-flat, flat-in, in-some, some-in, Distinct, distinct-append}
-use Rattle.ae_types.proofs.Ordered.{Order, at, Ascends, above-at, less-other, some-is, none-some, found-key}
+use Rattle.ae_types.proofs.Ordered.{Order, at, Ascends, above-at, less-other, none-some, found-key}
 use Rattle.ae_types.proofs.Searched.{found-in, in-found}
 
 -- a version at its place
@@ -57,7 +58,7 @@ module _ {R I J L : Type 0} (outer : Order J) (inner : Order L) (row_key : R →
   stand-is j i s e = go (version i) refl e
     where
       go : (v : Option VersionRef) → version i ≡ v → option_map (stand_at j i) v ≡ Some s → (version i ≡ Some s.1) × (s.0 ≡ place j (item_key i))
-      go (Some w) is e = let same = some-is (stand_at j i w) s e in (is ∙ ap (λ (x : Stand). Some x.1) same, sym (ap stand_place same))
+      go (Some w) is e = let same = same_Some (stand_at j i w) s e in (is ∙ ap (λ (x : Stand). Some x.1) same, sym (ap stand_place same))
       go None is e = none-some s e
 
   -- a block at a row, with the row's key as a variable

@@ -4,6 +4,7 @@ use Rattle.std.specs.Prelude.{length}
 use Rattle.std.specs.List.{list_all, find}
 use Rattle.std.specs.Option.{option_map, option_or}
 use Rattle.std.specs.Ordering.{nat_cmp}
+use Rattle.std.proofs.lemmas.Bool.{and_parts}
 use Rattle.ae_types.specs.declared.blame.Blame.{Blame}
 use Rattle.ae_types.specs.declared.blame.Blame.TheVariants as blame
 use Rattle.ae_types.specs.declared.change.Change.{Change}
@@ -16,7 +17,7 @@ use Rattle.ae_types.specs.Sound.{Sound, AreRows, AreChanges}
 use Rattle.ae_types.proofs.Keys.{by_number}
 use Rattle.ae_types.proofs.Placed.{InOrder}
 use Rattle.ae_types.proofs.Searched.{ascends-test}
-use Rattle.ae_types.proofs.Splits.{and2, and3}
+use Rattle.ae_types.proofs.Splits.{and3}
 use Rattle.ae_types.proofs.RulesAlone.{deltas-ascend, project-facts, facts-project, rows-facts, locks-rise, facts-rows, changes-facts, facts-changes}
 use Rattle.ae_types.proofs.RulesTogether.{integrating-facts, facts-integrating, deltas-facts, facts-deltas, versions-facts, facts-versions, entries-facts, facts-entries, locks-facts, facts-locks, candidate-facts, facts-candidate}
 
@@ -26,11 +27,11 @@ none-blamed : (b : Bool) (name : Blame) (rest : Option Blame) → option_or (bla
 none-blamed true name rest e = (refl, e)
 none-blamed false name rest e = cc
 
-last-blamed : (b : Bool) (name : Blame) → blame_unless b name ≡ None → b ≡ true
+pub last-blamed : (b : Bool) (name : Blame) → blame_unless b name ≡ None → b ≡ true
 last-blamed true name e = refl
 last-blamed false name e = cc
 
-no-change : (v rest : Option Blame) → option_or v rest ≡ None → (v ≡ None) × (rest ≡ None)
+pub no-change : (v rest : Option Blame) → option_or v rest ≡ None → (v ≡ None) × (rest ≡ None)
 no-change None rest e = (refl, e)
 no-change (Some name) rest e = cc
 
@@ -48,7 +49,7 @@ none-bad ns (x ∷ xs) e = go (is_change_of ns x) e (none-bad ns xs)
 
 bad-none : (numbers : List ℕ) (changes : List Change) → list_all (is_change_of numbers) changes ≡ true → bad_change numbers changes ≡ None
 bad-none ns [] e = refl
-bad-none ns (x ∷ xs) e = let a = and2 (is_change_of ns x) (list_all (is_change_of ns) xs) e in
+bad-none ns (x ∷ xs) e = let a = and_parts (is_change_of ns x) (list_all (is_change_of ns) xs) e in
     ap (λ b. option_map (λ (change : Change). blame.Change change.number) (Rattle.std.proofs.Common.cond (not b) (Some x) (find (λ change. not (is_change_of ns change)) xs))) a.0 ∙ bad-none ns xs a.1
 
 in-order : (deltas : ℕ) (o : Observation) → AreRows deltas o.files → AreChanges o.numbers o.changes → InOrder o.files o.changes
@@ -66,7 +67,7 @@ blamed-sound o e =
     let c = no-change (bad_change o.numbers o.changes) _ b.1 in
     let d = none-blamed (project_fits_changes o) blame.Project _ c.1 in
     let f = last-blamed (files_fit_changes o) blame.Files d.1 in
-    let p = and2 (project_is_good o.project o.numbers) (ascends nat_cmp number_of_change o.changes) a.0 in
+    let p = and_parts (project_is_good o.project o.numbers) (ascends nat_cmp number_of_change o.changes) a.0 in
     let q = and3 (integration_fits (length o.project.deltas) o.changes) (deltas_fit o.project.deltas o.numbers o.changes) (versions_fit o.project.next_version (live o.files o.changes)) d.0 in
     let r = and3 (entries_fit o.project.deltas o.files o.changes) (locks_fit o.numbers o.locks o.changes) (list_all (candidate_fits (length o.project.deltas) o.files) o.changes) f in
     let rows = rows-facts (length o.project.deltas) o.files o.locks b.0 in

@@ -3,6 +3,8 @@ use Rattle.std.proofs.Common.{◌≡◌, inl, inr, ℕ, ◌<◌, ◌≤◌, refl
 use Rattle.std.specs.Prelude.{length, is_some, nat_le, nat_lt, IsSomeAnd}
 use Rattle.std.specs.List.{list_all, find}
 use Rattle.std.specs.Option.{option_map}
+use Rattle.std.proofs.lemmas.Option.{same_Some}
+use Rattle.std.proofs.lemmas.Bool.{false≢true, and_parts, leb-true, le-leb, ltb-true, lt-ltb}
 use Rattle.ae_types.specs.declared.change.Change.{Change}
 use Rattle.ae_types.specs.declared.change.ChangeFile.{ChangeFile}
 use Rattle.ae_types.specs.declared.file_table.FileRow.{FileRow}
@@ -20,10 +22,10 @@ use Rattle.ae_types.specs.Sound.{EachChange, IsIntegrating, AreDeltas, AreVersio
 use Rattle.ae_types.proofs.Keys.{by_text, by_number}
 use Rattle.ae_types.proofs.Clashing.{clash-facts, facts-clash}
 use Rattle.ae_types.proofs.Members.{In, all-in, in-all, in-map, map-in, no_two-apart, apart-no_two}
-use Rattle.ae_types.proofs.Ordered.{Ascends, some-is, none-some, found-key}
+use Rattle.ae_types.proofs.Ordered.{Ascends, none-some, found-key}
 use Rattle.ae_types.proofs.Placed.{stand_place, stand_version, stands, stands-live, InOrder, stands-found, found-stands, stands-distinct}
 use Rattle.ae_types.proofs.Searched.{found-in, in-found, all-found, found-all, few-one, one-few, some-counted, counted-some}
-use Rattle.ae_types.proofs.Splits.{never, and2, and4, where-so, so-where, same-is, is-same, most, is-most, below, is-below, there-found, found-there, if-found, found-if, some-found, found-some, to-if, from-if, to-is, from-is}
+use Rattle.ae_types.proofs.Splits.{and4, where-so, so-where, same-is, is-same, there-found, found-there, if-found, found-if, some-found, found-some, to-if, from-if, to-is, from-is}
 
 -- ---- integration
 
@@ -42,25 +44,25 @@ no-one xs n e x m is = go (nat_eq (length (integrating xs)) 0) refl e
           where
             cases : (b : Bool) → integrates y ≡ b → In (y ∷ ys) x → (In ys x → is_some (find integrates ys) ≡ true) → is_some (Rattle.std.proofs.Common.cond b (Some y) (find integrates ys)) ≡ true
             cases true e m rest = refl
-            cases false e (inl here) rest = never (sym e ∙ ap integrates here ∙ is)
+            cases false e (inl here) rest = absurd (false≢true (sym e ∙ ap integrates here ∙ is))
             cases false e (inr later) rest = rest later
 
     go : (b : Bool) → nat_eq (length (integrating xs)) 0 ≡ b → (b || nat_lt n 1990) ≡ true → n < 1990
     go true none e = absurd (omega (arith, some, eqb-true (length (integrating xs)) 0 none))
-    go false none e = below n 1990 e
+    go false none e = ltb-true n 1990 e
 
 pub integrating-facts : (deltas : ℕ) (changes : List Change) → integration_fits deltas changes ≡ true → IsIntegrating deltas changes
 integrating-facts n xs e =
-    let a = and2 (nat_le (length (integrating xs)) 1) (nat_eq (length (integrating xs)) 0 || nat_lt n 1990) e in
+    let a = and_parts (nat_le (length (integrating xs)) 1) (nat_eq (length (integrating xs)) 0 || nat_lt n 1990) e in
     record {
       one = λ m k x y fx fy ix iy.
-          let same = few-one by_number number_of_change integrates xs (most (length (integrating xs)) 1 a.0) x y (found-in by_number number_of_change xs m x fx) (found-in by_number number_of_change xs k y fy) ix iy in
+          let same = few-one by_number number_of_change integrates xs (leb-true (length (integrating xs)) 1 a.0) x y (found-in by_number number_of_change xs m x fx) (found-in by_number number_of_change xs k y fy) ix iy in
           sym (found-key by_number number_of_change m xs x fx) ∙ ap number_of_change same ∙ found-key by_number number_of_change k xs y fy;
       room = λ k x found is. no-one xs n a.1 x (found-in by_number number_of_change xs k x found) is;
     }
 
 pub facts-integrating : (deltas : ℕ) (changes : List Change) → Ascends by_number number_of_change changes → IsIntegrating deltas changes → integration_fits deltas changes ≡ true
-facts-integrating n xs up g = λ i. is-most (length (integrating xs)) 1 one i && room (find integrates xs) refl i
+facts-integrating n xs up g = λ i. le-leb (length (integrating xs)) 1 one i && room (find integrates xs) refl i
   where
     one : length (integrating xs) ≤ 1
     one = one-few by_number number_of_change integrates xs up (λ x y m k ix iy. g.one x.number y.number x y (in-found by_number number_of_change xs up x m) (in-found by_number number_of_change xs up y k) ix iy)
@@ -81,7 +83,7 @@ facts-integrating n xs up g = λ i. is-most (length (integrating xs)) 1 one i &&
     first (y ∷ ys) x e = go (integrates y) refl e (first ys x)
       where
         go : (b : Bool) → integrates y ≡ b → Rattle.std.proofs.Common.cond b (Some y) (find integrates ys) ≡ Some x → (find integrates ys ≡ Some x → In ys x × (is_integrating x.phase ≡ true)) → In (y ∷ ys) x × (is_integrating x.phase ≡ true)
-        go true is e rest = (inl (some-is y x e), sym (ap integrates (some-is y x e)) ∙ is)
+        go true is e rest = (inl (same_Some y x e), sym (ap integrates (same_Some y x e)) ∙ is)
         go false is e rest = let r = rest e in (inr r.0, r.1)
 
     or-true : (b : Bool) → (b || true) ≡ true
@@ -90,7 +92,7 @@ facts-integrating n xs up g = λ i. is-most (length (integrating xs)) 1 one i &&
 
     room : (v : Option Change) → find integrates xs ≡ v → (nat_eq (length (integrating xs)) 0 || nat_lt n 1990) ≡ true
     room None e = ap (λ k. nat_eq k 0 || nat_lt n 1990) (none xs e)
-    room (Some x) e = let f = first xs x e in ap (λ b. nat_eq (length (integrating xs)) 0 || b) (is-below n 1990 (g.room x.number x (in-found by_number number_of_change xs up x f.0) f.1)) ∙ or-true (nat_eq (length (integrating xs)) 0)
+    room (Some x) e = let f = first xs x e in ap (λ b. nat_eq (length (integrating xs)) 0 || b) (lt-ltb n 1990 (g.room x.number x (in-found by_number number_of_change xs up x f.0) f.1)) ∙ or-true (nat_eq (length (integrating xs)) 0)
 
 -- ---- deltas
 
@@ -105,21 +107,21 @@ deltas-facts ds ns xs e = record {
       let x = some-found (change_in xs d.change) loaded in
       let key = found-key by_number number_of_change d.change xs x.0 x.1 in
       let t = (change d.change x.0 x.1).0 in
-      let is = few-one by_number number_of_delta (names x.0) ds (most (length (naming ds x.0)) 1 t) d f (found-in by_number number_of_delta ds m d fd) (found-in by_number number_of_delta ds n f ff)
+      let is = few-one by_number number_of_delta (names x.0) ds (leb-true (length (naming ds x.0)) 1 t) d f (found-in by_number number_of_delta ds m d fd) (found-in by_number number_of_delta ds n f ff)
       (ap (λ k. nat_eq k d.change) key ∙ by_number.same_self d.change) (ap (λ k. nat_eq k f.change) (key ∙ same) ∙ by_number.same_self f.change) in
       sym (found-key by_number number_of_delta m ds d fd) ∙ ap number_of_delta is ∙ found-key by_number number_of_delta n ds f ff;
   named = λ n x found done. ap (λ k. is_some (delta_of ds k)) (sym (found-key by_number number_of_change n xs x found))
-      ∙ some-counted by_number number_of_delta (names x) ds (below 0 (length (naming ds x)) (where-so (is_completed x.phase) (nat_lt 0 (length (naming ds x))) (change n x found).1 done));
+      ∙ some-counted by_number number_of_delta (names x) ds (ltb-true 0 (length (naming ds x)) (where-so (is_completed x.phase) (nat_lt 0 (length (naming ds x))) (change n x found).1 done));
 }
   where
     a : (list_all (delta_has_change ns xs) ds ≡ true) × (list_all (change_has_delta ds) xs ≡ true)
-    a = and2 (list_all (delta_has_change ns xs) ds) (list_all (change_has_delta ds) xs) e
+    a = and_parts (list_all (delta_has_change ns xs) ds) (list_all (change_has_delta ds) xs) e
 
     delta : (n : ℕ) (d : DeltaRow) → delta_in ds n ≡ Some d → (has_number ns d.change ≡ true) × (if_there (change_in xs d.change) (λ x. is_completed x.phase) ≡ true)
-    delta n d found = and2 (has_number ns d.change) (if_there (change_in xs d.change) (λ x. is_completed x.phase)) (all-found by_number number_of_delta (delta_has_change ns xs) ds a.0 n d found)
+    delta n d found = and_parts (has_number ns d.change) (if_there (change_in xs d.change) (λ x. is_completed x.phase)) (all-found by_number number_of_delta (delta_has_change ns xs) ds a.0 n d found)
 
     change : (n : ℕ) (x : Change) → change_in xs n ≡ Some x → (nat_le (length (naming ds x)) 1 ≡ true) × ((not (is_completed x.phase) || nat_lt 0 (length (naming ds x))) ≡ true)
-    change n x found = and2 (nat_le (length (naming ds x)) 1) (not (is_completed x.phase) || nat_lt 0 (length (naming ds x))) (all-found by_number number_of_change (change_has_delta ds) xs a.1 n x found)
+    change n x found = and_parts (nat_le (length (naming ds x)) 1) (not (is_completed x.phase) || nat_lt 0 (length (naming ds x))) (all-found by_number number_of_change (change_has_delta ds) xs a.1 n x found)
 
 pub facts-deltas : (deltas : List DeltaRow) (numbers : List ℕ) (changes : List Change) → Ascends by_number number_of_delta deltas → Ascends by_number number_of_change changes → AreDeltas deltas numbers changes → deltas_fit deltas numbers changes ≡ true
 facts-deltas ds ns xs up upward g = λ i. delta i && change i
@@ -135,8 +137,8 @@ facts-deltas ds ns xs up upward g = λ i. delta i && change i
         (found-some (change_in xs d.change) x (ap (change_in xs) (c ∙ found-key by_number number_of_change n xs x found) ∙ found)))
 
     change : list_all (change_has_delta ds) xs ≡ true
-    change = found-all by_number number_of_change (change_has_delta ds) xs upward (λ n x found i. is-most (length (naming ds x)) 1 (one n x found) i
-        && so-where (is_completed x.phase) (nat_lt 0 (length (naming ds x))) (λ done. is-below 0 (length (naming ds x)) (counted-some by_number number_of_delta (names x) ds
+    change = found-all by_number number_of_change (change_has_delta ds) xs upward (λ n x found i. le-leb (length (naming ds x)) 1 (one n x found) i
+        && so-where (is_completed x.phase) (nat_lt 0 (length (naming ds x))) (λ done. lt-ltb 0 (length (naming ds x)) (counted-some by_number number_of_delta (names x) ds
         (ap (λ k. is_some (delta_of ds k)) (found-key by_number number_of_change n xs x found) ∙ g.named n x found done))) i)
 
 -- ---- versions
@@ -182,16 +184,16 @@ module _ (rows : List FileRow) (changes : List Change) (order : InOrder rows cha
   versions-facts next e =
       let a = and4 (list_all (number_below next) (live rows changes)) (no_two same_number (live rows changes)) (list_all is_in_region (live rows changes)) (no_two meet (live rows changes)) e in
       record {
-        below = λ p v found. below v.number next (each-place (number_below next) a.0 p v found);
+        below = λ p v found. ltb-true v.number next (each-place (number_below next) a.0 p v found);
         apart = λ p q v w fv fw is. two-places same_number same_number-swaps a.1 p q v w fv fw (ap (nat_eq v.number) (sym is) ∙ by_number.same_self v.number);
-        inside = λ p v found has. most (end_of v) 16777216 (where-so (has_units v) (nat_le (end_of v) 16777216) (each-place is_in_region a.2 p v found) has);
+        inside = λ p v found has. leb-true (end_of v) 16777216 (where-so (has_units v) (nat_le (end_of v) 16777216) (each-place is_in_region a.2 p v found) has);
         unshared = λ p q v w fv fw is. two-places meet meet-swaps a.3 p q v w fv fw is;
       }
 
   pub facts-versions : (next : ℕ) → AreVersions next rows changes → versions_fit next (live rows changes) ≡ true
-  facts-versions next g = λ i. place-each (number_below next) (λ p v found. is-below v.number next (g.below p v found)) i
+  facts-versions next g = λ i. place-each (number_below next) (λ p v found. lt-ltb v.number next (g.below p v found)) i
       && places-two same_number same_number-swaps (λ p q v w fv fw is. g.apart p q v w fv fw (eqb-true v.number w.number is)) i
-      && place-each is_in_region (λ p v found. so-where (has_units v) (nat_le (end_of v) 16777216) (λ has. is-most (end_of v) 16777216 (g.inside p v found has))) i
+      && place-each is_in_region (λ p v found. so-where (has_units v) (nat_le (end_of v) 16777216) (λ has. le-leb (end_of v) 16777216 (g.inside p v found has))) i
       && places-two meet meet-swaps (λ p q v w fv fw is. g.unshared p q v w fv fw is) i
 
 -- ---- the entries of deltas
@@ -219,7 +221,7 @@ entries-facts ds rows xs e n d found x loaded = record {
 }
   where
     a : (list_all (delta_is_entered rows xs) ds ≡ true) × (list_all (λ (row : FileRow). list_all (entry_has_file ds xs row.path) row.past) rows ≡ true)
-    a = and2 (list_all (delta_is_entered rows xs) ds) (list_all (λ (row : FileRow). list_all (entry_has_file ds xs row.path) row.past) rows) e
+    a = and_parts (list_all (delta_is_entered rows xs) ds) (list_all (λ (row : FileRow). list_all (entry_has_file ds xs row.path) row.past) rows) e
 
 pub facts-entries : (deltas : List DeltaRow) (rows : List FileRow) (changes : List Change) → Ascends by_number number_of_delta deltas
     → Ascends by_text row_path rows → ((p : List ℕ) (r : FileRow) → row_in rows p ≡ Some r → Ascends by_number entry_delta r.past)
@@ -263,7 +265,7 @@ locks-facts ns ls xs up e = record {
   ascend = up;
   numbered = λ p l found. (lock p l found).0;
   held = λ p l found. to-if (Holds p) (change_in xs l.change) (λ x is.
-      let b = and2 (holds_locks x.phase) (has_file x l.path) (if-found (change_in xs l.change) (holds l.path) (lock p l found).1 x is) in
+      let b = and_parts (holds_locks x.phase) (has_file x l.path) (if-found (change_in xs l.change) (holds l.path) (lock p l found).1 x is) in
       (b.0, ap (has_file x) (sym (found-key by_text lock_path p ls l found)) ∙ b.1));
   taken = λ n x found holding p has.
       let f = some-found (file_in x.files p) has in
@@ -274,10 +276,10 @@ locks-facts ns ls xs up e = record {
 }
   where
     a : (list_all (lock_has_file ns xs) ls ≡ true) × (list_all (files_have_locks ls) xs ≡ true)
-    a = and2 (list_all (lock_has_file ns xs) ls) (list_all (files_have_locks ls) xs) e
+    a = and_parts (list_all (lock_has_file ns xs) ls) (list_all (files_have_locks ls) xs) e
 
     lock : (p : List ℕ) (l : Lock) → lock_in ls p ≡ Some l → (has_number ns l.change ≡ true) × (if_there (change_in xs l.change) (holds l.path) ≡ true)
-    lock p l found = and2 (has_number ns l.change) (if_there (change_in xs l.change) (holds l.path)) (all-found by_text lock_path (lock_has_file ns xs) ls a.0 p l found)
+    lock p l found = and_parts (has_number ns l.change) (if_there (change_in xs l.change) (holds l.path)) (all-found by_text lock_path (lock_has_file ns xs) ls a.0 p l found)
 
 pub facts-locks : (numbers : List ℕ) (locks : List Lock) (changes : List Change) → Ascends by_number number_of_change changes
     → ((n : ℕ) (x : Change) → change_in changes n ≡ Some x → Ascends by_text file_path x.files) → AreLocks numbers locks changes → locks_fit numbers locks changes ≡ true
@@ -293,7 +295,7 @@ facts-locks ns ls xs up files g = λ i. found-all by_text lock_path (lock_has_fi
       where
         go : (v : Option Lock) → lock_in ls p ≡ v → option_map lock_change v ≡ Some n → has_lock ls x f ≡ true
         go (Some l) is e = found-there (lock_in ls f.path) (of_change x) l (ap (lock_in ls) (found-key by_text file_path p x.files f ff) ∙ is)
-            (ap (λ (m : ℕ). nat_eq m x.number) (some-is l.change n e ∙ sym (found-key by_number number_of_change n xs x found)) ∙ by_number.same_self x.number)
+            (ap (λ (m : ℕ). nat_eq m x.number) (same_Some l.change n e ∙ sym (found-key by_number number_of_change n xs x found)) ∙ by_number.same_self x.number)
         go None is e = none-some n e
 
 -- ---- the candidate

@@ -5,12 +5,13 @@ use Rattle.std.specs.List.{find, list_all}
 use Rattle.std.specs.Ordering.{is_lt}
 use Rattle.std.specs.declared.cmp.Ordering.{Ordering}
 use Rattle.std.specs.declared.cmp.Ordering.TheVariants.{Less, Equal, Greater}
+use Rattle.std.proofs.lemmas.Option.{same_Some}
+use Rattle.std.proofs.lemmas.Bool.{false≢true, and_parts}
 use Rattle.ae_types.specs.Ordered.{ascends, ascends_from}
 use Rattle.ae_types.proofs.Members.{In, in-all}
-use Rattle.ae_types.proofs.Ordered.{Order, at, Above, Ascends, above-above, above-at, at-first, apart, less-other, some-is, none-some}
-use Rattle.ae_types.proofs.Splits.{never, and2}
+use Rattle.ae_types.proofs.Ordered.{Order, at, Above, Ascends, above-above, above-at, at-first, apart, less-other, none-some}
 
-is_less : (x : Ordering) → is_lt x ≡ true → x ≡ Less
+pub is_less : (x : Ordering) → is_lt x ≡ true → x ≡ Less
 is_less Less e = refl
 is_less Equal e = cc
 is_less Greater e = cc
@@ -21,7 +22,7 @@ module _ {K : Type 0} (o : Order K) {A : Type 0} (key : A → K) where
   from-above : (k : K) (rows : List A) → ascends_from o.cmp key k rows ≡ true → Above o key k rows × Ascends o key rows
   from-above k [] e = (tt, tt)
   from-above k (r ∷ rows) e =
-      let a = and2 (is_lt (o.cmp k (key r))) (ascends_from o.cmp key (key r) rows) e in
+      let a = and_parts (is_lt (o.cmp k (key r))) (ascends_from o.cmp key (key r) rows) e in
       let b = from-above (key r) rows a.1 in
       let l = is_less (o.cmp k (key r)) a.0 in
       ((l, above-above o key k (key r) rows l b.0), b)
@@ -48,7 +49,7 @@ module _ {K : Type 0} (o : Order K) {A : Type 0} (key : A → K) where
   found-in (x ∷ xs) k r e = go (o.same k (key x)) e (found-in xs k r)
     where
       go : (b : Bool) → cond b (Some x) (at o key k xs) ≡ Some r → (at o key k xs ≡ Some r → In xs r) → In (x ∷ xs) r
-      go true e rest = inl (some-is x r e)
+      go true e rest = inl (same_Some x r e)
       go false e rest = inr (rest e)
 
   pub in-found : (xs : List A) → Ascends o key xs → (r : A) → In xs r → at o key (key r) xs ≡ Some r
@@ -72,7 +73,7 @@ module _ {K : Type 0} (o : Order K) {A : Type 0} (key : A → K) where
     where
       go : (b : Bool) → t x ≡ b → length (cond b (x ∷ filter t xs) (filter t xs)) ≡ 0 → In (x ∷ xs) r → (length (filter t xs) ≡ 0 → In xs r → t r ≡ true → ⊥) → ⊥
       go true e m h rest = absurd (omega (arith, m))
-      go false e m (inl here) rest = never (sym e ∙ ap t here ∙ is)
+      go false e m (inl here) rest = absurd (false≢true (sym e ∙ ap t here ∙ is))
       go false e m (inr later) rest = rest m later is
 
   counted-none : (t : A → Bool) (xs : List A) → ((r : A) → In xs r → t r ≡ true → ⊥) → length (filter t xs) ≡ 0
@@ -93,8 +94,8 @@ module _ {K : Type 0} (o : Order K) {A : Type 0} (key : A → K) where
       go true e less (inl i) (inr j) rest = absurd (none-counted t xs (omega (arith, less)) s j b)
       go true e less (inr i) (inl j) rest = absurd (none-counted t xs (omega (arith, less)) r i a)
       go true e less (inr i) (inr j) rest = absurd (none-counted t xs (omega (arith, less)) r i a)
-      go false e less (inl i) j rest = never (sym e ∙ ap t i ∙ a)
-      go false e less (inr i) (inl j) rest = never (sym e ∙ ap t j ∙ b)
+      go false e less (inl i) j rest = absurd (false≢true (sym e ∙ ap t i ∙ a))
+      go false e less (inr i) (inl j) rest = absurd (false≢true (sym e ∙ ap t j ∙ b))
       go false e less (inr i) (inr j) rest = rest less i j a b
 
   pub one-few : (t : A → Bool) (xs : List A) → Ascends o key xs → ((r s : A) → In xs r → In xs s → t r ≡ true → t s ≡ true → key r ≡ key s) → length (filter t xs) ≤ 1
@@ -118,7 +119,7 @@ module _ {K : Type 0} (o : Order K) {A : Type 0} (key : A → K) where
       go false m rest = rest m
 
   pub counted-some : (t : A → Bool) (xs : List A) → is_some (find t xs) ≡ true → 0 < length (filter t xs)
-  counted-some t [] e = never e
+  counted-some t [] e = absurd (false≢true e)
   counted-some t (x ∷ xs) e = go (t x) e (counted-some t xs)
     where
       go : (b : Bool) → is_some (cond b (Some x) (find t xs)) ≡ true → (is_some (find t xs) ≡ true → 0 < length (filter t xs)) → 0 < length (cond b (x ∷ filter t xs) (filter t xs))

@@ -1,26 +1,18 @@
 -- What follows from tests of several parts, and from tests of what is found.
-use Rattle.std.proofs.Common.{◌≡◌, ℕ, ◌≤◌, ◌<◌, refl, sym, ◌∙◌, ap, Option, Some, None, Bool, true, false, ◌&&◌, ◌||◌, not}
-use Rattle.std.specs.Prelude.{is_some, nat_le, nat_lt, IfSome, IsSomeAnd}
+use Rattle.std.proofs.Common.{◌≡◌, refl, sym, ◌∙◌, ap, Option, Some, None, Bool, true, false, ◌&&◌, ◌||◌, not}
+use Rattle.std.specs.Prelude.{is_some, IfSome, IsSomeAnd}
+use Rattle.std.proofs.lemmas.Bool.{false≢true, and_parts}
+use Rattle.ae_types.proofs.Ordered.{none-some}
 use Rattle.ae_types.specs.Found.{there_and, if_there}
 use Rattle.ae_types.specs.Rules.{same_bool}
 
-pub never : {P : Type 0} → false ≡ true → P
-never e = cc
-
-pub none-there : {A : Type 0} {P : Type 0} (x : A) → None ≡ Some x → P
-none-there x e = cc
-
 -- ---- several parts
 
-pub and2 : (a b : Bool) → (a && b) ≡ true → (a ≡ true) × (b ≡ true)
-and2 true b e = (refl, e)
-and2 false b e = cc
-
 pub and3 : (a b c : Bool) → (a && b && c) ≡ true → (a ≡ true) × (b ≡ true) × (c ≡ true)
-and3 a b c e = let x = and2 (a && b) c e in let y = and2 a b x.0 in (y.0, y.1, x.1)
+and3 a b c e = let x = and_parts (a && b) c e in let y = and_parts a b x.0 in (y.0, y.1, x.1)
 
 pub and4 : (a b c d : Bool) → (a && b && c && d) ≡ true → (a ≡ true) × (b ≡ true) × (c ≡ true) × (d ≡ true)
-and4 a b c d e = let x = and2 (a && b && c) d e in let y = and3 a b c x.0 in (y.0, y.1, y.2, x.1)
+and4 a b c d e = let x = and_parts (a && b && c) d e in let y = and3 a b c x.0 in (y.0, y.1, y.2, x.1)
 
 pub and6 : (a b c d e f : Bool) → (a && b && c && d && e && f) ≡ true → (a ≡ true) × (b ≡ true) × (c ≡ true) × (d ≡ true) × (e ≡ true) × (f ≡ true)
 and6 a b c d e f h = let x = and3 (a && b && c && d) e f h in let y = and4 a b c d x.0 in (y.0, y.1, y.2, y.3, x.1, x.2)
@@ -30,24 +22,15 @@ and7 a b c d e f g h = let x = and4 (a && b && c && d) e f g h in let y = and4 a
 
 pub where-so : (b c : Bool) → (not b || c) ≡ true → b ≡ true → c ≡ true
 where-so true c e is = e
-where-so false c e is = never is
+where-so false c e is = absurd (false≢true is)
 
 pub so-where : (b c : Bool) → (b ≡ true → c ≡ true) → (not b || c) ≡ true
 so-where true c h = h refl
 so-where false c h = refl
 
--- a test that can't be true is false
-pub is-false : (b : Bool) → (b ≡ true → ⊥) → b ≡ false
-is-false true h = absurd (h refl)
-is-false false h = refl
-
-pub is-not : (b : Bool) → b ≡ false → not b ≡ true
-is-not true e = cc
-is-not false e = refl
-
 pub not-is : (b : Bool) → not b ≡ true → b ≡ true → ⊥
-not-is true e is = never e
-not-is false e is = never is
+not-is true e is = absurd (false≢true e)
+not-is false e is = absurd (false≢true is)
 
 pub same-is : (a b : Bool) → same_bool a b ≡ true → a ≡ b
 same-is true b e = sym e
@@ -61,23 +44,11 @@ is-same false false e = refl
 
 -- ---- numbers
 
-pub most : (m n : ℕ) → nat_le m n ≡ true → m ≤ n
-most m n e = Rattle.std.proofs.lemmas.Bool.leb-true m n e
-
-pub is-most : (m n : ℕ) → m ≤ n → nat_le m n ≡ true
-is-most m n e = Rattle.std.proofs.lemmas.Bool.le-leb m n e
-
-pub below : (m n : ℕ) → nat_lt m n ≡ true → m < n
-below m n e = Rattle.std.proofs.lemmas.Bool.ltb-true m n e
-
-pub is-below : (m n : ℕ) → m < n → nat_lt m n ≡ true
-is-below m n e = Rattle.std.proofs.lemmas.Bool.lt-ltb m n e
-
 -- ---- what is found
 
 pub there-found : {A : Type 0} (v : Option A) (t : A → Bool) → there_and v t ≡ true → (x : A) × (v ≡ Some x) × (t x ≡ true)
 there-found (Some x) t e = (x, refl, e)
-there-found None t e = never e
+there-found None t e = absurd (false≢true e)
 
 pub found-there : {A : Type 0} (v : Option A) (t : A → Bool) (x : A) → v ≡ Some x → t x ≡ true → there_and v t ≡ true
 found-there v t x is e = ap (λ w. there_and w t) is ∙ e
@@ -91,7 +62,7 @@ found-if None t h = refl
 
 pub some-found : {A : Type 0} (v : Option A) → is_some v ≡ true → (x : A) × (v ≡ Some x)
 some-found (Some x) e = (x, refl)
-some-found None e = never e
+some-found None e = absurd (false≢true e)
 
 pub found-some : {A : Type 0} (v : Option A) (x : A) → v ≡ Some x → is_some v ≡ true
 found-some v x is = ap (λ w. is_some w) is
@@ -102,7 +73,7 @@ to-if P None h = tt
 
 pub from-if : {A : Type 0} (P : A → Type 0) (v : Option A) → IfSome v P → (x : A) → v ≡ Some x → P x
 from-if P (Some y) h x is = Rattle.std.proofs.Common.subst P (Rattle.ae_types.proofs.Ordered.some-is y x is) h
-from-if P None h x is = none-there x is
+from-if P None h x is = none-some x is
 
 pub to-is : {A : Type 0} (P : A → Type 0) (v : Option A) (x : A) → v ≡ Some x → P x → IsSomeAnd v P
 to-is P v x is h = Rattle.std.proofs.Common.subst (λ w. IsSomeAnd w P) (sym is) h

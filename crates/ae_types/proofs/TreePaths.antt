@@ -4,6 +4,7 @@ use Rattle.std.specs.Prelude.{filter, is_some}
 use Rattle.std.specs.List.{find, filter_map}
 use Rattle.std.specs.Option.{option_map, option_and_then}
 use Rattle.std.specs.Str.{bytes_eq}
+use Rattle.std.proofs.lemmas.Option.{same_Some}
 use Rattle.ae_types.specs.declared.change.Change.{Change}
 use Rattle.ae_types.specs.declared.change.ChangeFile.{ChangeFile}
 use Rattle.ae_types.specs.declared.file_table.FileRow.{FileRow}
@@ -15,7 +16,7 @@ use Rattle.ae_types.specs.Ordered.{put_by}
 use Rattle.ae_types.specs.Trees.{TreeRow, tree_path, entry_row, last_up_to, tree_row, tree_at, frozen_row, put_rows, overlaid, paths_of}
 use Rattle.ae_base.specs.Rows.{text_cmp}
 use Rattle.ae_types.proofs.Keys.{by_text}
-use Rattle.ae_types.proofs.Ordered.{Ascends, at, at-put, at-rows, some-is, none-some}
+use Rattle.ae_types.proofs.Ordered.{Ascends, at, at-put, at-rows, none-some}
 
 pub has-at : (rows : List TreeRow) (path : List ℕ) → has_path (paths_of rows) path ≡ is_some (at by_text tree_path path rows)
 has-at [] path = refl
@@ -27,14 +28,14 @@ has-at (row ∷ rows) path = go (bytes_eq path row.path) (has-at rows path)
 
 -- ---- the files at a delta
 
-entry-path : (path : List ℕ) (entry : FileVersion) (row : TreeRow) → entry_row path entry ≡ Some row → row.path ≡ path
+pub entry-path : (path : List ℕ) (entry : FileVersion) (row : TreeRow) → entry_row path entry ≡ Some row → row.path ≡ path
 entry-path path entry row e = go entry.version e
   where
     go : (v : Option VersionRef) → option_map (λ version. record { path = path; usage = entry.usage; version = version }) v ≡ Some row → row.path ≡ path
-    go (Some w) e = sym (ap tree_path (some-is (record { path = path; usage = entry.usage; version = w }) row e))
+    go (Some w) e = sym (ap tree_path (same_Some (record { path = path; usage = entry.usage; version = w }) row e))
     go None e = none-some row e
 
-tree-path : (deltas : ℕ) (row : FileRow) (made : TreeRow) → tree_row deltas row ≡ Some made → made.path ≡ row.path
+pub tree-path : (deltas : ℕ) (row : FileRow) (made : TreeRow) → tree_row deltas row ≡ Some made → made.path ≡ row.path
 tree-path n row made e = go (last_up_to n row.past) e
   where
     go : (v : Option FileVersion) → option_and_then (entry_row row.path) v ≡ Some made → made.path ≡ row.path
@@ -49,11 +50,11 @@ tree-has n rows up path = has-at (tree_at n rows) path ∙ ap (λ v. is_some v) 
 
 -- ---- the candidate
 
-frozen-path : (file : ChangeFile) (made : TreeRow) → frozen_row file ≡ Some made → made.path ≡ file.path
+pub frozen-path : (file : ChangeFile) (made : TreeRow) → frozen_row file ≡ Some made → made.path ≡ file.path
 frozen-path file made e = go file.frozen e
   where
     go : (v : Option VersionRef) → option_map (λ version. record { path = file.path; usage = file.usage; version = version }) v ≡ Some made → made.path ≡ file.path
-    go (Some w) e = sym (ap tree_path (some-is (record { path = file.path; usage = file.usage; version = w }) made e))
+    go (Some w) e = sym (ap tree_path (same_Some (record { path = file.path; usage = file.usage; version = w }) made e))
     go None e = none-some made e
 
 pub frozen-some : (file : ChangeFile) → is_some (frozen_row file) ≡ is_some file.frozen

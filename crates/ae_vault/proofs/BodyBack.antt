@@ -4,11 +4,11 @@ use Rattle.std.specs.Int.{to_le_bytes, from_le_bytes, w32, w64}
 use Rattle.std.proofs.lemmas.Bool.Decides.{nat_tests}
 use Rattle.std.proofs.lemmas.List.{take-append-drop}
 use Rattle.std.proofs.lemmas.Nat.{le_bytes_4, le_bytes_8}
+use Rattle.std.proofs.lemmas.Bool.{cases_Bool}
 use Rattle.ae_base.specs.Bytes.{AreBytes}
 use Rattle.ae_vault.specs.declared.entry.Entry.{Entry}
 use Rattle.ae_vault.specs.Body.{content_bytes, entry_bytes, body_of}
 use Rattle.ae_vault.specs.Vault.{bytes_read, kind_read, entry_read, entries_read, body_entries, are_entries}
-use Rattle.ae_vault.proofs.Files.{bool_cases}
 
 at_each : (bytes : List ℕ) → AreBytes bytes → (i : ℕ) → get_or bytes i 0 < 256
 at_each [] are i = omega arith
@@ -46,9 +46,9 @@ IsText name bytes e rest = (e.name ≡ name) × ((bytes ≡ content_bytes e.byte
 
 long_text : (name rest : List ℕ) (e : Entry) (after : List ℕ) → AreBytes rest → bytes_read name rest ≡ Some (e, after) → IsText name (1 ∷ rest) e after
 unfolding IsText
-long_text name rest e after are is = elim (bool_cases (nat_lt (length rest) 8)) [
+long_text name rest e after are is = elim (cases_Bool (nat_lt (length rest) 8)) [
   | inl short ↦ let none : bytes_read name rest ≡ None = ap (λ (b : Bool). if b then None else sized) short in cc
-  | inr long ↦ elim (bool_cases (nat_lt (length (drop 8 rest)) len)) [
+  | inr long ↦ elim (cases_Bool (nat_lt (length (drop 8 rest)) len)) [
     | inl short ↦ let none : bytes_read name rest ≡ None = ap (λ (b : Bool). if b then None else sized) long ∙ ap (λ (b : Bool). if b then None else found) short in cc
     | inr fits ↦
         let some : bytes_read name rest ≡ found = ap (λ (b : Bool). if b then None else sized) long ∙ ap (λ (b : Bool). if b then None else found) fits in
@@ -96,7 +96,7 @@ kind_text name (suc (suc k) ∷ rest) e after are is =
 entry_text : (bytes : List ℕ) (e : Entry) (after : List ℕ) → AreBytes bytes → entry_read bytes ≡ Some (e, after) → (bytes ≡ entry_bytes e ++ after) × AreBytes after
 unfolding IsText
 entry_text [] e after are is = let no_entry : ◌≡◌ {A = Option (Entry × List ℕ)} None (Some (e, after)) = is in cc
-entry_text (n ∷ bytes) e after are is = elim (bool_cases (nat_lt (length bytes) n)) [
+entry_text (n ∷ bytes) e after are is = elim (cases_Bool (nat_lt (length bytes) n)) [
   | inl short ↦ let none : entry_read (n ∷ bytes) ≡ None = ap (λ (b : Bool). if b then None else kind_read (take n bytes) (drop n bytes)) short in cc
   | inr long ↦
       let some : entry_read (n ∷ bytes) ≡ kind_read (take n bytes) (drop n bytes) = ap (λ (b : Bool). if b then None else kind_read (take n bytes) (drop n bytes)) long in
@@ -142,7 +142,7 @@ entries_text (suc n) bytes es are is = one_text n bytes es are (entries_text n) 
 -- bytes that are read as these entries are their text
 pub body_text : (bytes : List ℕ) (es : List Entry) → AreBytes bytes → body_entries bytes ≡ Some es → bytes ≡ body_of es
 unfolding AreText
-body_text bytes es are is = elim (bool_cases (nat_le 4 (length bytes))) [
+body_text bytes es are is = elim (cases_Bool (nat_le 4 (length bytes))) [
   | inl long ↦
       let some : body_entries bytes ≡ checked (entries_read count (drop 4 bytes)) = ap (λ (b : Bool). if b then checked (entries_read count (drop 4 bytes)) else None) long in
       let fits : nat_lt (length bytes) 4 ≡ false = grind (arith, nat_tests) in

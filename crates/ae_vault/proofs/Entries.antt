@@ -4,6 +4,7 @@ use Rattle.std.specs.Str.{bytes_eq}
 use Rattle.std.proofs.lemmas.Slice.Eq.{bytes_eq-Decides}
 use Rattle.std.proofs.lemmas.Bool.Decides.{nat_tests}
 use Rattle.std.proofs.lemmas.List.{take_more}
+use Rattle.std.proofs.lemmas.Bool.{cases_Bool}
 use Rattle.ae_outside.specs.DiskNames.{IsDiskName, is_disk_name}
 use Rattle.ae_outside.specs.Image.{Image, SameElsewhere}
 use Rattle.ae_outside.specs.State.{DiskState, reads, MayLeave, GoesOn, IsStable}
@@ -11,7 +12,7 @@ use Rattle.ae_outside.specs.Time.{goes_on_then, goes_on_weaker}
 use Rattle.ae_vault.specs.declared.entry.Entry.{Entry}
 use Rattle.ae_vault.specs.Vault.{content_of, or_else, all_entry_names}
 use Rattle.ae_vault.specs.Commit.{SameOutside, HasEntries}
-use Rattle.ae_vault.proofs.Files.{bool_cases, option_cases}
+use Rattle.ae_vault.proofs.Files.{option_cases}
 
 abbrev one : Entry → List ℕ → Option (List ℕ)
 one e name = if bytes_eq e.name name then Some (unwrap_or e.bytes []) else None
@@ -64,7 +65,7 @@ outside_on entries i e r s t lt is first second =
     goes_on_then _ _ _ r s t (λ f g step. step) (outside_then entries) first (goes_on_weaker _ _ s t (elsewhere_outside entries e named) second)
 
 has_push : (entries : List Entry) (e : Entry) (f g : Image) → HasEntries entries f → SameElsewhere e.name f g → g e.name ≡ unwrap_or e.bytes [] → HasEntries (entries ++ e ∷ []) g
-has_push entries e f g has same new name bytes is = elim (bool_cases (bytes_eq e.name name)) [
+has_push entries e f g has same new name bytes is = elim (cases_Bool (bytes_eq e.name name)) [
   | inl here ↦
       let names : e.name ≡ name = (bytes_eq-Decides e.name name).0 here in
       let last : content_of (entries ++ e ∷ []) name ≡ Some (unwrap_or e.bytes []) = content_push entries e name ∙ ap (λ (b : Bool). or_else (if b then Some (unwrap_or e.bytes []) else None) (content_of entries name)) here in

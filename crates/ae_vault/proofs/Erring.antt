@@ -1,5 +1,5 @@
 -- Which error it is: no two of them are the same.
-use Rattle.std.specs.Prelude.{◌≡◌, true, false, Err, IsErrOf}
+use Rattle.std.specs.Prelude.{◌≡◌, Err, IsErrOf}
 use Rattle.std.proofs.Common.{refl}
 use Rattle.ae_outside.specs.declared.failed.ReadError.{ReadError}
 use Rattle.ae_outside.specs.declared.failed.ReadError.TheVariants as reading
@@ -28,7 +28,3 @@ reading_is_no_damage reading.Memory is = cc
 pub reading_failed : (e : ReadError) → read_error e ≡ vault.DiskFault → e ≡ reading.Failed
 reading_failed reading.Failed is = refl
 reading_failed reading.Memory is = cc
-
--- a test has one answer, as where what ended well would be a failure
-pub never : false ≡ true → ⊥
-never is = cc

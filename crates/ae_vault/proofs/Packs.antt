@@ -2,7 +2,7 @@
 use Rattle.std.proofs.Common.{◌≡◌, ◌≢◌, ◌⊎◌, inl, inr, ℕ, zero, suc, ◌+◌, ◌-◌, ◌<◌, ◌≤◌, Bool, true, false, ◌&&◌, ◌||◌, ◌==◌, if◌then◌else◌, List, [], ◌∷◌, ◌++◌, length, get_or, take, drop, refl, sym, ◌∙◌, ap, subst, arith, length-append, length-take, length-drop}
 use Rattle.std.specs.List.{list_all}
 use Rattle.std.specs.Str.{bytes_eq}
-use Rattle.std.proofs.lemmas.Bool.{cases_lt}
+use Rattle.std.proofs.lemmas.Bool.{cases_lt, cases_Bool}
 use Rattle.std.proofs.lemmas.Bool.Decides.{nat_tests}
 use Rattle.std.proofs.lemmas.Slice.Eq.{bytes_eq-Decides}
 use Rattle.std.proofs.lemmas.List.{get_or-take, get_or-drop, get_or-append-add, take_more, take_all}
@@ -13,7 +13,6 @@ use Rattle.ae_outside.specs.Time.{goes_on_refl, goes_on_weaker, goes_on_then}
 use Rattle.ae_vault.specs.declared.piece.Piece.{Piece}
 use Rattle.ae_vault.specs.Packing.{PackBegun, IsExtended}
 use Rattle.ae_vault.specs.Pieces.{pack, are_apart, ends_before, none_meet, are_pieces, IsIn, IsCovered, KeepsOutside, HasPiece, HasPieces, PackedOver}
-use Rattle.ae_vault.proofs.Files.{bool_cases}
 
 torn_at : (at n k : ℕ) (old new : List ℕ) → IsTorn at n old new → (k < at) ⊎ (at + n ≤ k) → get_or new k 0 ≡ get_or old k 0
 torn_at at n k old new torn (inl before) = sym (get_or-take at new k 0 before) ∙ ap (λ (l : List ℕ). get_or l k 0) torn.before ∙ get_or-take at old k 0 before
@@ -160,7 +159,7 @@ extended_on at bytes r0 r1 r2 from extended over = record {
 
 -- pieces that were there stay there
 apart_out : (p q : Piece) → are_apart p q ≡ true → (k : ℕ) → k < length p.bytes → (p.at + k < q.at) ⊎ (q.at + length q.bytes ≤ p.at + k)
-apart_out p q apart k lt = elim (bool_cases (ends_before p q)) [
+apart_out p q apart k lt = elim (cases_Bool (ends_before p q)) [
   | inl first ↦ let le : p.at + length p.bytes ≤ q.at = grind (arith, nat_tests) in inl (omega (arith, le, lt))
   | inr not_first ↦
       let second : ends_before q p ≡ true = ap (λ (b : Bool). b || ends_before q p) (sym not_first) ∙ apart in
@@ -216,7 +215,7 @@ over_step p ps read f g step = record {
 }
   where
     elsewhere : (other : List ℕ) → other ≢ pack → bytes_eq pack other ≡ false
-    elsewhere other differs = elim (bool_cases (bytes_eq pack other)) [
+    elsewhere other differs = elim (cases_Bool (bytes_eq pack other)) [
       | inl same ↦ absurd (differs (sym ((bytes_eq-Decides pack other).0 same)))
       | inr no_pack ↦ no_pack
     ]

@@ -4,6 +4,7 @@ use Rattle.std.proofs.lemmas.Bool.Decides.{nat_tests}
 use Rattle.std.proofs.lemmas.List.{length-append}
 use Rattle.std.specs.List.{list_all}
 use Rattle.std.specs.Option.{is_none}
+use Rattle.std.proofs.lemmas.Bool.{not-true, and_parts, and_from}
 use Rattle.ae_words.specs.Items.{Item, a_plain, a_flag, an_option, a_wrong, listing_named, listing}
 use Rattle.ae_words.specs.Meaning.{step, or_bad, may_come, with_plain, with_name, with_user, with_path, with_test, with_listing, listed, numbered, next_number, with_flag, with_value, with_change, with_delta, is_free, blank, is_whole, has_plain}
 use Rattle.ae_words.specs.Table.{row, allows, allows_change, may_take_change, needs_change, needs_attributes}
@@ -19,7 +20,6 @@ use Rattle.ae_words.specs.declared.table.Setting.{Setting}
 use Rattle.ae_words.specs.declared.table.Setting.TheVariants as setting
 use Rattle.ae_words.specs.declared.table.Row.{Row}
 use Rattle.ae_words.specs.declared.table.Row.TheVariants as rows
-use Rattle.ae_words.proofs.Rule.{both}
 
 pub some_if : {A : Type 0} (b : Bool) (x y : A) → cond b (Some x) None ≡ Some y → (b ≡ true) × (x ≡ y)
 some_if true x y e = (refl, cc)
@@ -403,7 +403,7 @@ swap_third false b c x d e h k = absurd cc
 
 all_more : (p : List ℕ → Bool) (xs : List (List ℕ)) (x : List ℕ) → list_all p xs ≡ true → p x ≡ true → list_all p (xs ++ x ∷ []) ≡ true
 all_more p [] x h k = rw k refl
-all_more p (y ∷ ys) x h k = let hs = both (p y) (list_all p ys) h in rw (hs.0, all_more p ys x hs.1 k) refl
+all_more p (y ∷ ys) x h k = let hs = and_parts (p y) (list_all p ys) h in rw (hs.0, all_more p ys x hs.1 k) refl
 
 few_more : (xs : List (List ℕ)) (x : List ℕ) → nat_le 1000 (length xs) ≡ false → nat_le (length (xs ++ x ∷ [])) 1000 ≡ true
 few_more xs x h = rw (length-append xs (x ∷ [])) (grind (arith, nat_tests))
@@ -413,31 +413,27 @@ second true true c d e h = refl
 second true false c d e h = absurd cc
 second false b c d e h = absurd cc
 
-third : (a b c d e : Bool) → (a && b && c && d && e) ≡ true → c ≡ true
+pub third : (a b c d e : Bool) → (a && b && c && d && e) ≡ true → c ≡ true
 third true true true d e h = refl
 third true true false d e h = absurd cc
 third true false c d e h = absurd cc
 third false b c d e h = absurd cc
 
-room : (b : Bool) → not b ≡ true → b ≡ false
-room true h = absurd cc
-room false h = refl
-
 users_more : (us : List (List ℕ)) (w : List ℕ) → are_users us ≡ true → (not (nat_le 1000 (length us)) && is_user w) ≡ true → are_users (us ++ w ∷ []) ≡ true
 users_more us w h k =
-    let a = both (list_all is_user us) (nat_le (length us) 1000) h in
-    let b = both (not (nat_le 1000 (length us))) (is_user w) k in
-    rw (all_more is_user us w a.0 b.1, few_more us w (room (nat_le 1000 (length us)) b.0)) refl
+    let a = and_parts (list_all is_user us) (nat_le (length us) 1000) h in
+    let b = and_parts (not (nat_le 1000 (length us))) (is_user w) k in
+    rw (all_more is_user us w a.0 b.1, few_more us w (not-true (nat_le 1000 (length us)) b.0)) refl
 
 paths_more : (ps : List (List ℕ)) (w : List ℕ) → are_paths ps ≡ true → (not (nat_le 1000 (length ps)) && is_path w) ≡ true → are_paths (ps ++ w ∷ []) ≡ true
 paths_more ps w h k =
-    let a = both (list_all is_path ps) (nat_le (length ps) 1000) h in
-    let b = both (not (nat_le 1000 (length ps))) (is_path w) k in
-    rw (all_more is_path ps w a.0 b.1, few_more ps w (room (nat_le 1000 (length ps)) b.0)) refl
+    let a = and_parts (list_all is_path ps) (nat_le (length ps) 1000) h in
+    let b = and_parts (not (nat_le 1000 (length ps))) (is_path w) k in
+    rw (all_more is_path ps w a.0 b.1, few_more ps w (not-true (nat_le 1000 (length ps)) b.0)) refl
 
 tests_more : (ps : List (List ℕ)) (w : List ℕ) → are_tests ps ≡ true → is_no_config w ≡ true → (not (nat_le 1000 (length ps)) && is_path w) ≡ true → are_tests (ps ++ w ∷ []) ≡ true
 tests_more ps w h n k =
-    let a = both (list_all is_no_config ps) (are_paths ps) h in
+    let a = and_parts (list_all is_no_config ps) (are_paths ps) h in
     rw (all_more is_no_config ps w a.0 n, paths_more ps w a.1 k) refl
 
 -- ---- numbers are in their ranges
@@ -457,22 +453,11 @@ within most low high (b ∷ bs) n e = one (nat_le (length (b ∷ bs)) most) e
     one false e = absurd cc
 
 numbers_more : (ns : List ℕ) (w : List ℕ) (n : ℕ) → are_numbers ns ≡ true → next_number (length ns) w ≡ Some n → are_numbers (ns ++ n ∷ []) ≡ true
-numbers_more [] w n h e = (both (nat_le 0 n) (nat_le n 18446744073709551615) (within 20 0 18446744073709551615 w n e)).1
-numbers_more (s ∷ []) w n h e = let r = both (nat_le 1 n) (nat_le n 200) (within 20 1 200 w n e) in rw (h, r.0, r.1) refl
-numbers_more (s ∷ m ∷ []) w n h e = let r = both (nat_le 1 n) (nat_le n 99) (within 20 1 99 w n e) in rw (h, r.0, r.1) refl
+numbers_more [] w n h e = (and_parts (nat_le 0 n) (nat_le n 18446744073709551615) (within 20 0 18446744073709551615 w n e)).1
+numbers_more (s ∷ []) w n h e = let r = and_parts (nat_le 1 n) (nat_le n 200) (within 20 1 200 w n e) in rw (h, r.0, r.1) refl
+numbers_more (s ∷ m ∷ []) w n h e = let r = and_parts (nat_le 1 n) (nat_le n 99) (within 20 1 99 w n e) in rw (h, r.0, r.1) refl
 numbers_more (s ∷ m ∷ f ∷ []) w n h e = absurd cc
 numbers_more (s ∷ m ∷ f ∷ x ∷ xs) w n h e = absurd cc
-
-pub last : (a b : Bool) → (a && b) ≡ true → b ≡ true
-last true b h = h
-last false b h = absurd cc
-
-front : (a b : Bool) → (a && b) ≡ true → a ≡ true
-front true b h = refl
-front false b h = absurd cc
-
-joined : (a b : Bool) → a ≡ true → b ≡ true → (a && b) ≡ true
-joined a b h k = rw (h, k) refl
 
 -- ---- plain words keep plain words good
 
@@ -511,7 +496,7 @@ numbered_plain c d w (Some n) f e h =
     let made : record c { numbers = c.numbers ++ n ∷ [] } ≡ d = cc in
     let others = is_none c.name && is_empty c.users && is_empty c.paths && is_none c.listing in
     subst (λ (x : Command). are_plain rows.Numbers x ≡ true) made
-    (joined others (are_numbers (c.numbers ++ n ∷ [])) (front others (are_numbers c.numbers) h) (numbers_more c.numbers w n (last others (are_numbers c.numbers) h) f))
+    (and_from others (are_numbers (c.numbers ++ n ∷ [])) ((and_parts others (are_numbers c.numbers) h).0) (numbers_more c.numbers w n ((and_parts others (are_numbers c.numbers) h).1) f))
 
 plain_plain : (r : Row) (c d : Command) (w : List ℕ) → with_plain r c w ≡ Some d → are_plain r c ≡ true → are_plain r d ≡ true
 plain_plain rows.NewProject c d w e h = named_plain c d w e h
@@ -557,7 +542,7 @@ option_so_far l c d o a s h = record {
 
 flag_so_far : (l : Option Listing) (c : Command) (o : Setting) → may_come l c o ≡ true → IsSoFar l c → IsSoFar l (with_flag o c)
 flag_so_far l c o m h =
-    let b = both (allows c.function l o) (is_free c o) m in
+    let b = and_parts (allows c.function l o) (is_free c o) m in
     record {
       options = (allowed_more l c (with_flag o c) o b.0 (flag_adds o c) h.options.0, one_flag o c b.1 h.options.1);
       plain = subst (λ (f : Function). are_plain (row f) (with_flag o c) ≡ true) (sym (flag_function o c)) (flag_plain (row c.function) o c h.plain);
@@ -572,7 +557,7 @@ step_so_far l c d (a_flag at o) e h =
     subst (λ (x : Command). IsSoFar l x) same (flag_so_far l c o k.0 h)
 step_so_far l c d (an_option at o v_at v) e h =
     let k = ok_if (may_come l c o) at (or_bad v_at (with_value o c v)) d e in
-    let b = both (allows c.function l o) (is_free c o) k.0 in
+    let b = and_parts (allows c.function l o) (is_free c o) k.0 in
     option_so_far l c d o b.0 (value_sets o c d v (ok_some v_at (with_value o c v) d k.1)) h
 step_so_far l c d (a_wrong at) e h = absurd cc
 
@@ -718,8 +703,7 @@ allows_same f l m setting.Regression h = refl
 whole_plain : (c : Command) → is_whole c ≡ true → has_plain (row c.function) c ≡ true
 unfolding is_whole
 whole_plain c h =
-    front (has_plain (row c.function) c) (not (needs_attributes (row c.function)) || is_some c.attributes)
-    (front (has_plain (row c.function) c && (not (needs_attributes (row c.function)) || is_some c.attributes)) (not (needs_change (row c.function) c.listing) || is_some c.change) h)
+    (and_parts (has_plain (row c.function) c) (not (needs_attributes (row c.function)) || is_some c.attributes) ((and_parts (has_plain (row c.function) c && (not (needs_attributes (row c.function)) || is_some c.attributes)) (not (needs_change (row c.function) c.listing) || is_some c.change) h).0)).0
 
 same_listing : (l : Option Listing) (c : Command) → IsListing l c [] → is_whole c ≡ true → row c.function ≡ rows.Listing → l ≡ c.listing
 same_listing l c h whole r = one (h r)

@@ -1,5 +1,6 @@
 -- What options and the name give in a command that is read is of its kind.
 use Rattle.std.proofs.Common.{◌≡◌, ℕ, true, not, nat_le, List, [], ◌∷◌, ◌++◌, Option, Some, None, Result, Ok, Err, refl, subst, length, is_some}
+use Rattle.std.proofs.lemmas.Bool.{and_parts}
 use Rattle.ae_base.specs.Names.{is_project_name}
 use Rattle.ae_base.specs.Numbers.{change_number, delta_number}
 use Rattle.ae_words.specs.Items.{Item, a_plain, a_flag, an_option, a_wrong, listing_named}
@@ -14,7 +15,7 @@ use Rattle.ae_words.specs.declared.table.Setting.{Setting}
 use Rattle.ae_words.specs.declared.table.Setting.TheVariants as setting
 use Rattle.ae_words.specs.declared.table.Row.{Row}
 use Rattle.ae_words.specs.declared.table.Row.TheVariants as rows
-use Rattle.ae_words.proofs.Formed.{some_if, none_if, within, last, ok_some, ok_if}
+use Rattle.ae_words.proofs.Formed.{some_if, none_if, within, ok_some, ok_if}
 
 along : (c d : Command) → c ≡ d → AreKinds c → AreKinds d
 along c d e h = subst (λ (x : Command). AreKinds x) e h
@@ -45,7 +46,7 @@ numbered_kinds c d (Some n) e h =
 plain_kinds : (r : Row) (c d : Command) (w : List ℕ) → with_plain r c w ≡ Some d → AreKinds c → AreKinds d
 plain_kinds rows.NewProject c d w e h =
     let k = some_if _ (record c { name = Some w }) d e in
-    along (record c { name = Some w }) d k.1 (record { project = h.project; change = h.change; attributes = h.attributes; delta = h.delta; name = last (not (is_some c.name)) (is_project_name w) k.0 })
+    along (record c { name = Some w }) d k.1 (record { project = h.project; change = h.change; attributes = h.attributes; delta = h.delta; name = (and_parts (not (is_some c.name)) (is_project_name w) k.0).1 })
 plain_kinds rows.Users c d w e h = along (record c { users = c.users ++ w ∷ [] }) d (some_if _ (record c { users = c.users ++ w ∷ [] }) d e).1 (users_kinds c (c.users ++ w ∷ []) h)
 plain_kinds rows.Copy c d w e h = path_kinds c d w e h
 plain_kinds rows.Paths c d w e h = path_kinds c d w e h
@@ -70,7 +71,7 @@ delta_kinds : (c d : Command) (v : List ℕ) (o : Option ℕ) → delta_number v
 delta_kinds c d v None n e h = absurd cc
 delta_kinds c d v (Some x) n e h =
     let same : record c { delta = Some x } ≡ d = cc in
-    let low : nat_le x 1990 ≡ true = last (nat_le 0 x) (nat_le x 1990) (within 10 0 1990 v x n) in
+    let low : nat_le x 1990 ≡ true = (and_parts (nat_le 0 x) (nat_le x 1990) (within 10 0 1990 v x n)).1 in
     along (record c { delta = Some x }) d same (record { project = h.project; change = h.change; attributes = h.attributes; delta = low; name = h.name })
 
 value_kinds : (o : Setting) (c d : Command) (v : List ℕ) → with_value o c v ≡ Some d → AreKinds c → AreKinds d

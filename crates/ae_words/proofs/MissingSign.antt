@@ -1,12 +1,9 @@
 -- A word that has ended spells no pattern whose first sign must be there.
-use Rattle.std.proofs.Common.{◌≡◌, ◌≢◌, ◌<◌, ◌≤◌, ◌==◌, ℕ, Bool, true, false, cond, List, [], ◌∷◌, length, get_or, refl, sym, ◌∙◌, arith}
+use Rattle.std.proofs.Common.{◌≡◌, ◌≢◌, ◌<◌, ◌≤◌, ◌==◌, ℕ, Bool, false, cond, List, [], ◌∷◌, length, get_or, sym, ◌∙◌, arith}
 use Rattle.std.proofs.lemmas.Bool.Decides.{nat_tests}
 use Rattle.std.specs.Char.{is_ascii_lowercase}
+use Rattle.std.proofs.lemmas.Bool.{cond-false}
 use Rattle.ae_words.specs.Spelling.{spells}
-
-otherwise : {A : Type 0} (b : Bool) (x y : A) → b ≡ false → cond b x y ≡ y
-otherwise true x y is = absurd cc
-otherwise false x y is = refl
 
 pub missing_sign : (is_cut : Bool) (pattern word : List ℕ) → 1 ≤ length pattern → length word < 1 → is_ascii_lowercase (get_or pattern 0 0) ≡ false → get_or pattern 0 0 ≢ 95
     → false ≡ spells is_cut pattern word
@@ -15,4 +12,4 @@ missing_sign is_cut [] word some none large sign = absurd (omega (arith, some))
 missing_sign is_cut (c ∷ cs) (b ∷ bs) some none large sign = absurd (omega (arith, none))
 missing_sign is_cut (c ∷ cs) [] some none large sign =
     let is_sign : (c == 95) ≡ false = grind (arith, nat_tests, sign) in
-    sym (otherwise (is_ascii_lowercase c) _ _ large ∙ otherwise (c == 95) _ _ is_sign)
+    sym (cond-false (is_ascii_lowercase c) _ _ large ∙ cond-false (c == 95) _ _ is_sign)

@@ -1,5 +1,6 @@
 use Rattle.std.proofs.Math.Nat.{le_trans}
 use Rattle.std.proofs.Common.{refl, ◌≡◌, ◌∙◌, ap, sym, subst, inr, ℕ, List, Option, Some, Err}
+use Rattle.ae_machine.proofs.SightShows.{reads-too}
 use Rattle.ae_outside.proofs.Results.{err_is}
 use Rattle.ae_outside.proofs.Rising.{risen_later}
 use Rattle.ae_outside.specs.Image.{Image}
@@ -18,7 +19,6 @@ use Rattle.ae_base.specs.Rows.{paths_of}
 use Rattle.ae_machine.specs.Space.{placing}
 use Rattle.ae_machine.specs.Versions.{ShowsVersions}
 use Rattle.ae_exec.specs.Bytes.{HaveBytes}
-use Rattle.ae_exec.proofs.FirstSeen.{runs-read-files}
 use Rattle.ae_machine.specs.Verdict.{verdict}
 use Rattle.ae_exec.specs.Reading.{AreKept, versions_for_runs}
 use Rattle.ae_exec.specs.Runs.{HaveRun}
@@ -43,7 +43,7 @@ returns-in_err-view-clause-stopped g c =
     (λ refusal seen tells told. refused-so (effective (reads (g.D.Disk.state c.args.disk.now))) c.args.state.now call c.requires.runs c.requires.passed (c.see.ensures.site_same told) refusal
     (subst (λ (after : SiteState). FilesRefuse (effective (reads (g.D.Disk.state c.args.disk.now))) c.args.state.now (called c.args.command.now c.args.who.now c.args.now (g.S.Site.state c.args.site.now) after) refusal) (sym (c.see.ensures.site_same told)) (seen tells told)))
     (λ name lost tells told. let both = lost tells told in answering (record { before = c.requires.passed; files = both.0 }) both.1)
-    (λ rose. rose) (λ rose. (rose, λ tells told. reading c.requires.passed (inr (runs-read-files c.args.command.now.function c.requires.runs)))))
+    (λ rose. rose) (λ rose. (rose, λ tells told. reading c.requires.passed (inr (reads-too c.args.command.now.function c.requires.runs)))))
 
 pub returns-in_err-plan-clause-stopped : goal.returns-in_err-plan-clause-stopped
 returns-in_err-plan-clause-stopped g c =
@@ -63,7 +63,7 @@ returns-in_err-plan-clause-stopped g c =
 pub returns-in_err-runs-clause-stopped : goal.returns-in_err-runs-clause-stopped
 returns-in_err-runs-clause-stopped g c =
     let is : c.from_residual-in_err-runs.result ≡ Err (stop_of_dirs c.in_err-runs.field-0.0) = err_is _ _ c.from_residual-in_err-runs.ensures.1 in
-    rw is (dirs_ends c.in_err-runs.field-0.0 (λ failed. (risen_later _ _ _ c.see.ensures.site_later (c.in_err-runs.ensures.cause.rose (ap Err failed)), λ tells told. reading c.requires.passed (inr (runs-read-files c.args.command.now.function c.requires.runs)))))
+    rw is (dirs_ends c.in_err-runs.field-0.0 (λ failed. (risen_later _ _ _ c.see.ensures.site_later (c.in_err-runs.ensures.cause.rose (ap Err failed)), λ tells told. reading c.requires.passed (inr (reads-too c.args.command.now.function c.requires.runs)))))
 
 pub returns-in_err-runs-clause-same : goal.returns-in_err-runs-clause-same
 returns-in_err-runs-clause-same g c = λ tells. same_on (g.D.Disk.state c.args.disk.now) (g.D.Disk.state c.see.new.disk) (g.D.Disk.state c.ready.new.disk) (c.see.ensures.same tells) (c.ready.ensures.same tells)

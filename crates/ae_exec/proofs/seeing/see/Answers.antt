@@ -1,5 +1,6 @@
 use Rattle.std.proofs.Common.{◌≡◌, ◌∙◌, ap, sym, ℕ, List, [], ◌++◌, Err}
 use Rattle.std.specs.List.{cons_option}
+use Rattle.ae_machine.proofs.SightShows.{config-asked-is}
 use Rattle.ae_outside.proofs.Results.{err_is}
 use Rattle.ae_outside.specs.declared.dir.Content.{Content}
 use Rattle.ae_outside.specs.State.{reads}
@@ -14,7 +15,7 @@ use Rattle.ae_exec.specs.Endings.{memory}
 use Rattle.ae_exec.specs.Seen.{files_alone, no_bytes}
 use Rattle.ae_exec.proofs.Compared.{bytes-for-both}
 use Rattle.ae_exec.proofs.Endings.{ends_for}
-use Rattle.ae_exec.proofs.FirstSeen.{asked-row, rows-show}
+use Rattle.ae_exec.proofs.FirstSeen.{rows-show}
 use Rattle.ae_exec.proofs.RunAnswers.{either-refused}
 use Rattle.ae_exec.proofs.seeing.see.Goals as goal
 
@@ -41,7 +42,7 @@ pub returns-clause-seen : goal.returns-clause-seen
 returns-clause-seen g c = λ tells seen bytes who when have.
     let call : Called = called c.args.command.now who when (g.S.Site.state c.args.site.now) (g.S.Site.state c.args.site.now) in
     let alone : c.in_ok-view.view ≡ files_alone c.args.state.now call = c.in_ok-view.ensures.alone seen who when in
-    let row = c.in_ok-row.ensures.told tells bytes have ∙ sym (asked-row (given_before c.args.state.now bytes call nothing_seen) (change_named c.args.state.now c.args.command.now.change)) in
+    let row = c.in_ok-row.ensures.told tells bytes have ∙ sym (config-asked-is (given_before c.args.state.now bytes call nothing_seen) (change_named c.args.state.now c.args.command.now.change)) in
     c.in_ok-seen.ensures ∙ (λ i. record (alone i) { develop = (alone i).develop ++ row i })
 
 pub returns-clause-shown : goal.returns-clause-shown

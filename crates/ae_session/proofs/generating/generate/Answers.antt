@@ -1,6 +1,7 @@
 use Rattle.std.proofs.Common.{◌≤◌, ◌∙◌, ℕ, List, inl, inr, sym, subst, arith}
+use Rattle.ae_outside.proofs.Rising.{risen_later}
 use Rattle.ae_script.proofs.Caused.{caused_last, caused_on}
-use Rattle.ae_script.proofs.Ended.{risen_from, risen_on}
+use Rattle.ae_script.proofs.Ended.{risen_on}
 use Rattle.ae_script.proofs.Keeping.{keeps_by, keeps_still, keeps_then}
 use Rattle.ae_script.specs.Script.{stop}
 use Rattle.ae_session.specs.Summary.{HasBuilds}
@@ -29,13 +30,13 @@ pub returns-then-is_done-clause-done : goal.returns-then-is_done-clause-done
 returns-then-is_done-clause-done g c = λ tells shown held log holds.
     let did = c.do_lines-outcome.ensures.done tells shown tt held log holds in
     project_tells _ _ _ _ held (g.D.Disk.state c.args.disk.now) (g.D.Disk.state c.do_lines-outcome.new.disk) _ _ _ _ _ _ _ _ _ _ _ _ _ _ _ (c.deref.ensures.value ∙ c.in-Ok.ensures.text) never did (sym c.if-is_done.ensures)
-    (g.D.Disk.state c.tell_summary.new.disk) _ _ _ _ _ (risen_on _ _ _ c.tell_summary.ensures.disk_faults) (risen_from _ _ _ c.do_lines-outcome.ensures.disk_faults) (risen_from _ _ _ c.do_lines-outcome.ensures.out_faults) _ _ _ (subst (λ (t : List ℕ). HasBuilds t c.in-Ok.made.1) (sym c.deref.ensures.value) c.in-Ok.ensures.builds) (c.tell_summary.ensures.disk tells)
+    (g.D.Disk.state c.tell_summary.new.disk) _ _ _ _ _ (risen_on _ _ _ c.tell_summary.ensures.disk_faults) (risen_later _ _ _ c.do_lines-outcome.ensures.disk_faults) (risen_later _ _ _ c.do_lines-outcome.ensures.out_faults) _ _ _ (subst (λ (t : List ℕ). HasBuilds t c.in-Ok.made.1) (sym c.deref.ensures.value) c.in-Ok.ensures.builds) (c.tell_summary.ensures.disk tells)
     (c.tell_summary.ensures.told tells (stop _ did.done).log (stands_last _ _ _ _ held (g.D.Disk.state c.args.disk.now) (g.D.Disk.state c.do_lines-outcome.new.disk) _ _ _ _ _ _ _ _ _ _ _ _ _ _ _ (c.deref.ensures.value ∙ c.in-Ok.ensures.text) never did (sym c.if-is_done.ensures)))
 
 pub returns-then-is_done-clause-causes : goal.returns-then-is_done-clause-causes
 returns-then-is_done-clause-causes g c =
-    caused_on _ _ _ _ _ _ _ _ (risen_from _ _ _ c.do_lines-outcome.ensures.disk_faults) (λ none. absurd none) (λ none. none)
-    (λ rose. elim rose [ inl out ↦ inl out | inr err ↦ inr (risen_from _ _ _ c.do_lines-outcome.ensures.out_faults err) ]) c.tell_summary.result c.tell_summary.ensures.causes
+    caused_on _ _ _ _ _ _ _ _ (risen_later _ _ _ c.do_lines-outcome.ensures.disk_faults) (λ none. absurd none) (λ none. none)
+    (λ rose. elim rose [ inl out ↦ inl out | inr err ↦ inr (risen_later _ _ _ c.do_lines-outcome.ensures.out_faults err) ]) c.tell_summary.result c.tell_summary.ensures.causes
 
 pub returns-then-is_done-clause-disk : goal.returns-then-is_done-clause-disk
 returns-then-is_done-clause-disk g c = λ tells.

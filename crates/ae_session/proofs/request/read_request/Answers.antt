@@ -1,9 +1,10 @@
 use Rattle.std.proofs.Common.{◌≡◌, ◌∙◌, true, ap, arith, map, string_bytes}
+use Rattle.ae_script.proofs.Givers.{may_is}
 use Rattle.ae_base.specs.Bytes.{read_as}
 use Rattle.ae_base.specs.Names.{is_user}
 use Rattle.ae_script.specs.Step.{may_give}
 use Rattle.ae_session.specs.Request.{bad_word}
-use Rattle.ae_session.proofs.Asking.{same_place, bad_answer, may_is}
+use Rattle.ae_session.proofs.Asking.{same_place, bad_answer}
 use Rattle.ae_session.proofs.request.read_request.Goals as goal
 
 pub returns-in-Err-Bad-clause-bad : goal.returns-in-Err-Bad-clause-bad

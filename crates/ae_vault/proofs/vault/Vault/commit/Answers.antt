@@ -1,5 +1,6 @@
 use Rattle.std.proofs.Common.{◌≡◌, true, List, ap, refl, sym, ◌∙◌, subst, arith}
 use Rattle.std.proofs.lemmas.Result.{on_ok_weaker}
+use Rattle.std.proofs.lemmas.Bool.{false≢true}
 use Rattle.ae_outside.proofs.Results.{on_ok_of_err}
 use Rattle.ae_outside.proofs.Rising.{counted_on}
 use Rattle.ae_outside.specs.Image.{Image}
@@ -9,7 +10,6 @@ use Rattle.ae_vault.specs.declared.piece.Piece.{Piece}
 use Rattle.ae_vault.specs.Batch.{BatchRecord}
 use Rattle.ae_vault.specs.Pieces.{pack, no_entry_is_pack, are_pieces, HasPieces, PackedOver}
 use Rattle.ae_vault.proofs.BatchPhases.{through_pieces, through_entries, all_after, read_after, one_read}
-use Rattle.ae_vault.proofs.Erring.{never}
 use Rattle.ae_vault.proofs.vault.Vault.commit.Goals as goal
 
 pub returns-in_err-write_pieces-clause-any_moment : goal.returns-in_err-write_pieces-clause-any_moment
@@ -49,7 +49,7 @@ returns-clause-read g c =
     read_after c.args.batch unnamed (g.D.Disk.state c.args.disk.now) (c.requires t) (g.D.Disk.state c.write_pieces.new.disk) goes has (reads (g.D.Disk.state c.put_batch.new.disk)) (read t)) c.put_batch.ensures.read
 
 pub returns-then-is_empty-clause-cause : goal.returns-then-is_empty-clause-cause
-returns-then-is_empty-clause-cause g c = record { later = omega arith; rose = λ failed. absurd (never failed) }
+returns-then-is_empty-clause-cause g c = record { later = omega arith; rose = λ failed. absurd (false≢true failed) }
 
 pub returns-in_err-write_pieces-clause-one_of_two : goal.returns-in_err-write_pieces-clause-one_of_two
 returns-in_err-write_pieces-clause-one_of_two g c = λ t.
