@@ -1,8 +1,8 @@
-use Rattle.std.proofs.Common.{arith, refl}
-use Rattle.ae_script.proofs.Caused.{caused_last}
+use Rattle.std.proofs.Common.{arith, le_refl, refl}
+use Rattle.ae_script.proofs.Caused.{caused_either, caused_last}
 use Rattle.ae_script.proofs.Completed.{script_complete}
 use Rattle.ae_script.proofs.Ended.{memory_behind}
-use Rattle.ae_script.proofs.Givers.{done_by, never_nobody, user_is}
+use Rattle.ae_script.proofs.Givers.{done_by, never_nobody, nobody_reads, too_late, user_is}
 use Rattle.ae_script.proofs.Keeping.{keeps_still}
 use Rattle.ae_script.proofs.SoFar.{none_so_far}
 use Rattle.ae_script.proofs.script.run_script.Goals as goal
@@ -17,6 +17,76 @@ returns-in-Err-clause-causes g c = caused_last _ _ _ _ _ _ _ _ (λ rose. rose) t
 
 pub returns-in-Err-clause-disk : goal.returns-in-Err-clause-disk
 returns-in-Err-clause-disk g c = λ tells. keeps_still (g.D.Disk.state c.args.disk.now)
+
+pub returns-in-Err-clause-disk_faults : goal.returns-in-Err-clause-disk_faults
+returns-in-Err-clause-disk_faults g c = le_refl _
+
+pub returns-in-Err-clause-site_faults : goal.returns-in-Err-clause-site_faults
+returns-in-Err-clause-site_faults g c = le_refl _
+
+pub returns-in-Err-clause-input_faults : goal.returns-in-Err-clause-input_faults
+returns-in-Err-clause-input_faults g c = le_refl _
+
+pub returns-in-Err-clause-out_faults : goal.returns-in-Err-clause-out_faults
+returns-in-Err-clause-out_faults g c = c.tell_memory.ensures.later
+
+-- ---- nobody gives it, or too late
+
+pub returns-in-Ok-None-clause-done : goal.returns-in-Ok-None-clause-done
+returns-in-Ok-None-clause-done g c = λ may. absurd (nobody_reads _ _ _ _ c.in-Ok-None.ensures c.as_bytes.ensures.value c.in-Ok-None.field-0-is may)
+
+pub returns-in-Ok-None-clause-complete : goal.returns-in-Ok-None-clause-complete
+returns-in-Ok-None-clause-complete g c = λ may. absurd (nobody_reads _ _ _ _ c.in-Ok-None.ensures c.as_bytes.ensures.value c.in-Ok-None.field-0-is may)
+
+pub returns-in-Ok-None-clause-nobody : goal.returns-in-Ok-None-clause-nobody
+returns-in-Ok-None-clause-nobody g c = λ nobody. (refl, refl, refl, c.tell_bad_words.ensures.ends)
+
+pub returns-in-Ok-None-clause-causes : goal.returns-in-Ok-None-clause-causes
+returns-in-Ok-None-clause-causes g c = caused_either _ _ _ _ _ _ _ (λ rose. rose) tt c.tell_bad_words.ensures.ends
+
+pub returns-in-Ok-None-clause-disk : goal.returns-in-Ok-None-clause-disk
+returns-in-Ok-None-clause-disk g c = λ tells. keeps_still (g.D.Disk.state c.args.disk.now)
+
+pub returns-in-Ok-None-clause-disk_faults : goal.returns-in-Ok-None-clause-disk_faults
+returns-in-Ok-None-clause-disk_faults g c = le_refl _
+
+pub returns-in-Ok-None-clause-site_faults : goal.returns-in-Ok-None-clause-site_faults
+returns-in-Ok-None-clause-site_faults g c = le_refl _
+
+pub returns-in-Ok-None-clause-input_faults : goal.returns-in-Ok-None-clause-input_faults
+returns-in-Ok-None-clause-input_faults g c = le_refl _
+
+pub returns-in-Ok-None-clause-out_faults : goal.returns-in-Ok-None-clause-out_faults
+returns-in-Ok-None-clause-out_faults g c = c.tell_bad_words.ensures.later
+
+pub returns-then-now-gt-LAST_MOMENT-clause-done : goal.returns-then-now-gt-LAST_MOMENT-clause-done
+returns-then-now-gt-LAST_MOMENT-clause-done g c = λ may. absurd (too_late c.args.who.now c.args.now (omega (arith, c.if-now-gt-LAST_MOMENT)) may)
+
+pub returns-then-now-gt-LAST_MOMENT-clause-complete : goal.returns-then-now-gt-LAST_MOMENT-clause-complete
+returns-then-now-gt-LAST_MOMENT-clause-complete g c = λ may. absurd (too_late c.args.who.now c.args.now (omega (arith, c.if-now-gt-LAST_MOMENT)) may)
+
+pub returns-then-now-gt-LAST_MOMENT-clause-nobody : goal.returns-then-now-gt-LAST_MOMENT-clause-nobody
+returns-then-now-gt-LAST_MOMENT-clause-nobody g c = λ nobody. (refl, refl, refl, c.tell_bad_words-then-now-gt-LAST_MOMENT.ensures.ends)
+
+pub returns-then-now-gt-LAST_MOMENT-clause-causes : goal.returns-then-now-gt-LAST_MOMENT-clause-causes
+returns-then-now-gt-LAST_MOMENT-clause-causes g c = caused_either _ _ _ _ _ _ _ (λ rose. rose) tt c.tell_bad_words-then-now-gt-LAST_MOMENT.ensures.ends
+
+pub returns-then-now-gt-LAST_MOMENT-clause-disk : goal.returns-then-now-gt-LAST_MOMENT-clause-disk
+returns-then-now-gt-LAST_MOMENT-clause-disk g c = λ tells. keeps_still (g.D.Disk.state c.args.disk.now)
+
+pub returns-then-now-gt-LAST_MOMENT-clause-disk_faults : goal.returns-then-now-gt-LAST_MOMENT-clause-disk_faults
+returns-then-now-gt-LAST_MOMENT-clause-disk_faults g c = le_refl _
+
+pub returns-then-now-gt-LAST_MOMENT-clause-site_faults : goal.returns-then-now-gt-LAST_MOMENT-clause-site_faults
+returns-then-now-gt-LAST_MOMENT-clause-site_faults g c = le_refl _
+
+pub returns-then-now-gt-LAST_MOMENT-clause-input_faults : goal.returns-then-now-gt-LAST_MOMENT-clause-input_faults
+returns-then-now-gt-LAST_MOMENT-clause-input_faults g c = le_refl _
+
+pub returns-then-now-gt-LAST_MOMENT-clause-out_faults : goal.returns-then-now-gt-LAST_MOMENT-clause-out_faults
+returns-then-now-gt-LAST_MOMENT-clause-out_faults g c = c.tell_bad_words-then-now-gt-LAST_MOMENT.ensures.later
+
+-- ---- the lines are done
 
 pub returns-clause-done : goal.returns-clause-done
 returns-clause-done g c = λ may tells shown fed held log was.
