@@ -37,6 +37,7 @@ use Rattle.ae_machine.specs.Verdict.{answer, asked_of_sight, events_of, refused_
 use Rattle.ae_machine.specs.Versions.{files_refused, first_differing, kept_files_refused, rows_compared}
 use Rattle.ae_machine.proofs.AskedFor.{differing-is}
 use Rattle.ae_machine.proofs.Behind.{behind-is}
+use Rattle.ae_machine.proofs.EndAnswer.{or-none}
 use Rattle.ae_exec.specs.Bytes.{HaveBytes}
 use Rattle.ae_exec.specs.Reading.{AreKept, asked_of, compared_for}
 use Rattle.ae_exec.specs.Seen.{FilesRefuse, files_alone, no_bytes}
@@ -118,10 +119,6 @@ accepted-with o bytes command who when seen rows events makes none is =
     no-refusal = go (first_of (asked_of_sight command.function) given) (events_of given) (sym (behind-is placing o bytes command who when seen none) ∙ is)
 
 -- ---- they are refused by what is read of them alone, and where that refuses nothing by the first that differs from its version
-
-or-none : (v : Option Refusal) → option_or v None ≡ v
-or-none (Some refusal) = refl
-or-none None = refl
 
 pub alone-refused : (o : Observation) (bytes : ℕ → List ℕ) (called : Called) → makes_runs called.command.function ≡ true
     → right_files (given_at o bytes called) ≡ option_or (files_refused (given_before o no_bytes called (files_alone o called))) (first_differing (files_alone o called) (with_bytes bytes (compared_for called.command o)))

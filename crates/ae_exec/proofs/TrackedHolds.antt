@@ -3,10 +3,9 @@ use Rattle.std.specs.Prelude.{◌≡◌, ◌≤◌, ℕ, ◌+◌, Bool, true, fa
 use Rattle.std.specs.FinMap.Entries.{by_order}
 use Rattle.std.specs.declared.cmp.Ordering.{Ordering}
 use Rattle.std.specs.declared.cmp.Ordering.TheVariants as ordering
-use Rattle.std.proofs.Common.{refl, sym, ap, subst, ◌∙◌, inl, inr, cond, arith}
-use Rattle.std.proofs.lemmas.Bool.Decides.{leb_tells}
+use Rattle.std.proofs.Common.{refl, sym, ap, subst, ◌∙◌, inl, inr, cond}
 use Rattle.std.proofs.lemmas.List.{append-nil}
-use Rattle.std.proofs.lemmas.Bool.{false≢true}
+use Rattle.std.proofs.lemmas.Bool.{false≢true, le-leb}
 use Rattle.ae_exec.proofs.RunsTyped.{same-paths}
 use Rattle.ae_machine.proofs.SightShows.{reads-too}
 use Rattle.ae_base.specs.Limits.{most_file_bytes}
@@ -89,16 +88,10 @@ overlaid-small : (limit : ℕ) (rows more : Rows) → AllWithin limit rows → A
 overlaid-small limit rows [] small others = small
 overlaid-small limit rows (row ∷ more) small others = overlaid-small limit (put_row row.0 row.1 rows) more (put-small limit row.0 row.1 rows others.0 small) others.1
 
-fits : (n limit : ℕ) → n ≤ limit → nat_le n limit ≡ true
-fits n limit few = elim (leb_tells n limit) [
-  | inl is ↦ is.0
-  | inr more ↦ let late = more.1 in absurd (omega (arith, few, late))
-]
-
 bytes-small : (bytes : ℕ → List ℕ) (rows : List TreeRow) → ((row : TreeRow) → In rows row → length (bytes row.version.number) ≤ most_file_bytes) → AllWithin 4194304 (with_bytes bytes rows)
 bytes-small bytes [] each = tt
 bytes-small bytes (row ∷ rows) each = (
-  ap (λ (b : Bool). if b then Some (bytes row.version.number) else None) (fits (length (bytes row.version.number)) most_file_bytes (each row (inl refl))),
+  ap (λ (b : Bool). if b then Some (bytes row.version.number) else None) (le-leb (length (bytes row.version.number)) most_file_bytes (each row (inl refl))),
   bytes-small bytes rows (λ other there. each other (inr there)),
 )
 

@@ -31,7 +31,7 @@ use Rattle.ae_machine.specs.Filing.{are_clear}
 use Rattle.ae_machine.specs.LeastClash.{file_folder, folder_in, least_folder, least_from, lesser, path_in, row_folder, rows_folder, standing_path}
 use Rattle.ae_machine.specs.Paths.{no_clash, paths_with}
 use Rattle.ae_machine.specs.Rules.{there_by}
-use Rattle.ae_machine.proofs.LeastClash.{NoneBelow, clash-none, least-clash}
+use Rattle.ae_machine.proofs.LeastClash.{NoneBelow, clash-none, least-clash, above-in}
 use Rattle.ae_machine.proofs.PathsThere.{paths-there}
 use Rattle.ae_machine.proofs.PathsUp.{paths-with-up}
 
@@ -180,11 +180,6 @@ pub record IsFirst (t : List ℕ → Bool) (xs : List (List ℕ)) (c : List ℕ)
   pub there : In xs c
   pub passes : t c ≡ true
   pub least : (f : List ℕ) → In xs f → t f ≡ true → AtMost c f
-
-above-in : (k : List ℕ) (xs : List (List ℕ)) (x : List ℕ) → Above by_text itself k xs → In xs x → text_cmp k x ≡ Less
-above-in k [] x a h = absurd h
-above-in k (y ∷ xs) x a (inl is) = subst (λ (z : List ℕ). text_cmp k z ≡ Less) is a.0
-above-in k (y ∷ xs) x a (inr h) = above-in k xs x a.1 h
 
 pub first-is : (t : List ℕ → Bool) (xs : List (List ℕ)) (c : List ℕ) → Ascends by_text itself xs → find t xs ≡ Some c → IsFirst t xs c
 first-is t [] c up e = none-some c e

@@ -60,16 +60,16 @@ both : (a b c : Option Refusal) → option_or a (option_or b c) ≡ option_or (o
 both None b c = refl
 both (Some refusal) b c = refl
 
-alone : (a : Option Refusal) → option_or a None ≡ a
-alone None = refl
-alone (Some refusal) = refl
+pub or-none : (a : Option Refusal) → option_or a None ≡ a
+or-none None = refl
+or-none (Some refusal) = refl
 
 module _ (files small runs room : Option Refusal) (events : List Event) where
   pub by-files : (refusal : Refusal) → files ≡ Some refusal → Refuse refusal ≡ answer (in-order files small runs room) events
   by-files refusal e = sym (ap (λ x. answer (in-order x small runs room) events) e)
 
   in-turn : files ≡ None → in-order files small runs room ≡ option_or (option_or small runs) room
-  in-turn e = ap (λ x. in-order x small runs room) e ∙ both small runs (option_or room None) ∙ ap (option_or (option_or small runs)) (alone room)
+  in-turn e = ap (λ x. in-order x small runs room) e ∙ both small runs (option_or room None) ∙ ap (option_or (option_or small runs)) (or-none room)
 
   pub by-tree : (refusal : Refusal) → files ≡ None → option_or small runs ≡ Some refusal → Refuse refusal ≡ answer (in-order files small runs room) events
   by-tree refusal e f = sym (ap (λ x. answer x events) (in-turn e ∙ ap (λ x. option_or x room) f))

@@ -1,13 +1,14 @@
 -- The size of a made-up project, which a command names.
-use Rattle.std.specs.Prelude.{◌&&◌, ◌||◌, not, nat_le, length, is_some}
+use Rattle.std.specs.Prelude.{◌&&◌, nat_le, length}
 use Rattle.std.specs.Option.{is_none}
 use Rattle.std.proofs.Common.{◌≡◌, ◌≤◌, ℕ, true, false, List, [], ◌∷◌, refl, ap, subst}
 use Rattle.std.proofs.lemmas.Bool.{and_parts, leb-true}
 use Rattle.ae_words.specs.Formed.{IsFormed, are_numbers, are_plain}
-use Rattle.ae_words.specs.Meaning.{has_plain, is_whole}
+use Rattle.ae_words.specs.Meaning.{has_plain}
 use Rattle.ae_words.specs.Spelling.{is_empty}
-use Rattle.ae_words.specs.Table.{row, needs_attributes, needs_change}
+use Rattle.ae_words.specs.Table.{row}
 use Rattle.ae_words.specs.declared.command.Command.{Command}
+use Rattle.ae_words.proofs.Formed.{whole_plain}
 use Rattle.ae_words.specs.declared.table.Function.TheVariants as function
 use Rattle.ae_words.specs.declared.table.Row.{Row}
 use Rattle.ae_words.specs.declared.table.Row.TheVariants as rows
@@ -50,11 +51,6 @@ sized (s ∷ n ∷ f ∷ []) good long =
       few_files = leb-true f 99 ((and_parts (a && b && c && d) e good).1);
     }
 
-plain_there : (c : Command) → is_whole c ≡ true → has_plain (row c.function) c ≡ true
-unfolding is_whole
-plain_there c whole =
-    (and_parts (has_plain (row c.function) c) (not (needs_attributes (row c.function)) || is_some c.attributes) ((and_parts (has_plain (row c.function) c && (not (needs_attributes (row c.function)) || is_some c.attributes)) (not (needs_change (row c.function) c.listing) || is_some c.change) whole).0)).0
-
 pub size_named : (c : Command) → IsFormed c → c.function ≡ function.Generate → AreSize c.numbers
 size_named c formed generates = sized c.numbers good long
   where
@@ -65,4 +61,4 @@ size_named c formed generates = sized c.numbers good long
     good = (and_parts (is_none c.name && is_empty c.users && is_empty c.paths && is_none c.listing) (are_numbers c.numbers) plain).1
 
     long : nat_le 3 (length c.numbers) ≡ true
-    long = subst (λ (r : Row). has_plain r c ≡ true) (ap row generates) (plain_there c formed.whole)
+    long = subst (λ (r : Row). has_plain r c ≡ true) (ap row generates) (whole_plain c formed.whole)

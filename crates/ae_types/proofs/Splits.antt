@@ -72,7 +72,7 @@ to-if P (Some x) h = h x refl
 to-if P None h = tt
 
 pub from-if : {A : Type 0} (P : A → Type 0) (v : Option A) → IfSome v P → (x : A) → v ≡ Some x → P x
-from-if P (Some y) h x is = Rattle.std.proofs.Common.subst P (Rattle.ae_types.proofs.Ordered.some-is y x is) h
+from-if P (Some y) h x is = Rattle.std.proofs.Common.subst P (Rattle.std.proofs.lemmas.Option.same_Some y x is) h
 from-if P None h x is = none-some x is
 
 pub to-is : {A : Type 0} (P : A → Type 0) (v : Option A) (x : A) → v ≡ Some x → P x → IsSomeAnd v P

@@ -700,7 +700,7 @@ allows_same f l m setting.Overwriting h = refl
 allows_same f l m setting.Baseline h = refl
 allows_same f l m setting.Regression h = refl
 
-whole_plain : (c : Command) → is_whole c ≡ true → has_plain (row c.function) c ≡ true
+pub whole_plain : (c : Command) → is_whole c ≡ true → has_plain (row c.function) c ≡ true
 unfolding is_whole
 whole_plain c h =
     (and_parts (has_plain (row c.function) c) (not (needs_attributes (row c.function)) || is_some c.attributes) ((and_parts (has_plain (row c.function) c && (not (needs_attributes (row c.function)) || is_some c.attributes)) (not (needs_change (row c.function) c.listing) || is_some c.change) h).0)).0
