@@ -2,7 +2,7 @@
 ghost use Rattle.std.specs.Prelude.{◌≡◌, ◌↔◌, ℕ, List, Some, find};
 ghost use Rattle.std.specs.Str.{bytes_eq};
 ghost use Rattle.ae_base.specs.Limits.{most_of};
-ghost use Rattle.ae_base.specs.Words.{phase_word, phases, role_word, roles, action_word, actions, usage_word, usages, cause_word, causes, ground_word, grounds, kind_word, kinds, what_word, events_of_history, which_word, limits};
+ghost use Rattle.ae_base.specs.Words.{phase_word, role_word, action_word, usage_word, cause_word, ground_word, kind_word, what_word, which_word, limits};
 
 use crate::limits;
 

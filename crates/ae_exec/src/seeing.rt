@@ -1,5 +1,5 @@
 // What a build or a test sees of the directories and of the versions before its runs.
-ghost use Rattle.std.specs.Prelude.{◌≡◌, ◌≢◌, ◌≤◌, ◌++◌, ◌⊎◌, ℕ, List, [], Some, None, map, true, false, All, IfOk, IfErr, IsErrOf, IsSome, OnOk, option_copied};
+ghost use Rattle.std.specs.Prelude.{◌≡◌, ◌≤◌, ◌++◌, ◌⊎◌, ℕ, List, [], Some, None, map, true, All, IfOk, IfErr, IsErrOf, IsSome, OnOk, option_copied};
 ghost use Rattle.std.specs.List.{cons_option};
 ghost use Rattle.ae_outside.specs.Causes.{Counted, HasRisen};
 ghost use Rattle.ae_outside.specs.Image.{IsSame};

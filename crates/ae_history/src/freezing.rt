@@ -4,7 +4,6 @@ ghost use Rattle.std.specs.Option.{option_to_list};
 ghost use Rattle.ae_base.specs.Limits.{most_file_bytes, most_units};
 ghost use Rattle.ae_base.specs.Rows.{Row};
 ghost use Rattle.ae_log.specs.Files.{present, first_place, other_places};
-ghost use Rattle.ae_space.specs.declared.extent.Extent.{Extent};
 ghost use Rattle.ae_space.specs.Gaps.{WhateverLeft};
 ghost use Rattle.ae_history.specs.Placing.{places_of, piece_at, pieces_at, TakesPlaces, HaveNoPlaces, IsShort};
 

@@ -1,7 +1,6 @@
 // The bytes of a version are read.
 ghost use Rattle.std.specs.Prelude.{◌≡◌, ◌≤◌, ◌*◌, ◌↔◌, ℕ, List, true, Err, length, take, drop, IfOk, IsTrue, IsSomeAnd, IsErrOf};
 ghost use Rattle.ae_base.specs.Limits.{most_units};
-ghost use Rattle.sha2.specs.Sha256.{sha256};
 ghost use Rattle.ae_outside.specs.Causes.{Counted};
 ghost use Rattle.ae_outside.specs.Image.{IsSame};
 ghost use Rattle.ae_outside.specs.State.{reads, GoesOn};

@@ -1,15 +1,10 @@
 // The files of a change are frozen where its development ends, and thawed where it goes back or is completed.
-ghost use Rattle.std.specs.Prelude.{◌≡◌, ◌+◌, ◌≤◌, ℕ, List, map, drop, length, Some, None};
-ghost use Rattle.std.specs.Option.{option_map};
-ghost use Rattle.ae_base.specs.Limits.{most_change_files, most_file_bytes, most_next_version};
-ghost use Rattle.ae_base.specs.Rows.{text_cmp};
+ghost use Rattle.std.specs.Prelude.{◌≡◌, ◌+◌, ◌≤◌, map, length, Some, None};
+ghost use Rattle.ae_base.specs.Limits.{most_file_bytes};
 ghost use Rattle.ae_types.specs.declared.change.ChangeFile.{ChangeFile};
-ghost use Rattle.ae_types.specs.Found.{file_in, file_path};
-ghost use Rattle.ae_types.specs.Ordered.{Ascends};
-ghost use Rattle.ae_types.specs.Sound.{FitsLength};
 ghost use Rattle.ae_log.specs.After.{frozen_as, thawed};
 ghost use Rattle.ae_log.specs.Applies.{CanFreeze};
-ghost use Rattle.ae_log.specs.Files.{present, ref_of};
+ghost use Rattle.ae_log.specs.Files.{ref_of};
 
 use crate::PlaceList;
 use ae_base::{Path, Snapshot, Text};

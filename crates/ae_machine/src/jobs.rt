@@ -1,9 +1,7 @@
 // The runs that a build or a test is to make, each with its command, and those that were made, as events.
-ghost use Rattle.std.specs.Prelude.{◌≡◌, ◌∷◌, [], ℕ, List, Some, All, map, true, IfOk, option_copied};
-ghost use Rattle.std.specs.Option.{option_and_then};
+ghost use Rattle.std.specs.Prelude.{◌≡◌, [], ℕ, List, Some, All, map, true, IfOk, option_copied};
 ghost use Rattle.ae_log.specs.declared.event.EventKind.TheVariants as on;
 ghost use Rattle.ae_types.specs.Found.{change_at};
-ghost use Rattle.ae_types.specs.Runs.{Needed};
 ghost use Rattle.ae_machine.specs.declared.jobs.Job.{Job};
 ghost use Rattle.ae_machine.specs.declared.verdict.Verdict.TheVariants.{Accept};
 ghost use Rattle.ae_machine.specs.Call.{Placing, given_in, given_of};

@@ -1,15 +1,14 @@
 // The files that a command gives its change or takes away, path by path, each as if those before it were done.
-ghost use Rattle.std.specs.Prelude.{◌≡◌, ◌≤◌, ◌∷◌, [], ℕ, List, Bool, true, None, Some, map, filter, length, nat_le, is_some, IfOk, OnOk, option_copied};
+ghost use Rattle.std.specs.Prelude.{◌≡◌, ◌≤◌, ◌∷◌, [], ℕ, List, true, None, Some, map, filter, length, nat_le, is_some, IfOk, OnOk};
 ghost use Rattle.std.specs.Option.{option_map};
 ghost use Rattle.ae_base.specs.declared.words.Usage.TheVariants as usage;
 ghost use Rattle.ae_base.specs.declared.refusal.Refusal.TheVariants.{FileInChange, FileNotInChange, FileInProject, FileNotInProject};
 ghost use Rattle.ae_types.specs.declared.file_table.FileVersion.{FileVersion};
 ghost use Rattle.ae_types.specs.Found.{file_path, file_in, there_and};
 ghost use Rattle.ae_types.specs.Ordered.{Ascends};
-ghost use Rattle.ae_types.specs.Trees.{baseline_of, last_up_to, tree_of};
+ghost use Rattle.ae_types.specs.Trees.{baseline_of, tree_of};
 ghost use Rattle.ae_base.specs.Rows.{text_cmp};
 ghost use Rattle.ae_log.specs.After.{new_file};
-ghost use Rattle.ae_words.specs.Meaning.{is_config};
 ghost use Rattle.ae_machine.specs.declared.verdict.Verdict.TheVariants.{Accept};
 ghost use Rattle.ae_machine.specs.Call.{call_of, unless};
 ghost use Rattle.ae_machine.specs.Filing.{is_of_files, usage_of_row, asked_before, are_clear, are_few, asked_behind};

@@ -1,14 +1,8 @@
 // Who may give a command, and on what.
-ghost use Rattle.std.specs.Prelude.{◌≡◌, IfOk, option_copied, IsTrue, false};
-ghost use Rattle.std.specs.List.{find};
-ghost use Rattle.std.specs.Option.{option_and_then, is_none};
-ghost use Rattle.std.specs.Ordering.{nat_cmp};
-ghost use Rattle.ae_base.specs.declared.refusal.Refusal.TheVariants.{WrongPhase};
+ghost use Rattle.std.specs.Prelude.{◌≡◌, IfOk, false};
 ghost use Rattle.ae_policy.specs.Making.{refuses_making};
-ghost use Rattle.ae_types.specs.Found.{change_at};
-ghost use Rattle.ae_types.specs.Ordered.{Ascends, itself};
 ghost use Rattle.ae_types.specs.Roles.{users_of};
-ghost use Rattle.ae_machine.specs.Permission.{may_come_in, phase_is_right, all_added, all_dropped};
+ghost use Rattle.ae_machine.specs.Permission.{may_come_in, all_added, all_dropped};
 
 use ae_base::{Phase, Refusal, Role, User, UserList};
 use ae_policy::{PolicyError, add_user, drop_user, may_create};

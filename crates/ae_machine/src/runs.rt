@@ -7,7 +7,6 @@ ghost use Rattle.ae_types.specs.Found.{file_path};
 ghost use Rattle.ae_types.specs.Ordered.{Ascends};
 ghost use Rattle.ae_types.specs.Phases.{is_integrating};
 ghost use Rattle.ae_types.specs.Rules.{deltas_are_numbered};
-ghost use Rattle.ae_types.specs.Runs.{Needed};
 ghost use Rattle.ae_types.specs.Trees.{last_delta};
 ghost use Rattle.ae_base.specs.Rows.{text_cmp};
 ghost use Rattle.ae_machine.specs.Call.{call_of};

@@ -1,5 +1,5 @@
 // The calls of a form in memory, counted.
-ghost use Rattle.std.specs.Prelude.{◌≡◌, ◌↔◌, ◌≤◌, [], true, false, IsTrue, Contains, IfOk, if◌then◌else◌};
+ghost use Rattle.std.specs.Prelude.{◌≡◌, ◌↔◌, ◌≤◌, true, false, IsTrue, Contains, IfOk, if◌then◌else◌};
 ghost use Rattle.ae_outside.specs.Causes.{next};
 ghost use Rattle.ae_memory.specs.Calls.{Counts, IsCall};
 

@@ -1,10 +1,10 @@
 // A disk in memory.
-ghost use Rattle.std.specs.Prelude.{◌≡◌, ◌≤◌, ◌<◌, ◌+◌, ◌^◌, [], ◌∷◌, ◌++◌, length, take, drop, Contains, IsTrue, IsErr, IsErrOf, IsOkAnd, IfOk, OnOk, OnErr, ◌↔◌, if◌then◌else◌, vec_len, vec_capacity};
+ghost use Rattle.std.specs.Prelude.{◌≡◌, ◌≤◌, ◌<◌, ◌+◌, ◌^◌, [], length, take, drop, Contains, IsTrue, IsErr, IsErrOf, IsOkAnd, IfOk, OnOk, OnErr, ◌↔◌, if◌then◌else◌, vec_len, vec_capacity};
 ghost use Rattle.ae_memory.specs.Calls.{IsCall, IsFed};
 ghost use Rattle.ae_outside.specs.Causes.{Counted, HasCause, next};
 ghost use Rattle.ae_outside.specs.DiskNames.{IsDiskName};
 ghost use Rattle.ae_outside.specs.Image.{Image, IsSame, WriteBegun, CutBegun, Overwritten};
-ghost use Rattle.ae_outside.specs.State.{DiskState, reads, MayLeave, GoesOn, IsStable};
+ghost use Rattle.ae_outside.specs.State.{reads, MayLeave, GoesOn, IsStable};
 ghost use Rattle.ae_memory_disk.specs.DiskFiles.{bytes_of};
 ghost use Rattle.ae_memory_disk.specs.DiskLog.{applied};
 ghost use Rattle.ae_memory_disk.specs.MemDisk.{state_of, moment_behind, picked_behind, new_disk, with_change, with_starved, Logs, OnlyCounts};

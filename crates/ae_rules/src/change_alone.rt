@@ -1,7 +1,7 @@
 // Each change by itself.
 ghost use Rattle.std.specs.Prelude.{◌≡◌};
 ghost use Rattle.std.specs.List.{list_all};
-ghost use Rattle.ae_types.specs.Rules.{is_moment, length_is_good, ranges_are_good, developer_fits, reviewer_fits, reviewing_fits, integrator_fits, people_are_good, version_fits, files_are_in_time, change_is_good, is_change_of};
+ghost use Rattle.ae_types.specs.Rules.{is_moment, length_is_good, ranges_are_good, developer_fits, reviewer_fits, reviewing_fits, integrator_fits, people_are_good, version_fits, files_are_in_time, change_is_good};
 
 use crate::order::{evidence_ascends, files_ascend};
 use crate::phases::{

@@ -3,9 +3,8 @@ ghost use Rattle.std.specs.Prelude.{◌≡◌, ◌&&◌, None, Some, IfOk, OnOk,
 ghost use Rattle.std.specs.Ordering.{nat_cmp};
 ghost use Rattle.std.specs.Option.{option_map};
 ghost use Rattle.ae_types.specs.Ordered.{ascends, Ascends, itself};
-ghost use Rattle.ae_types.specs.Found.{number_of_change, number_of_delta};
+ghost use Rattle.ae_types.specs.Found.{number_of_change};
 ghost use Rattle.ae_types.specs.Rules.{is_change_of, bad_change, project_is_good, files_are_good, project_fits_changes, files_fit_changes, blamed};
-ghost use Rattle.ae_types.specs.Sound.{AreRows, AreChanges};
 ghost use Rattle.ae_rules.specs.Blamed.{change_blame, blamed_beside, Names, IsReadable};
 
 use crate::candidate::candidates_fit;

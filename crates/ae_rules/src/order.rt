@@ -1,7 +1,7 @@
 // Records stand in the order of their keys.
 ghost use Rattle.std.specs.Prelude.{◌≡◌};
 ghost use Rattle.std.specs.Ordering.{is_lt, nat_cmp};
-ghost use Rattle.ae_types.specs.Ordered.{ascends, itself};
+ghost use Rattle.ae_types.specs.Ordered.{ascends};
 ghost use Rattle.ae_types.specs.Found.{number_of_change};
 ghost use Rattle.ae_types.specs.Runs.{run_cmp, run_of};
 ghost use Rattle.ae_types.specs.Rules.{numbers_ascend, rows_ascend, locks_ascend, past_ascends, files_ascend, evidence_ascends};

@@ -1,6 +1,6 @@
 // A state file: one record.
-ghost use Rattle.std.specs.Prelude.{◌≡◌, ◌^◌, ℕ, List, Err, length, map, unwrap_or, slice_get, IfOk};
-ghost use Rattle.ae_text.specs.Grammar.{Reads, line_after, line_ends};
+ghost use Rattle.std.specs.Prelude.{◌≡◌, ℕ, Err, length, map, unwrap_or, slice_get, IfOk};
+ghost use Rattle.ae_text.specs.Grammar.{Reads, line_after};
 ghost use Rattle.ae_schema.specs.Records.{named, structure, IsStructure, IsTextOf, IsBadLine, last_line, refusal_of, stop_error};
 ghost use Rattle.ae_text.specs.Wrong.{IsError};
 ghost use Rattle.ae_text.specs.View.{node, fields_seen};

@@ -44,7 +44,6 @@ fn digest_of(alloc: Global, text: &[u8]) -> Result<Option<[u8; 32]>, AllocError>
 }
 
 impl Value for [u8; 32] {
-    ghost use Rattle.std.specs.Prelude.{replicate};
     ghost use Rattle.ae_schema.specs.Spelled.{hex_string};
     ghost use Rattle.ae_schema.specs.Fits.{IsDigest};
     ghost use Rattle.ae_schema.specs.SomeValues.{some_digest};

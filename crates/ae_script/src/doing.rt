@@ -1,5 +1,5 @@
 // One line is done.
-ghost use Rattle.std.specs.Prelude.{◌≡◌, ◌≤◌, ◌++◌, [], ℕ, true, false, List, Some, None, replicate, IfSome, OnSome};
+ghost use Rattle.std.specs.Prelude.{◌≡◌, ◌≤◌, ◌++◌, [], true, false, List, Some, None, replicate, IfSome, OnSome};
 ghost use Rattle.ae_base.specs.Limits.{last_moment};
 ghost use Rattle.ae_outside.specs.Causes.{HasRisen};
 ghost use Rattle.ae_lines.specs.Line.{IsReady};

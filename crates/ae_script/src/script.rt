@@ -1,5 +1,5 @@
 // A script, from its first line to its end.
-ghost use Rattle.std.specs.Prelude.{◌≡◌, ◌≤◌, ◌⊎◌, ℕ, List, true, false};
+ghost use Rattle.std.specs.Prelude.{◌≡◌, ◌≤◌, ◌⊎◌, List, true, false};
 ghost use Rattle.ae_base.specs.declared.outcome.Outcome.TheVariants.{BadWords, Memory};
 ghost use Rattle.ae_outside.specs.Causes.{HasRisen};
 ghost use Rattle.ae_log.specs.Log.{Log};

@@ -1,5 +1,5 @@
 // Bytes that are there already, as a source.
-ghost use Rattle.std.specs.Prelude.{◌≡◌, take, drop, min, length};
+ghost use Rattle.std.specs.Prelude.{◌≡◌, take, min, length};
 
 use ae_outside::{Failed, Source};
 

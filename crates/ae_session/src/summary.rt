@@ -1,5 +1,5 @@
 // What the generator tells of the project that it made.
-ghost use Rattle.std.specs.Prelude.{◌≡◌, ◌++◌, ℕ, List, decimal, codes, IfOk, OnOk, min, map};
+ghost use Rattle.std.specs.Prelude.{◌≡◌, ◌++◌, IfOk, OnOk, min};
 ghost use Rattle.ae_session.specs.Summary.{number_line, bytes_of, most_told, summary_text};
 
 use ae_evidence::{digest_rows, digest_text};

@@ -1,5 +1,5 @@
 // The changes of the numbers are loaded.
-ghost use Rattle.std.specs.Prelude.{◌≡◌, IsErrOf};
+ghost use Rattle.std.specs.Prelude.{IsErrOf};
 ghost use Rattle.ae_outside.specs.Causes.{Counted};
 ghost use Rattle.ae_outside.specs.Image.{IsSame};
 ghost use Rattle.ae_outside.specs.State.{reads, GoesOn};

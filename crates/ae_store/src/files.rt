@@ -1,5 +1,5 @@
 // The files of the disk are read one by one.
-ghost use Rattle.std.specs.Prelude.{◌≡◌, false, ℕ, List, IfOk, IsErrOf};
+ghost use Rattle.std.specs.Prelude.{◌≡◌, false, List, IfOk, IsErrOf};
 ghost use Rattle.ae_outside.specs.Causes.{Counted};
 ghost use Rattle.ae_outside.specs.DiskNames.{IsDiskName};
 ghost use Rattle.ae_outside.specs.Image.{IsSame};

@@ -1,5 +1,5 @@
 // How a call ends without a command, and how that is told.
-ghost use Rattle.std.specs.Prelude.{◌≡◌, ◌≤◌, ◌⊎◌, IfOk};
+ghost use Rattle.std.specs.Prelude.{◌≡◌, ◌≤◌, IfOk};
 ghost use Rattle.ae_base.specs.declared.outcome.Outcome.TheVariants.{BadScript, BadWords, SourceFault, Memory};
 ghost use Rattle.ae_outside.specs.Causes.{HasRisen};
 ghost use Rattle.ae_telling.specs.Messages.{bad_line_text, bad_words_text, message};

@@ -1,6 +1,5 @@
 // The fields so far of a structure that is being read.
 ghost use Rattle.std.specs.Prelude.{◌≡◌, ◌∷◌, ◌++◌, [], IfOk};
-ghost use Rattle.ae_text.specs.Tree.{Node};
 ghost use Rattle.ae_text.specs.View.{fields_seen, members, members_of, node};
 ghost use Rattle.ae_text.specs.Pushdown.{has_name};
 ghost use Rattle.ae_text.specs.Names.{AreNamesOf};

@@ -1,9 +1,9 @@
 // The reader's state: what is open, and what may stand next.
-ghost use Rattle.std.specs.Prelude.{◌≡◌, ◌∷◌, ◌++◌, [], map, IfOk, ◌<◌, length};
+ghost use Rattle.std.specs.Prelude.{◌≡◌, IfOk, ◌<◌};
 ghost use Rattle.ae_text.specs.View.{fields_seen, node, nodes_seen};
 ghost use Rattle.ae_text.specs.Token.{word};
 ghost use Rattle.ae_text.specs.WellFormed.{max_depth};
-ghost use Rattle.ae_text.specs.Pushdown.{has_name, fields_of, list_of, moved, deliver, close_step, open_step, value_step, name_step, equals_step, semicolon_step, item_step, comma_step, end_step, place_step, is_sign_of, noted, step};
+ghost use Rattle.ae_text.specs.Pushdown.{fields_of, list_of, moved, deliver, close_step, open_step, value_step, name_step, equals_step, semicolon_step, item_step, comma_step, end_step, is_sign_of, noted, step};
 ghost use Rattle.ae_text.specs.Steps.{Gives, token_of, frame_of, frames_of, place_of, state_of};
 ghost use Rattle.ae_text.specs.declared.pushdown.Stop.TheVariants.{Memory};
 

@@ -1,10 +1,10 @@
 // The first token of bytes.
-ghost use Rattle.std.specs.Prelude.{◌≡◌, ◌<◌, ◌≤◌, ◌+◌, ◌*◌, ◌^◌, ◌++◌, length, option_map, IfSome, IfOk, take, drop, slice_index, true};
+ghost use Rattle.std.specs.Prelude.{◌≡◌, ◌<◌, ◌≤◌, ◌+◌, ◌*◌, ◌^◌, length, option_map, IfSome, IfOk, slice_index, true};
 ghost use Rattle.ae_base.specs.Names.{is_digit};
 ghost use Rattle.ae_text.specs.WellFormed.{begins_word, goes_on_word};
 ghost use Rattle.ae_text.specs.Token.{is_blank, is_sign};
 ghost use Rattle.ae_text.specs.Steps.{token_of};
-ghost use Rattle.ae_text.specs.Scan.{fitting, after_end, after_one, skipped, run_length, number_from, is_octal, octal_value, octal_byte, octal_at, escape_at, piece_at, closed_string, string_at, number_token, string_token, token_at, gapless, is_moving};
+ghost use Rattle.ae_text.specs.Scan.{fitting, after_end, after_one, run_length, number_from, is_octal, octal_byte, octal_at, escape_at, piece_at, closed_string, string_at, token_at, gapless, is_moving};
 
 use crate::pushdown::Token;
 use ae_base::Text;

@@ -1,5 +1,4 @@
 // The files of a project and the locks.
-ghost use Rattle.std.specs.Prelude.{◌≡◌, IfOk};
 
 use crate::{Rows, TryCopy, VersionRef};
 use ae_base::{ChangeNo, Delta, Path, Usage};

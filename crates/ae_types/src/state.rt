@@ -1,5 +1,5 @@
 // The state of a project.
-ghost use Rattle.std.specs.Prelude.{◌≡◌, Some, IfOk, option_copied};
+ghost use Rattle.std.specs.Prelude.{◌≡◌, IfOk, option_copied};
 ghost use Rattle.ae_types.specs.Observation.{Observation};
 ghost use Rattle.ae_types.specs.Sound.{Sound};
 ghost use Rattle.ae_types.specs.Found.{row_in, lock_in, change_at, has_number};

@@ -1,10 +1,10 @@
 // Opening: recovery from what a stop left.
-ghost use Rattle.std.specs.Prelude.{◌≡◌, ◌≢◌, ◌⊎◌, ◌<◌, ◌≤◌, ◌+◌, ◌-◌, ◌^◌, ◌∷◌, [], List, ℕ, Bool, true, false, Option, Some, None, length, OnOk, IsOk, IsErrOf, IfOk, IfSome, option_map};
-ghost use Rattle.ae_outside.specs.Image.{Image, IsSame};
+ghost use Rattle.std.specs.Prelude.{◌≡◌, ◌≢◌, ◌⊎◌, ◌<◌, ◌≤◌, ◌-◌, [], true, false, Option, Some, None, OnOk, IsErrOf, IfOk, IfSome, option_map};
+ghost use Rattle.ae_outside.specs.Image.{IsSame};
 ghost use Rattle.ae_outside.specs.Causes.{HasRisen};
-ghost use Rattle.ae_outside.specs.State.{DiskState, reads, MayLeave, Continues, GoesOn};
+ghost use Rattle.ae_outside.specs.State.{reads, MayLeave, Continues, GoesOn};
 ghost use Rattle.ae_vault.specs.Vault.{effective, is_open, all_entry_names};
-ghost use Rattle.ae_vault.specs.Commit.{IsClean, IsSettled, OpenAt, RecoveryAt, Throughout, IsRecovering, IsGateSynced, IsRedo};
+ghost use Rattle.ae_vault.specs.Commit.{IsClean, IsSettled, OpenAt, Throughout, IsRecovering, IsGateSynced, IsRedo};
 
 use crate::body::read_body;
 use crate::vault::{BODY, GATE, put_entries, set_gate};

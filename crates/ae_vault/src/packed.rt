@@ -1,5 +1,5 @@
 // Writing pieces into the packed file.
-ghost use Rattle.std.specs.Prelude.{◌≡◌, ◌⊎◌, ◌≤◌, ◌<◌, ◌+◌, ◌^◌, [], ◌∷◌, ℕ, length, take, true, slice_index, IfOk, OnOk};
+ghost use Rattle.std.specs.Prelude.{◌≡◌, ◌⊎◌, ◌≤◌, ◌<◌, ◌+◌, ◌^◌, [], ◌∷◌, ℕ, length, true, slice_index, IfOk, OnOk};
 ghost use Rattle.ae_outside.specs.Causes.{HasCause};
 ghost use Rattle.ae_outside.specs.Image.{Image};
 ghost use Rattle.ae_outside.specs.State.{reads, MayLeave, GoesOn};

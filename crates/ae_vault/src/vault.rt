@@ -1,10 +1,10 @@
 // The vault: a redo body, and a gate that opens after it.
-ghost use Rattle.std.specs.Prelude.{◌≡◌, ◌⊎◌, ◌<◌, ◌≤◌, ◌+◌, ◌-◌, ◌^◌, ◌∷◌, [], List, ℕ, Bool, true, false, Option, Some, None, length, OnOk, IsOk, unwrap_or, ◌==◌};
+ghost use Rattle.std.specs.Prelude.{◌≡◌, ◌⊎◌, ◌<◌, ◌-◌, [], true, Some, None, OnOk, unwrap_or, ◌==◌};
 ghost use Rattle.ae_outside.specs.DiskNames.{IsDiskName};
 ghost use Rattle.ae_outside.specs.Image.{Image, SameElsewhere};
-ghost use Rattle.ae_outside.specs.Causes.{HasRisen, HasCause};
-ghost use Rattle.ae_outside.specs.State.{DiskState, reads, MayLeave, Continues, GoesOn, IsStable};
-ghost use Rattle.ae_vault.specs.Vault.{gate, body, is_open, IsOpen, IsClosed, content_of, put, files, effective, body_entries, all_entry_names};
+ghost use Rattle.ae_outside.specs.Causes.{HasCause};
+ghost use Rattle.ae_outside.specs.State.{reads, MayLeave, Continues, GoesOn, IsStable};
+ghost use Rattle.ae_vault.specs.Vault.{gate, body, is_open, all_entry_names};
 ghost use Rattle.ae_vault.specs.Pieces.{BatchAt, IsBeforeBatch, IsAfterBatch};
 ghost use Rattle.ae_vault.specs.Commit.{SameOutside, HasEntries, IsClean, CommitAt, IsAfter, Throughout};
 

@@ -1,5 +1,5 @@
 // Options with their values, and plain words.
-ghost use Rattle.std.specs.Prelude.{◌≡◌, ◌+◌, ◌<◌, ◌≤◌, ◌∷◌, [], length, option_map, map, string_bytes, MatchOption, position, ◌==◌, false};
+ghost use Rattle.std.specs.Prelude.{◌≡◌, ◌+◌, ◌<◌, ◌∷◌, [], length, option_map, map, string_bytes, MatchOption, position, ◌==◌, false};
 ghost use Rattle.ae_words.specs.Items.{is_flag, without_dash, behind_dash, name_and_value, word, items_from, listing, function};
 ghost use Rattle.ae_words.specs.Seen.{word_seen, item_seen};
 
