@@ -1,0 +1,14 @@
+use Rattle.std.proofs.Common.{◌++◌, codes, ℕ, List, ap, ◌∙◌}
+use Rattle.std.proofs.lemmas.Result.{on_ok_weaker}
+use Rattle.ae_list.specs.Listings.{field, standing}
+use Rattle.ae_list.proofs.Lines.{four_lines}
+use Rattle.ae_list.proofs.details.put_standing.Goals as goal
+
+pub returns : goal.returns
+unfolding standing
+returns c =
+    on_ok_weaker c.put_user-3.result
+    (λ last. four_lines _ _ _ _ _ _ _ _ _
+    (c.in_ok-put_field.ensures ∙ ap (λ (value : List ℕ). c.args.text.now.items ++ field (codes "phase") value) (c.as_bytes.ensures.value ∙ c.word.ensures))
+    c.in_ok-put_user.ensures c.in_ok-put_user-2.ensures last)
+    c.put_user-3.ensures
