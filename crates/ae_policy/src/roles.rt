@@ -11,7 +11,6 @@ use ae_types::Project;
 use ae_users::UserSet;
 use std::alloc::Global;
 
-// How many users a role may have.
 // The users of the role.
 fn users_in(project: &Project, role: Role) -> &UserSet
     ensures { result.now ≡ users_of role project.now }

@@ -1,4 +1,6 @@
-use Rattle.std.proofs.Common.{sym, ◌∙◌}
+use Rattle.std.proofs.Common.{◌<◌, sym, ◌∙◌, arith}
+use Rattle.std.proofs.lemmas.Grind.{common_steps}
+use Rattle.ae_base.specs.Limits.{most_role_users}
 use Rattle.ae_policy.proofs.HasUser.{not_there}
 use Rattle.ae_policy.proofs.roles.add_user.Goals as goal
 
@@ -13,3 +15,8 @@ insert-requires-in-Reviewer c = not_there c.args.project.now.reviewers c.args.us
 
 pub insert-requires-in-Integrator : goal.insert-requires-in-Integrator
 insert-requires-in-Integrator c = not_there c.args.project.now.integrators c.args.user (rw (c.in-Integrator.is) at (sym c.has_role.ensures ∙ c.if-has_role.false))
+
+pub returns-clause-answer : goal.returns-clause-answer
+returns-clause-answer c =
+    let room : c.len.result < most_role_users = c.if-len-ge-MOST_ROLE_USERS.false in
+    grind (arith, common_steps)
