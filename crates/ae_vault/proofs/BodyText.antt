@@ -1,9 +1,9 @@
 -- A body's text and its entries.
-use Rattle.std.proofs.Common.{◌≡◌, ◌≢◌, ℕ, suc, ◌+◌, ◌<◌, ◌≤◌, ◌^◌, Bool, true, false, if◌then◌else◌, ◌==◌, List, [], ◌∷◌, ◌++◌, length, get_or, take, drop, Option, Some, None, unwrap_or, option_and_then, nat_lt, nat_le, flat_map, refl, sym, ◌∙◌, ap, subst, arith, append_assoc, append-nil, length-append}
+use Rattle.std.proofs.Common.{◌≡◌, ◌≢◌, ℕ, suc, ◌+◌, ◌-◌, ◌<◌, ◌≤◌, ◌^◌, Bool, true, false, if◌then◌else◌, ◌==◌, List, [], ◌∷◌, ◌++◌, length, get_or, take, drop, Option, Some, None, unwrap_or, option_and_then, nat_lt, nat_le, flat_map, refl, sym, ◌∙◌, ap, subst, arith, append_assoc, append-nil, length-append}
 use Rattle.std.specs.Int.{to_le_bytes, from_le_bytes, w32, w64}
 use Rattle.std.proofs.Math.Seq.{take-append_seam, drop-append_seam}
 use Rattle.std.proofs.lemmas.Bool.Decides.{nat_tests}
-use Rattle.std.proofs.lemmas.List.{take_more}
+use Rattle.std.proofs.lemmas.List.{take_more, take_all}
 use Rattle.std.proofs.lemmas.Grind.{flat_map-append}
 use Rattle.std.proofs.lemmas.Nat.{from_le_bytes-to_le_bytes_4, from_le_bytes-to_le_bytes_8}
 use Rattle.ae_vault.specs.declared.entry.Entry.{Entry}
@@ -69,6 +69,33 @@ body_reads entries are few fit =
     ∙ ap (λ (n : ℕ). option_and_then (λ (es : List Entry). if are_entries es then Some es else None) (entries_read n rest)) (from_le_bytes-to_le_bytes_4 (length entries) few)
     ∙ ap (option_and_then (λ (es : List Entry). if are_entries es then Some es else None)) (entries_of entries fit)
     ∙ ap (λ (b : Bool). if b then Some entries else None) are
+
+-- ---- the kind of an entry's content, from its first byte
+
+pub kind_of_none : (name bytes : List ℕ) → length bytes < 1 → kind_read name bytes ≡ None
+kind_of_none name [] none = refl
+kind_of_none name (b ∷ bytes) none = absurd (omega (arith, none))
+
+pub kind_absent : (name bytes : List ℕ) → 1 ≤ length bytes → get_or bytes 0 0 ≡ 0
+    → kind_read name bytes ≡ Some (record { name = name; bytes = None }, take (length bytes - 1) (drop 1 bytes))
+kind_absent name [] some is = absurd (omega (arith, some))
+kind_absent name (b ∷ bytes) some is =
+    ap (λ (k : ℕ). kind_read name (k ∷ bytes)) is
+    ∙ sym (ap (λ (rest : List ℕ). Some (record { name = name; bytes = None }, rest)) (take_all (length (b ∷ bytes) - 1) bytes (omega arith)))
+
+pub kind_with_bytes : (name bytes : List ℕ) → 1 ≤ length bytes → get_or bytes 0 0 ≡ 1 → kind_read name bytes ≡ bytes_read name (take (length bytes - 1) (drop 1 bytes))
+kind_with_bytes name [] some is = absurd (omega (arith, some))
+kind_with_bytes name (b ∷ bytes) some is =
+    ap (λ (k : ℕ). kind_read name (k ∷ bytes)) is
+    ∙ ap (bytes_read name) (sym (take_all (length (b ∷ bytes) - 1) bytes (omega arith)))
+
+pub kind_of_neither : (name bytes : List ℕ) → 1 ≤ length bytes → get_or bytes 0 0 ≢ 0 → get_or bytes 0 0 ≢ 1 → kind_read name bytes ≡ None
+kind_of_neither name [] some absent present = absurd (omega (arith, some))
+kind_of_neither name (b ∷ bytes) some absent present =
+    let zero : (b == 0) ≡ false = grind (arith, nat_tests) in
+    let one : (b == 1) ≡ false = grind (arith, nat_tests) in
+    ap (λ (t : Bool). if t then Some (record { name = name; bytes = None }, bytes) else (if b == 1 then bytes_read name bytes else None)) zero
+    ∙ ap (λ (t : Bool). if t then bytes_read name bytes else None) one
 
 -- entries before those of an answer
 abbrev pub behind : List Entry → Option (List Entry) → Option (List Entry)
