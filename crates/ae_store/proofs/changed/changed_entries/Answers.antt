@@ -1,3 +1,4 @@
+use Rattle.ae_outside.proofs.Results.{if_ok_of_err}
 use Rattle.std.proofs.Common.{◌<◌, ℕ, List, Some, length, get_or, subst}
 use Rattle.std.specs.Prelude.{option_copied}
 use Rattle.ae_store.specs.Names.{project_file, files_file, change_file}
@@ -24,3 +25,17 @@ returns-clause-stands c = λ files all stands.
     (subst (λ (numbers : List ℕ). (k : ℕ) → k < length numbers → ChangeIsWritten (option_copied c.args.old) (get_or numbers k 0)) c.numbers.ensures c.in_ok-put_changes.ensures.written)
     (subst (λ (numbers : List ℕ). (k : ℕ) → k < length numbers → ChangeIsWritten (Some c.args.new.now) (get_or numbers k 0)) c.numbers.ensures c.in_ok-put_changes.ensures.written_new)
     files stands all
+
+-- ---- where memory runs out
+
+pub returns-in_err-put_project-clause-entries : goal.returns-in_err-put_project-clause-entries
+returns-in_err-put_project-clause-entries c = if_ok_of_err c.from_residual.result _ _ c.from_residual.ensures.1
+
+pub returns-in_err-put_table-clause-entries : goal.returns-in_err-put_table-clause-entries
+returns-in_err-put_table-clause-entries c = if_ok_of_err c.from_residual-in_err-put_table.result _ _ c.from_residual-in_err-put_table.ensures.1
+
+pub returns-in_err-put_changes-clause-entries : goal.returns-in_err-put_changes-clause-entries
+returns-in_err-put_changes-clause-entries c = if_ok_of_err c.from_residual-in_err-put_changes.result _ _ c.from_residual-in_err-put_changes.ensures.1
+
+pub returns-in_err-put_gone-clause-entries : goal.returns-in_err-put_gone-clause-entries
+returns-in_err-put_gone-clause-entries c = if_ok_of_err c.from_residual-in_err-put_gone.result _ _ c.from_residual-in_err-put_gone.ensures.1

@@ -1,3 +1,4 @@
+use Rattle.ae_outside.proofs.Results.{on_ok_of_err}
 use Rattle.std.proofs.Common.{◌≡◌, ◌<◌, ℕ, List, Some, length, get_or, ◌∙◌, subst, below_more, arith}
 use Rattle.std.specs.Prelude.{option_copied}
 use Rattle.std.proofs.lemmas.List.{get_or_default}
@@ -21,3 +22,20 @@ loop-number-preserved c =
       written = below_more _ _ c.loop-number.invariant.written (subst (λ (n : ℕ). ChangeIsWritten (option_copied c.args.old) n) item c.in_ok-put_change.ensures.written);
       written_new = below_more _ _ c.loop-number.invariant.written_new (subst (λ (n : ℕ). ChangeIsWritten (Some c.args.new.now) n) item c.in_ok-put_change.ensures.written_new);
     }
+
+-- ---- where memory runs out
+
+pub returns-in_err-put_change-clause-right : goal.returns-in_err-put_change-clause-right
+returns-in_err-put_change-clause-right c = on_ok_of_err c.from_residual.result _ _ c.from_residual.ensures.1
+
+pub returns-in_err-put_change-clause-done : goal.returns-in_err-put_change-clause-done
+returns-in_err-put_change-clause-done c = on_ok_of_err c.from_residual.result _ _ c.from_residual.ensures.1
+
+pub returns-in_err-put_change-clause-kept : goal.returns-in_err-put_change-clause-kept
+returns-in_err-put_change-clause-kept c = on_ok_of_err c.from_residual.result _ _ c.from_residual.ensures.1
+
+pub returns-in_err-put_change-clause-written : goal.returns-in_err-put_change-clause-written
+returns-in_err-put_change-clause-written c = on_ok_of_err c.from_residual.result _ _ c.from_residual.ensures.1
+
+pub returns-in_err-put_change-clause-written_new : goal.returns-in_err-put_change-clause-written_new
+returns-in_err-put_change-clause-written_new c = on_ok_of_err c.from_residual.result _ _ c.from_residual.ensures.1

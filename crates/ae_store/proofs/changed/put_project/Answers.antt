@@ -1,6 +1,6 @@
 use Rattle.std.proofs.Common.{◌≡◌, ◌∙◌}
 use Rattle.std.specs.Prelude.{option_copied}
-use Rattle.ae_outside.proofs.Results.{on_ok_both}
+use Rattle.ae_outside.proofs.Results.{on_ok_both, on_ok_of_err}
 use Rattle.ae_store.specs.Names.{project_file}
 use Rattle.ae_store.specs.Changed.{text_of}
 use Rattle.ae_store.proofs.BatchSteps.{step_right, step_done, step_kept}
@@ -29,3 +29,77 @@ returns-clause-kept c =
     on_ok_both c.put_text.result _ _ _
     (step_kept (option_copied c.args.old) c.args.new.now c.args.entries.now.items c.put_text.new.entries.items c.of-name.result (project_file) c.as_slice.result.now c.in_ok-new_text.new_text.items name told c.in_ok-new_text.ensures.text)
     c.put_text.ensures.content c.put_text.ensures.ordered
+
+-- ---- where memory runs out
+
+pub returns-in_err-old_text-clause-right : goal.returns-in_err-old_text-clause-right
+returns-in_err-old_text-clause-right c = on_ok_of_err c.from_residual.result _ _ c.from_residual.ensures.1
+
+pub returns-in_err-old_text-clause-done : goal.returns-in_err-old_text-clause-done
+returns-in_err-old_text-clause-done c = on_ok_of_err c.from_residual.result _ _ c.from_residual.ensures.1
+
+pub returns-in_err-old_text-clause-kept : goal.returns-in_err-old_text-clause-kept
+returns-in_err-old_text-clause-kept c = on_ok_of_err c.from_residual.result _ _ c.from_residual.ensures.1
+
+pub returns-in_err-old_text-clause-written : goal.returns-in_err-old_text-clause-written
+returns-in_err-old_text-clause-written c = on_ok_of_err c.from_residual.result _ _ c.from_residual.ensures.1
+
+pub returns-in_err-old_text-clause-written_new : goal.returns-in_err-old_text-clause-written_new
+returns-in_err-old_text-clause-written_new c = on_ok_of_err c.from_residual.result _ _ c.from_residual.ensures.1
+
+pub returns-in_err-old_text-clause-sound_new : goal.returns-in_err-old_text-clause-sound_new
+returns-in_err-old_text-clause-sound_new c = on_ok_of_err c.from_residual.result _ _ c.from_residual.ensures.1
+
+pub returns-in_err-old_text-clause-numbered : goal.returns-in_err-old_text-clause-numbered
+returns-in_err-old_text-clause-numbered c = on_ok_of_err c.from_residual.result _ _ c.from_residual.ensures.1
+
+pub returns-in_err-old_text-clause-numbered_new : goal.returns-in_err-old_text-clause-numbered_new
+returns-in_err-old_text-clause-numbered_new c = on_ok_of_err c.from_residual.result _ _ c.from_residual.ensures.1
+
+pub returns-in_err-new_text-clause-right : goal.returns-in_err-new_text-clause-right
+returns-in_err-new_text-clause-right c = on_ok_of_err c.from_residual-in_err-new_text.result _ _ c.from_residual-in_err-new_text.ensures.1
+
+pub returns-in_err-new_text-clause-done : goal.returns-in_err-new_text-clause-done
+returns-in_err-new_text-clause-done c = on_ok_of_err c.from_residual-in_err-new_text.result _ _ c.from_residual-in_err-new_text.ensures.1
+
+pub returns-in_err-new_text-clause-kept : goal.returns-in_err-new_text-clause-kept
+returns-in_err-new_text-clause-kept c = on_ok_of_err c.from_residual-in_err-new_text.result _ _ c.from_residual-in_err-new_text.ensures.1
+
+pub returns-in_err-new_text-clause-written : goal.returns-in_err-new_text-clause-written
+returns-in_err-new_text-clause-written c = on_ok_of_err c.from_residual-in_err-new_text.result _ _ c.from_residual-in_err-new_text.ensures.1
+
+pub returns-in_err-new_text-clause-written_new : goal.returns-in_err-new_text-clause-written_new
+returns-in_err-new_text-clause-written_new c = on_ok_of_err c.from_residual-in_err-new_text.result _ _ c.from_residual-in_err-new_text.ensures.1
+
+pub returns-in_err-new_text-clause-sound_new : goal.returns-in_err-new_text-clause-sound_new
+returns-in_err-new_text-clause-sound_new c = on_ok_of_err c.from_residual-in_err-new_text.result _ _ c.from_residual-in_err-new_text.ensures.1
+
+pub returns-in_err-new_text-clause-numbered : goal.returns-in_err-new_text-clause-numbered
+returns-in_err-new_text-clause-numbered c = on_ok_of_err c.from_residual-in_err-new_text.result _ _ c.from_residual-in_err-new_text.ensures.1
+
+pub returns-in_err-new_text-clause-numbered_new : goal.returns-in_err-new_text-clause-numbered_new
+returns-in_err-new_text-clause-numbered_new c = on_ok_of_err c.from_residual-in_err-new_text.result _ _ c.from_residual-in_err-new_text.ensures.1
+
+pub returns-in_err-from_slice-clause-right : goal.returns-in_err-from_slice-clause-right
+returns-in_err-from_slice-clause-right c = on_ok_of_err c.from_residual-in_err-from_slice.result _ _ c.from_residual-in_err-from_slice.ensures.1
+
+pub returns-in_err-from_slice-clause-done : goal.returns-in_err-from_slice-clause-done
+returns-in_err-from_slice-clause-done c = on_ok_of_err c.from_residual-in_err-from_slice.result _ _ c.from_residual-in_err-from_slice.ensures.1
+
+pub returns-in_err-from_slice-clause-kept : goal.returns-in_err-from_slice-clause-kept
+returns-in_err-from_slice-clause-kept c = on_ok_of_err c.from_residual-in_err-from_slice.result _ _ c.from_residual-in_err-from_slice.ensures.1
+
+pub returns-in_err-from_slice-clause-written : goal.returns-in_err-from_slice-clause-written
+returns-in_err-from_slice-clause-written c = on_ok_of_err c.from_residual-in_err-from_slice.result _ _ c.from_residual-in_err-from_slice.ensures.1
+
+pub returns-in_err-from_slice-clause-written_new : goal.returns-in_err-from_slice-clause-written_new
+returns-in_err-from_slice-clause-written_new c = on_ok_of_err c.from_residual-in_err-from_slice.result _ _ c.from_residual-in_err-from_slice.ensures.1
+
+pub returns-in_err-from_slice-clause-sound_new : goal.returns-in_err-from_slice-clause-sound_new
+returns-in_err-from_slice-clause-sound_new c = on_ok_of_err c.from_residual-in_err-from_slice.result _ _ c.from_residual-in_err-from_slice.ensures.1
+
+pub returns-in_err-from_slice-clause-numbered : goal.returns-in_err-from_slice-clause-numbered
+returns-in_err-from_slice-clause-numbered c = on_ok_of_err c.from_residual-in_err-from_slice.result _ _ c.from_residual-in_err-from_slice.ensures.1
+
+pub returns-in_err-from_slice-clause-numbered_new : goal.returns-in_err-from_slice-clause-numbered_new
+returns-in_err-from_slice-clause-numbered_new c = on_ok_of_err c.from_residual-in_err-from_slice.result _ _ c.from_residual-in_err-from_slice.ensures.1
