@@ -13,10 +13,10 @@ pub on_ok_both : {T E : Type 0} (r : Result T E) (P Q R : Type 0) → (P → Q �
 on_ok_both (Ok v) P Q R gives first second = gives first second
 on_ok_both (Err e) P Q R gives first second = tt
 
--- where there is an error, nothing is said of a value
-pub on_ok_of_err : {T E : Type 0} (r : Result T E) (e : E) (P : Type 0) → IsErrAnd r (λ (x : E). x ≡ e) → OnOk r P
-on_ok_of_err (Ok v) e P is = absurd is
-on_ok_of_err (Err x) e P is = tt
+-- where there is an error, whatever is said of it, nothing is said of a value
+pub on_ok_of_err : {T E : Type 0} (r : Result T E) (Q : E → Type 0) (P : Type 0) → IsErrAnd r Q → OnOk r P
+on_ok_of_err (Ok v) Q P is = absurd is
+on_ok_of_err (Err x) Q P is = tt
 
 pub if_ok_of_err : {T E : Type 0} (r : Result T E) (e : E) (P : T → Type 0) → IsErrAnd r (λ (x : E). x ≡ e) → IfOk r P
 if_ok_of_err (Ok v) e P is = absurd is
