@@ -1,6 +1,7 @@
 -- The lines of a reply, put one after another.
-use Rattle.std.specs.Prelude.{◌≡◌, ℕ, ◌+◌, ◌<◌, List, [], ◌∷◌, ◌++◌, map, take, length, codes}
+use Rattle.std.specs.Prelude.{◌≡◌, ℕ, ◌+◌, ◌<◌, if◌then◌else◌, List, [], ◌∷◌, ◌++◌, map, take, length, codes, Result, Ok, Err, OnOk}
 use Rattle.std.specs.List.{concat}
+use Rattle.std.specs.Result.{is_ok}
 use Rattle.std.proofs.Common.{refl, sym, ap, ◌∙◌, get_or}
 use Rattle.std.proofs.lemmas.List.{append-nil, map_more}
 use Rattle.std.proofs.lemmas.List.Folds.{concat-append}
@@ -26,3 +27,8 @@ one_line {E} line events i event text next below is so_far more =
     let all : concat (map line (take (i + 1) events)) ≡ concat before ++ (line (get_or events i event) ++ []) = ap concat (map_more line events i event below) ∙ concat-append before (line (get_or events i event) ∷ []) in
     let last : line (get_or events i event) ++ [] ≡ line event = append-nil (line (get_or events i event)) ∙ ap line (sym is) in
     more ∙ (ap (λ (t : List ℕ). t ++ line event) so_far ∙ sym (all ∙ ap (λ (t : List ℕ). concat before ++ t) last))
+
+-- what is put after a text
+pub put_after : {T E : Type 0} (r : Result T E) (new old more said : List ℕ) → new ≡ (if is_ok r then old ++ more else old) → more ≡ said → OnOk r (new ≡ old ++ said)
+put_after (Ok v) new old more said put is = put ∙ ap (λ (text : List ℕ). old ++ text) is
+put_after (Err e) new old more said put is = tt

@@ -8,9 +8,9 @@ ghost use Rattle.ae_vault.specs.Vault.{effective};
 ghost use Rattle.ae_machine.specs.Fits.{makes_runs};
 ghost use Rattle.ae_machine.specs.Sight.{with_bytes};
 ghost use Rattle.ae_machine.specs.Versions.{first_differing};
-ghost use Rattle.ae_exec.specs.Bytes.{HaveBytes};
 ghost use Rattle.ae_exec.specs.Endings.{EndsAs, outcome_of_stop};
 ghost use Rattle.ae_exec.specs.Reading.{AreKept, IsLostAmong, asked_of, compared_for, versions_of};
+ghost use Rattle.ae_exec.specs.Seen.{IsCompared};
 
 use crate::running::files_of_rows;
 use crate::stop::Stop;
@@ -31,10 +31,10 @@ pub(crate) fn compare<D: Disk>(
     requires clean { D.tells → IsClean (D.state disk.old) }
     requires runs { makes_runs command.now.function ≡ true }
     ensures some { OnOk result ((bytes : ℕ → List ℕ) × (first_differing view.now (with_bytes bytes (compared_for command.now state.now)) ≡ None)) }
-    ensures none { OnOk result (D.tells → (bytes : ℕ → List ℕ) → HaveBytes (effective (reads (D.state disk.old))) (Some state.now) bytes → first_differing view.now (with_bytes bytes (compared_for command.now state.now)) ≡ None) }
+    ensures none { OnOk result (D.tells → IsCompared (effective (reads (D.state disk.old))) state.now command.now view.now None) }
     ensures kept { OnOk result (D.tells → AreKept (effective (reads (D.state disk.old))) (versions_of (compared_for command.now state.now))) }
     ensures same { D.tells → GoesOn IsSame (D.state disk.old) (D.state disk.new) }
-    ensures stopped { IfErr result (λ stop. EndsAs ⊥ ⊥ (λ refusal. D.tells → ((bytes : ℕ → List ℕ) → HaveBytes (effective (reads (D.state disk.old))) (Some state.now) bytes → first_differing view.now (with_bytes bytes (compared_for command.now state.now)) ≡ Some refusal) × AreKept (effective (reads (D.state disk.old))) (asked_of command.now (Some state.now)))
+    ensures stopped { IfErr result (λ stop. EndsAs ⊥ ⊥ (λ refusal. D.tells → IsCompared (effective (reads (D.state disk.old))) state.now command.now view.now (Some refusal) × AreKept (effective (reads (D.state disk.old))) (asked_of command.now (Some state.now)))
         (λ name. D.tells → IsLostAmong (reads (D.state disk.old)) (asked_of command.now (Some state.now)) name) (HasRisen (D.faults disk.old) (D.faults disk.new)) ⊥ (outcome_of_stop stop)) }
     ensures later { D.faults disk.old ≤ D.faults disk.new }
 {

@@ -18,11 +18,11 @@ ghost use Rattle.ae_machine.specs.Versions.{ShowsVersions};
 ghost use Rattle.ae_machine.specs.Verdict.{refused_before};
 ghost use Rattle.ae_exec.specs.Carried.{pieces_of};
 ghost use Rattle.ae_exec.specs.Directories.{LeavesDirs};
-ghost use Rattle.ae_exec.specs.Endings.{EndsAs, IsDamagedFor, outcome_of, outcome_of_stop};
+ghost use Rattle.ae_exec.specs.Endings.{EndsAs, IsDamagedFor, StopsPlanning, outcome_of, outcome_of_stop};
 ghost use Rattle.ae_exec.specs.Next.{MayFollow, IfAccepted, next_of};
 ghost use Rattle.ae_exec.specs.Plan.{IsStep, IsMade, IsPlanned};
 ghost use Rattle.ae_exec.specs.Writing.{MayBePut};
-ghost use Rattle.ae_exec.specs.Seen.{CallsSite, CallsSiteOn, IsDecidedSo, IsRefused, IsRefusedOn, LosesVersion};
+ghost use Rattle.ae_exec.specs.Seen.{CallsSite, IsDecidedSo, IsRefused};
 
 use crate::directories::change_directories;
 use crate::load::load_state;
@@ -165,7 +165,7 @@ fn plan_quiet<D: Disk, S: Site>(
     requires quiet { makes_runs command.now.function ≡ false }
     requires passed { refused_before (option_copied old) command.now who.now ≡ None }
     ensures planned { IfOk result (λ plan. IsPlanned (D.tells × S.tells) (effective (reads (D.state disk.old))) (option_copied old.entry) (called command.now who.now now (S.state site.old) (S.state site.new)) status_line plan.batch plan.finished) }
-    ensures stopped { IfErr result (λ stop. EndsAs ⊥ ⊥ (λ refusal. D.tells → S.tells → IsRefusedOn (effective (reads (D.state disk.old))) (option_copied old.entry) (called command.now who.now now (S.state site.old) (S.state site.new)) refusal) (λ name. D.tells → S.tells → LosesVersion (reads (D.state disk.old)) (option_copied old.entry) (called command.now who.now now (S.state site.old) (S.state site.new)) name) (HasRisen (D.faults disk.old) (D.faults disk.new)) (HasRisen (S.faults site.old) (S.faults site.new) × (D.tells → S.tells → CallsSiteOn (effective (reads (D.state disk.old))) (option_copied old.entry) (called command.now who.now now (S.state site.old) (S.state site.new)))) (outcome_of_stop stop)) }
+    ensures stopped { IfErr result (StopsPlanning D.tells S.tells (reads (D.state disk.old)) (option_copied old.entry) (called command.now who.now now (S.state site.old) (S.state site.new)) (HasRisen (D.faults disk.old) (D.faults disk.new)) (HasRisen (S.faults site.old) (S.faults site.new))) }
     ensures directories { S.tells → LeavesDirs command.now (S.state site.old) (S.state site.new) (outcome_of result) }
     ensures same { D.tells → GoesOn IsSame (D.state disk.old) (D.state disk.new) }
     ensures disk_later { D.faults disk.old ≤ D.faults disk.new }
@@ -199,7 +199,7 @@ fn plan_on<D: Disk, S: Site>(
     requires one { is_one_command command.now.function ≡ true }
     requires moment { now ≤ last_moment }
     ensures planned { IfOk result (λ plan. IsPlanned (D.tells × S.tells) (effective (reads (D.state disk.old))) (option_copied old.entry) (called command.now who.now now (S.state site.old) (S.state site.new)) status_line plan.batch plan.finished) }
-    ensures stopped { IfErr result (λ stop. EndsAs ⊥ ⊥ (λ refusal. D.tells → S.tells → IsRefusedOn (effective (reads (D.state disk.old))) (option_copied old.entry) (called command.now who.now now (S.state site.old) (S.state site.new)) refusal) (λ name. D.tells → S.tells → LosesVersion (reads (D.state disk.old)) (option_copied old.entry) (called command.now who.now now (S.state site.old) (S.state site.new)) name) (HasRisen (D.faults disk.old) (D.faults disk.new)) (HasRisen (S.faults site.old) (S.faults site.new) × (D.tells → S.tells → CallsSiteOn (effective (reads (D.state disk.old))) (option_copied old.entry) (called command.now who.now now (S.state site.old) (S.state site.new)))) (outcome_of_stop stop)) }
+    ensures stopped { IfErr result (StopsPlanning D.tells S.tells (reads (D.state disk.old)) (option_copied old.entry) (called command.now who.now now (S.state site.old) (S.state site.new)) (HasRisen (D.faults disk.old) (D.faults disk.new)) (HasRisen (S.faults site.old) (S.faults site.new))) }
     ensures directories { S.tells → LeavesDirs command.now (S.state site.old) (S.state site.new) (outcome_of result) }
     ensures early { S.tells → makes_runs command.now.function ≡ true → IfErr result (λ stop. outcome_of_stop stop ≡ Outcome.DiskFault → S.state site.new ≡ S.state site.old) }
     ensures same { D.tells → GoesOn IsSame (D.state disk.old) (D.state disk.new) }

@@ -14,7 +14,7 @@ ghost use Rattle.ae_dirs.specs.Runs.{MakesByteRuns};
 ghost use Rattle.ae_machine.specs.declared.jobs.Job.{Job};
 ghost use Rattle.ae_machine.specs.Directories.{dirs_after};
 ghost use Rattle.ae_base.specs.Rows.{Ascends};
-ghost use Rattle.ae_machine.specs.Call.{call_of, change_named, given_of};
+ghost use Rattle.ae_machine.specs.Call.{given_of};
 ghost use Rattle.ae_machine.specs.Fits.{makes_runs};
 ghost use Rattle.ae_machine.specs.Freezing.{configured};
 ghost use Rattle.ae_machine.specs.Jobs.{AnswersJobs, IsCommand};
@@ -23,7 +23,7 @@ ghost use Rattle.ae_machine.specs.Space.{placing};
 ghost use Rattle.ae_machine.specs.Versions.{ShowsVersions, rows_based, rows_refreshed};
 ghost use Rattle.ae_exec.specs.Bytes.{AreThere, HaveBytes, rows_at};
 ghost use Rattle.ae_exec.specs.Endings.{StopsReading};
-ghost use Rattle.ae_exec.specs.Reading.{AreKept, IsInside, versions_for_runs, versions_of};
+ghost use Rattle.ae_exec.specs.Reading.{AreKept, IsInside, based_for, refreshed_for, versions_for_runs, versions_of};
 ghost use Rattle.ae_exec.specs.Runs.{AreForRuns, HaveRun};
 
 use crate::stop::Stop;
@@ -154,8 +154,8 @@ fn run_plan(
 ) -> Result<RunPlan, AllocError>
     requires runs { makes_runs command.now.function ≡ true }
     requires accepted { (bytes : ℕ → List ℕ) × (who : List ℕ) × (when : ℕ) × ShowsVersions (Some state.now) bytes command.now who view.now × (configured (given_of placing state.now bytes command.now who when view.now) ≡ None) }
-    requires paths { paths_of based ≡ map tree_path (rows_based (call_of state.now command.now []) (change_named state.now command.now.change)) }
-    ensures are { IfOk result (λ plan. (bytes : ℕ → List ℕ) (who : List ℕ) (when : ℕ) → refreshed ≡ with_bytes bytes (rows_refreshed (call_of state.now command.now []) (change_named state.now command.now.change)) → based ≡ with_bytes bytes (rows_based (call_of state.now command.now []) (change_named state.now command.now.change)) → ShowsVersions (Some state.now) bytes command.now who view.now → AreForRuns (given_of placing state.now bytes command.now who when view.now) plan.changes plan.tracked plan.jobs) }
+    requires paths { paths_of based ≡ map tree_path (based_for command.now state.now) }
+    ensures are { IfOk result (λ plan. (bytes : ℕ → List ℕ) (who : List ℕ) (when : ℕ) → refreshed ≡ with_bytes bytes (refreshed_for command.now state.now) → based ≡ with_bytes bytes (based_for command.now state.now) → ShowsVersions (Some state.now) bytes command.now who view.now → AreForRuns (given_of placing state.now bytes command.now who when view.now) plan.changes plan.tracked plan.jobs) }
     ensures commands { IfOk result (λ plan. All (λ (job : Job). IsCommand job.command) plan.jobs) }
     ensures ascends { IfOk result (λ plan. Ascends plan.tracked) }
 {
@@ -177,10 +177,10 @@ fn refreshed_files<D: Disk>(
     command: &Command,
 ) -> Result<FileList, Stop>
     requires clean { D.tells → IsClean (D.state disk.old) }
-    ensures rows { IfOk result (λ files. D.tells → files ≡ rows_at (effective (reads (D.state disk.old))) (rows_refreshed (call_of state.now command.now []) (change_named state.now command.now.change))) }
-    ensures kept { OnOk result (D.tells → AreKept (effective (reads (D.state disk.old))) (versions_of (rows_refreshed (call_of state.now command.now []) (change_named state.now command.now.change)))) }
+    ensures rows { IfOk result (λ files. D.tells → files ≡ rows_at (effective (reads (D.state disk.old))) (refreshed_for command.now state.now)) }
+    ensures kept { OnOk result (D.tells → AreKept (effective (reads (D.state disk.old))) (versions_of (refreshed_for command.now state.now))) }
     ensures same { D.tells → GoesOn IsSame (D.state disk.old) (D.state disk.new) }
-    ensures stopped { IfErr result (λ stop. StopsReading D.tells (reads (D.state disk.old)) (versions_of (rows_refreshed (call_of state.now command.now []) (change_named state.now command.now.change))) (HasRisen (D.faults disk.old) (D.faults disk.new)) stop) }
+    ensures stopped { IfErr result (λ stop. StopsReading D.tells (reads (D.state disk.old)) (versions_of (refreshed_for command.now state.now)) (HasRisen (D.faults disk.old) (D.faults disk.new)) stop) }
     ensures later { D.faults disk.old ≤ D.faults disk.new }
 {
     state.note_sound();
@@ -196,11 +196,11 @@ fn based_files<D: Disk>(
     command: &Command,
 ) -> Result<FileList, Stop>
     requires clean { D.tells → IsClean (D.state disk.old) }
-    ensures rows { IfOk result (λ files. D.tells → files ≡ rows_at (effective (reads (D.state disk.old))) (rows_based (call_of state.now command.now []) (change_named state.now command.now.change))) }
-    ensures paths { IfOk result (λ files. paths_of files ≡ map tree_path (rows_based (call_of state.now command.now []) (change_named state.now command.now.change))) }
-    ensures kept { OnOk result (D.tells → AreKept (effective (reads (D.state disk.old))) (versions_of (rows_based (call_of state.now command.now []) (change_named state.now command.now.change)))) }
+    ensures rows { IfOk result (λ files. D.tells → files ≡ rows_at (effective (reads (D.state disk.old))) (based_for command.now state.now)) }
+    ensures paths { IfOk result (λ files. paths_of files ≡ map tree_path (based_for command.now state.now)) }
+    ensures kept { OnOk result (D.tells → AreKept (effective (reads (D.state disk.old))) (versions_of (based_for command.now state.now))) }
     ensures same { D.tells → GoesOn IsSame (D.state disk.old) (D.state disk.new) }
-    ensures stopped { IfErr result (λ stop. StopsReading D.tells (reads (D.state disk.old)) (versions_of (rows_based (call_of state.now command.now []) (change_named state.now command.now.change))) (HasRisen (D.faults disk.old) (D.faults disk.new)) stop) }
+    ensures stopped { IfErr result (λ stop. StopsReading D.tells (reads (D.state disk.old)) (versions_of (based_for command.now state.now)) (HasRisen (D.faults disk.old) (D.faults disk.new)) stop) }
     ensures later { D.faults disk.old ≤ D.faults disk.new }
 {
     state.note_sound();

@@ -17,9 +17,9 @@ ghost use Rattle.ae_machine.specs.Space.{placing};
 ghost use Rattle.ae_machine.specs.Verdict.{refused_before, verdict};
 ghost use Rattle.ae_machine.specs.Versions.{ShowsVersions};
 ghost use Rattle.ae_exec.specs.Directories.{LeavesDirs};
-ghost use Rattle.ae_exec.specs.Endings.{EndsAs, outcome_of, outcome_of_stop};
+ghost use Rattle.ae_exec.specs.Endings.{StopsPlanning, outcome_of, outcome_of_stop};
 ghost use Rattle.ae_exec.specs.Plan.{IsMade, IsPlanned};
-ghost use Rattle.ae_exec.specs.Seen.{CallsSiteOn, IsDecidedSo, IsRefusedOn, LosesVersion};
+ghost use Rattle.ae_exec.specs.Seen.{IsDecidedSo};
 
 use crate::plan::{Plan, answer_on, prepare};
 use crate::running::{make_runs, ready};
@@ -50,7 +50,7 @@ pub(crate) fn plan_runs<D: Disk, S: Site>(
     requires runs { makes_runs command.now.function ≡ true }
     requires passed { refused_before (option_copied old) command.now who.now ≡ None }
     ensures planned { IfOk result (λ plan. IsPlanned (D.tells × S.tells) (effective (reads (D.state disk.old))) (option_copied old.entry) (called command.now who.now now (S.state site.old) (S.state site.new)) status_line plan.batch plan.finished) }
-    ensures stopped { IfErr result (λ stop. EndsAs ⊥ ⊥ (λ refusal. D.tells → S.tells → IsRefusedOn (effective (reads (D.state disk.old))) (option_copied old.entry) (called command.now who.now now (S.state site.old) (S.state site.new)) refusal) (λ name. D.tells → S.tells → LosesVersion (reads (D.state disk.old)) (option_copied old.entry) (called command.now who.now now (S.state site.old) (S.state site.new)) name) (HasRisen (D.faults disk.old) (D.faults disk.new)) (HasRisen (S.faults site.old) (S.faults site.new) × (D.tells → S.tells → CallsSiteOn (effective (reads (D.state disk.old))) (option_copied old.entry) (called command.now who.now now (S.state site.old) (S.state site.new)))) (outcome_of_stop stop)) }
+    ensures stopped { IfErr result (StopsPlanning D.tells S.tells (reads (D.state disk.old)) (option_copied old.entry) (called command.now who.now now (S.state site.old) (S.state site.new)) (HasRisen (D.faults disk.old) (D.faults disk.new)) (HasRisen (S.faults site.old) (S.faults site.new))) }
     ensures directories { S.tells → LeavesDirs command.now (S.state site.old) (S.state site.new) (outcome_of result) }
     ensures early { S.tells → IfErr result (λ stop. outcome_of_stop stop ≡ Outcome.DiskFault → S.state site.new ≡ S.state site.old) }
     ensures same { D.tells → GoesOn IsSame (D.state disk.old) (D.state disk.new) }
@@ -114,7 +114,7 @@ fn plan_runs_on<D: Disk, S: Site>(
     requires runs { makes_runs command.now.function ≡ true }
     requires passed { refused_before (Some state.now) command.now who.now ≡ None }
     ensures planned { IfOk result (λ plan. IsPlanned (D.tells × S.tells) (effective (reads (D.state disk.old))) (Some state.now) (called command.now who.now now (S.state site.old) (S.state site.new)) status_line plan.batch plan.finished) }
-    ensures stopped { IfErr result (λ stop. EndsAs ⊥ ⊥ (λ refusal. D.tells → S.tells → IsRefusedOn (effective (reads (D.state disk.old))) (Some state.now) (called command.now who.now now (S.state site.old) (S.state site.new)) refusal) (λ name. D.tells → S.tells → LosesVersion (reads (D.state disk.old)) (Some state.now) (called command.now who.now now (S.state site.old) (S.state site.new)) name) (HasRisen (D.faults disk.old) (D.faults disk.new)) (HasRisen (S.faults site.old) (S.faults site.new) × (D.tells → S.tells → CallsSiteOn (effective (reads (D.state disk.old))) (Some state.now) (called command.now who.now now (S.state site.old) (S.state site.new)))) (outcome_of_stop stop)) }
+    ensures stopped { IfErr result (StopsPlanning D.tells S.tells (reads (D.state disk.old)) (Some state.now) (called command.now who.now now (S.state site.old) (S.state site.new)) (HasRisen (D.faults disk.old) (D.faults disk.new)) (HasRisen (S.faults site.old) (S.faults site.new))) }
     ensures directories { S.tells → LeavesDirs command.now (S.state site.old) (S.state site.new) (outcome_of result) }
     ensures early { S.tells → IfErr result (λ stop. outcome_of_stop stop ≡ Outcome.DiskFault → S.state site.new ≡ S.state site.old) }
     ensures same { D.tells → GoesOn IsSame (D.state disk.old) (D.state disk.new) }

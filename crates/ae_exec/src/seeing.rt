@@ -18,8 +18,8 @@ ghost use Rattle.ae_machine.specs.Space.{placing};
 ghost use Rattle.ae_machine.specs.Versions.{ShowsVersions, config_version, files_refused, first_differing};
 ghost use Rattle.ae_exec.specs.Bytes.{HaveBytes};
 ghost use Rattle.ae_exec.specs.Endings.{EndsAs, StopsReading, outcome_of_stop};
-ghost use Rattle.ae_exec.specs.Reading.{AreKept, IsLostAmong, asked_of, compared_for, versions_of};
-ghost use Rattle.ae_exec.specs.Seen.{FilesRefuse, files_alone, no_bytes, seen_alone};
+ghost use Rattle.ae_exec.specs.Reading.{AreKept, IsLostAmong, asked_of, compared_for, config_for, versions_of};
+ghost use Rattle.ae_exec.specs.Seen.{FilesRefuse, IsCompared, files_alone, no_bytes, seen_alone};
 
 use crate::comparing::compare;
 use crate::sight::look;
@@ -102,11 +102,11 @@ fn read_config<D: Disk>(
     command: &Command,
 ) -> Result<Option<(Path, Content)>, Stop>
     requires clean { D.tells → IsClean (D.state disk.old) }
-    ensures row { IfOk result (λ row. (bytes : List ℕ) × (cons_option row [] ≡ config_row (λ number. bytes) (config_version (call_of state.now command.now []) (change_named state.now command.now.change)))) }
-    ensures told { IfOk result (λ row. D.tells → (bytes : ℕ → List ℕ) → HaveBytes (effective (reads (D.state disk.old))) (Some state.now) bytes → cons_option row [] ≡ config_row bytes (config_version (call_of state.now command.now []) (change_named state.now command.now.change))) }
-    ensures kept { OnOk result (D.tells → AreKept (effective (reads (D.state disk.old))) (versions_of (cons_option (config_version (call_of state.now command.now []) (change_named state.now command.now.change)) []))) }
+    ensures row { IfOk result (λ row. (bytes : List ℕ) × (cons_option row [] ≡ config_row (λ number. bytes) (config_for command.now state.now))) }
+    ensures told { IfOk result (λ row. D.tells → (bytes : ℕ → List ℕ) → HaveBytes (effective (reads (D.state disk.old))) (Some state.now) bytes → cons_option row [] ≡ config_row bytes (config_for command.now state.now)) }
+    ensures kept { OnOk result (D.tells → AreKept (effective (reads (D.state disk.old))) (versions_of (cons_option (config_for command.now state.now) []))) }
     ensures same { D.tells → GoesOn IsSame (D.state disk.old) (D.state disk.new) }
-    ensures stopped { IfErr result (λ stop. StopsReading D.tells (reads (D.state disk.old)) (versions_of (cons_option (config_version (call_of state.now command.now []) (change_named state.now command.now.change)) [])) (HasRisen (D.faults disk.old) (D.faults disk.new)) stop) }
+    ensures stopped { IfErr result (λ stop. StopsReading D.tells (reads (D.state disk.old)) (versions_of (cons_option (config_for command.now state.now) [])) (HasRisen (D.faults disk.old) (D.faults disk.new)) stop) }
     ensures later { D.faults disk.old ≤ D.faults disk.new }
 {
     state.note_sound();
@@ -138,14 +138,14 @@ fn asked_row<D: Disk>(
 ) -> Result<Option<(Path, Content)>, Stop>
     requires clean { D.tells → IsClean (D.state disk.old) }
     requires runs { makes_runs command.now.function ≡ true }
-    ensures row { IfOk result (λ row. (bytes : List ℕ) × (cons_option row [] ≡ config_row (λ number. bytes) (config_version (call_of state.now command.now []) (change_named state.now command.now.change)))) }
-    ensures told { IfOk result (λ row. D.tells → (bytes : ℕ → List ℕ) → HaveBytes (effective (reads (D.state disk.old))) (Some state.now) bytes → cons_option row [] ≡ config_row bytes (config_version (call_of state.now command.now []) (change_named state.now command.now.change))) }
+    ensures row { IfOk result (λ row. (bytes : List ℕ) × (cons_option row [] ≡ config_row (λ number. bytes) (config_for command.now state.now))) }
+    ensures told { IfOk result (λ row. D.tells → (bytes : ℕ → List ℕ) → HaveBytes (effective (reads (D.state disk.old))) (Some state.now) bytes → cons_option row [] ≡ config_row bytes (config_for command.now state.now)) }
     ensures some { OnOk result ((bytes : ℕ → List ℕ) × (first_differing view.now (with_bytes bytes (compared_for command.now state.now)) ≡ None)) }
-    ensures none { OnOk result (D.tells → (bytes : ℕ → List ℕ) → HaveBytes (effective (reads (D.state disk.old))) (Some state.now) bytes → first_differing view.now (with_bytes bytes (compared_for command.now state.now)) ≡ None) }
+    ensures none { OnOk result (D.tells → IsCompared (effective (reads (D.state disk.old))) state.now command.now view.now None) }
     ensures kept { OnOk result (D.tells → AreKept (effective (reads (D.state disk.old))) (asked_of command.now (Some state.now))) }
     ensures same { D.tells → GoesOn IsSame (D.state disk.old) (D.state disk.new) }
     ensures stopped { (who : List ℕ) (when : ℕ) → let refused = files_refused (given_of placing state.now no_bytes command.now who when view.now) in
-        IfErr result (λ stop. EndsAs ⊥ ⊥ (λ refusal. D.tells → (refused ≡ Some refusal) ⊎ ((refused ≡ None) × ((bytes : ℕ → List ℕ) → HaveBytes (effective (reads (D.state disk.old))) (Some state.now) bytes → first_differing view.now (with_bytes bytes (compared_for command.now state.now)) ≡ Some refusal) × AreKept (effective (reads (D.state disk.old))) (asked_of command.now (Some state.now)))) (λ name. D.tells → (refused ≡ None) × IsLostAmong (reads (D.state disk.old)) (asked_of command.now (Some state.now)) name) (HasRisen (D.faults disk.old) (D.faults disk.new)) ⊥ (outcome_of_stop stop)) }
+        IfErr result (λ stop. EndsAs ⊥ ⊥ (λ refusal. D.tells → (refused ≡ Some refusal) ⊎ ((refused ≡ None) × IsCompared (effective (reads (D.state disk.old))) state.now command.now view.now (Some refusal) × AreKept (effective (reads (D.state disk.old))) (asked_of command.now (Some state.now)))) (λ name. D.tells → (refused ≡ None) × IsLostAmong (reads (D.state disk.old)) (asked_of command.now (Some state.now)) name) (HasRisen (D.faults disk.old) (D.faults disk.new)) ⊥ (outcome_of_stop stop)) }
     ensures later { D.faults disk.old ≤ D.faults disk.new }
 {
     if let Some(refusal) = files_refused(alloc, state, command, view)? {
