@@ -1,12 +1,16 @@
-use Rattle.std.proofs.Common.{◌≡◌, ◌∙◌, ap, sym, subst, arith, drop, List, [], ◌∷◌, ◌++◌, Option, Err}
+use Rattle.std.proofs.Common.{◌≡◌, ◌∙◌, ap, sym, subst, arith, drop, List, [], ◌∷◌, ◌++◌, Option, Err, le_refl, refl}
 use Rattle.std.proofs.lemmas.List.{drop_all, map_more}
 use Rattle.ae_outside.proofs.Results.{err_is}
 use Rattle.ae_outside.proofs.Rising.{risen_later}
 use Rattle.ae_outside.specs.State.{reads}
-use Rattle.ae_outside.specs.Image.{Image}
-use Rattle.ae_outside.specs.Time.{same_on, same_reads}
+use Rattle.ae_outside.specs.Image.{Image, IsSame}
+use Rattle.ae_outside.specs.Time.{same_on, same_reads, goes_on_refl}
 use Rattle.ae_types.specs.Trees.{TreeRow, tree_path}
 use Rattle.ae_vault.specs.Vault.{effective}
+use Rattle.std.specs.Prelude.{IsSome}
+use Rattle.std.proofs.lemmas.List.Elements.{All-nil}
+use Rattle.ae_base.specs.Rows.{Row, paths_of}
+use Rattle.ae_exec.specs.Bytes.{AreThere}
 use Rattle.ae_exec.specs.Reading.{AreKept, FirstIsLost, versions_of}
 use Rattle.ae_exec.proofs.Endings.{ends_for}
 use Rattle.ae_exec.proofs.ReadInOrder.{kept-next, lost-next, lost-now}
@@ -53,4 +57,15 @@ loop-row-preserved g c = record {
       (subst (λ (x : Option Image). AreKept x (versions_of (c.row-item.result ∷ []))) same (c.in_ok-push_row.ensures.kept tells)) rest;
   same = λ tells. same_on (g.D.Disk.state c.args.disk.now) (g.D.Disk.state c.loop-row.disk) (g.D.Disk.state c.push_row.new.disk) (c.loop-row.invariant.same tells) (c.push_row.ensures.same tells);
   later = omega (arith, c.loop-row.invariant.later, c.push_row.ensures.later);
+}
+
+pub loop-row-init : goal.loop-row-init
+loop-row-init g c = record {
+  rows = λ tells. c.new-files.ensures;
+  paths = ap paths_of c.new-files.ensures;
+  there = subst AreThere (sym c.new-files.ensures) (All-nil (λ (row : Row). IsSome row.1));
+  kept = λ tells rest. rest;
+  lost = λ tells rest. rest;
+  same = λ tells. goes_on_refl IsSame (g.D.Disk.state c.args.disk.now) (λ image. refl);
+  later = le_refl _;
 }
