@@ -5,7 +5,7 @@ use Rattle.ae_outside.proofs.Rising.{counted_on}
 use Rattle.ae_outside.specs.Image.{WriteBegun, Overwritten}
 use Rattle.ae_outside.specs.State.{reads, GoesOn}
 use Rattle.ae_vault.specs.Pieces.{pack}
-use Rattle.ae_vault.proofs.Erring.{never}
+use Rattle.std.proofs.lemmas.Bool.{false≢true}
 use Rattle.ae_vault.proofs.Packs.{zeros_for, begun_on, wrote_piece, piece_there, piece_same}
 use Rattle.ae_vault.proofs.packed.put_piece.Goals as goal
 
@@ -71,4 +71,4 @@ pub returns-in_err-write_at-clause-cause : goal.returns-in_err-write_at-clause-c
 returns-in_err-write_at-clause-cause g c = counted_on _ _ _ _ _ c.fill.ensures.cause.later (λ is. refl) c.in_err-write_at.ensures.cause
 
 pub returns-clause-cause : goal.returns-clause-cause
-returns-clause-cause g c = record { later = le_trans c.fill.ensures.cause.later c.write_at.ensures.cause.later; rose = λ failed. absurd (never failed) }
+returns-clause-cause g c = record { later = le_trans c.fill.ensures.cause.later c.write_at.ensures.cause.later; rose = λ failed. absurd (false≢true failed) }

@@ -3,7 +3,7 @@ use Rattle.ae_outside.proofs.Results.{on_ok_of_err}
 use Rattle.ae_outside.proofs.Rising.{counted_on}
 use Rattle.ae_outside.specs.State.{reads}
 use Rattle.ae_vault.specs.Pieces.{pack}
-use Rattle.ae_vault.proofs.Erring.{never}
+use Rattle.std.proofs.lemmas.Bool.{false≢true}
 use Rattle.ae_vault.proofs.Packs.{piece_on, has_one_more}
 use Rattle.ae_vault.proofs.packed.put_pieces.Goals as goal
 
@@ -36,7 +36,7 @@ pub returns-clause-change : goal.returns-clause-change
 returns-clause-change g c = c.loop-piece.invariant.change
 
 pub returns-clause-cause : goal.returns-clause-cause
-returns-clause-cause g c = record { later = c.loop-piece.invariant.faults; rose = λ failed. absurd (never failed) }
+returns-clause-cause g c = record { later = c.loop-piece.invariant.faults; rose = λ failed. absurd (false≢true failed) }
 
 pub put_piece-requires-clause-size : goal.put_piece-requires-clause-size
 put_piece-requires-clause-size g c = c.loop-piece.invariant.size

@@ -2,7 +2,7 @@ use Rattle.std.proofs.Common.{refl, sym, ◌∙◌, arith}
 use Rattle.std.proofs.Math.Nat.{le_trans}
 use Rattle.ae_outside.proofs.Results.{on_ok_of_err}
 use Rattle.ae_outside.proofs.Rising.{counted_on}
-use Rattle.ae_vault.proofs.Erring.{never}
+use Rattle.std.proofs.lemmas.Bool.{false≢true}
 use Rattle.ae_vault.proofs.Packs.{packs_over, none_over, begun_behind, begun_before, no_items, some_items}
 use Rattle.ae_vault.proofs.packed.write_pieces.Goals as goal
 
@@ -22,7 +22,7 @@ returns-clause-change g c = λ t.
 -- ---- what follows from the calls alone
 
 pub returns-then-is_empty-clause-cause : goal.returns-then-is_empty-clause-cause
-returns-then-is_empty-clause-cause g c = record { later = omega arith; rose = λ failed. absurd (never failed) }
+returns-then-is_empty-clause-cause g c = record { later = omega arith; rose = λ failed. absurd (false≢true failed) }
 
 pub returns-in_err-size-clause-has : goal.returns-in_err-size-clause-has
 returns-in_err-size-clause-has g c = on_ok_of_err c.from_residual.result _ _ c.from_residual.ensures.1
