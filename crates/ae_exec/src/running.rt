@@ -1,5 +1,5 @@
 // The runs of a build or a test: the directories are made ready for them, and they are made.
-ghost use Rattle.std.specs.Prelude.{◌≡◌, ◌≤◌, ◌++◌, ◌∷◌, [], ℕ, List, Some, None, All, map, true, Ok, IfOk, IfErr, IsErrOf, OnOk};
+ghost use Rattle.std.specs.Prelude.{◌≡◌, ◌≤◌, ◌++◌, ◌∷◌, [], ℕ, List, Some, All, map, true, Ok, IfOk, IfErr, IsErrOf, OnOk};
 ghost use Rattle.ae_base.specs.Rows.{paths_of};
 ghost use Rattle.ae_outside.specs.Causes.{Counted, HasRisen};
 ghost use Rattle.ae_outside.specs.Image.{IsSame};
@@ -16,7 +16,6 @@ ghost use Rattle.ae_machine.specs.Directories.{dirs_after};
 ghost use Rattle.ae_base.specs.Rows.{Ascends};
 ghost use Rattle.ae_machine.specs.Call.{given_of};
 ghost use Rattle.ae_machine.specs.Fits.{makes_runs};
-ghost use Rattle.ae_machine.specs.Freezing.{configured};
 ghost use Rattle.ae_machine.specs.Jobs.{AnswersJobs, IsCommand};
 ghost use Rattle.ae_machine.specs.Sight.{with_bytes};
 ghost use Rattle.ae_machine.specs.Space.{placing};
@@ -24,7 +23,7 @@ ghost use Rattle.ae_machine.specs.Versions.{ShowsVersions, rows_based, rows_refr
 ghost use Rattle.ae_exec.specs.Bytes.{AreThere, HaveBytes, rows_at};
 ghost use Rattle.ae_exec.specs.Endings.{StopsReading};
 ghost use Rattle.ae_exec.specs.Reading.{AreKept, IsInside, based_for, refreshed_for, versions_for_runs, versions_of};
-ghost use Rattle.ae_exec.specs.Runs.{AreForRuns, HaveRun};
+ghost use Rattle.ae_exec.specs.Runs.{AreForRuns, HaveRun, IsConfigured};
 
 use crate::stop::Stop;
 use crate::version::read_version;
@@ -133,7 +132,7 @@ fn accepted_jobs(
     view: &View,
 ) -> Result<JobList, AllocError>
     requires runs { makes_runs command.now.function ≡ true }
-    requires accepted { (bytes : ℕ → List ℕ) × (who : List ℕ) × (when : ℕ) × ShowsVersions (Some state.now) bytes command.now who view.now × (configured (given_of placing state.now bytes command.now who when view.now) ≡ None) }
+    requires accepted { IsConfigured state.now command.now view.now }
     ensures jobs { IfOk result (λ jobs. (bytes : ℕ → List ℕ) (who : List ℕ) (when : ℕ) → ShowsVersions (Some state.now) bytes command.now who view.now → AnswersJobs (given_of placing state.now bytes command.now who when view.now) (Ok jobs)) }
     ensures commands { IfOk result (λ jobs. All (λ (job : Job). IsCommand job.command) jobs) }
 {
@@ -153,7 +152,7 @@ fn run_plan(
     based: FileList,
 ) -> Result<RunPlan, AllocError>
     requires runs { makes_runs command.now.function ≡ true }
-    requires accepted { (bytes : ℕ → List ℕ) × (who : List ℕ) × (when : ℕ) × ShowsVersions (Some state.now) bytes command.now who view.now × (configured (given_of placing state.now bytes command.now who when view.now) ≡ None) }
+    requires accepted { IsConfigured state.now command.now view.now }
     requires paths { paths_of based ≡ map tree_path (based_for command.now state.now) }
     ensures are { IfOk result (λ plan. (bytes : ℕ → List ℕ) (who : List ℕ) (when : ℕ) → refreshed ≡ with_bytes bytes (refreshed_for command.now state.now) → based ≡ with_bytes bytes (based_for command.now state.now) → ShowsVersions (Some state.now) bytes command.now who view.now → AreForRuns (given_of placing state.now bytes command.now who when view.now) plan.changes plan.tracked plan.jobs) }
     ensures commands { IfOk result (λ plan. All (λ (job : Job). IsCommand job.command) plan.jobs) }
@@ -219,7 +218,7 @@ pub(crate) fn ready<D: Disk>(
 ) -> Result<RunPlan, Stop>
     requires clean { D.tells → IsClean (D.state disk.old) }
     requires runs { makes_runs command.now.function ≡ true }
-    requires accepted { (bytes : ℕ → List ℕ) × (who : List ℕ) × (when : ℕ) × ShowsVersions (Some state.now) bytes command.now who view.now × (configured (given_of placing state.now bytes command.now who when view.now) ≡ None) }
+    requires accepted { IsConfigured state.now command.now view.now }
     ensures are { IfOk result (λ plan. D.tells → (bytes : ℕ → List ℕ) (who : List ℕ) (when : ℕ) → HaveBytes (effective (reads (D.state disk.old))) (Some state.now) bytes → ShowsVersions (Some state.now) bytes command.now who view.now → AreForRuns (given_of placing state.now bytes command.now who when view.now) plan.changes plan.tracked plan.jobs) }
     ensures commands { IfOk result (λ plan. All (λ (job : Job). IsCommand job.command) plan.jobs) }
     ensures ascends { IfOk result (λ plan. Ascends plan.tracked) }
