@@ -1,6 +1,6 @@
 -- The units of versions that meet nowhere.
 use Rattle.std.proofs.Common.{◌≡◌, ℕ, ◌+◌, ◌/◌, Bool, true, false, cond, ◌&&◌, ◌||◌, not, List, [], ◌∷◌, map, refl, ◌∙◌, arith}
-use Rattle.std.specs.Prelude.{nat_le, nat_lt, nat_eq, filter, length}
+use Rattle.std.specs.Prelude.{nat_le, nat_lt, nat_eq, filter}
 use Rattle.std.specs.List.{list_all, list_any}
 use Rattle.std.proofs.lemmas.Bool.Decides.{nat_tests}
 use Rattle.std.proofs.lemmas.Bool.{and_parts, false_from_ne_true}
