@@ -1,7 +1,8 @@
-use Rattle.std.proofs.Common.{List, ◌++◌, ◌∷◌, [], take, ◌∙◌, ap, sym}
+use Rattle.std.proofs.Common.{◌≡◌, List, ◌++◌, ◌∷◌, [], take, ◌∙◌, ap, sym, arith}
 use Rattle.std.specs.Prelude.{flat_map}
 use Rattle.std.specs.List.{filter_map}
-use Rattle.std.proofs.lemmas.List.{take_more, flat_map_more}
+use Rattle.std.proofs.lemmas.List.{take_all, take_more, flat_map_more}
+use Rattle.ae_outside.proofs.Results.{on_ok_of_err}
 use Rattle.ae_types.specs.declared.change.Change.{Change}
 use Rattle.ae_types.specs.declared.change.ChangeFile.{ChangeFile}
 use Rattle.ae_types.specs.declared.version.VersionRef.{VersionRef}
@@ -19,3 +20,11 @@ loop-change-preserved c =
     ∙ ap (λ (versions : List VersionRef). versions ++ frozen_versions change) c.loop-change.invariant
     ∙ flat_map_more frozen_versions before (take i changes) change
     ∙ ap (λ (front : List Change). before ++ flat_map frozen_versions front) (ap (λ (x : Change). take i changes ++ x ∷ []) c.change-item.is ∙ sym (take_more changes i change c.loop-change-test.true))
+
+pub returns : goal.returns
+returns c =
+    let all : take c.loop-change.change-index c.args.changes.now ≡ c.args.changes.now = take_all _ _ (omega arith) in
+    c.loop-change.invariant ∙ ap (λ (changes : List Change). c.args.versions.now.items ++ flat_map frozen_versions changes) all
+
+pub returns-in_err-add_frozen : goal.returns-in_err-add_frozen
+returns-in_err-add_frozen c = on_ok_of_err c.from_residual.result _ _ c.from_residual.ensures.1

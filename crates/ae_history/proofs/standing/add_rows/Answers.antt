@@ -1,7 +1,8 @@
-use Rattle.std.proofs.Common.{List, ◌++◌, ◌∷◌, [], take, ◌∙◌, ap, sym}
+use Rattle.std.proofs.Common.{◌≡◌, List, ◌++◌, ◌∷◌, [], take, ◌∙◌, ap, sym, arith}
 use Rattle.std.specs.Prelude.{flat_map}
 use Rattle.std.specs.List.{filter_map}
-use Rattle.std.proofs.lemmas.List.{take_more, flat_map_more}
+use Rattle.std.proofs.lemmas.List.{take_all, take_more, flat_map_more}
+use Rattle.ae_outside.proofs.Results.{on_ok_of_err}
 use Rattle.ae_types.specs.declared.file_table.FileRow.{FileRow}
 use Rattle.ae_types.specs.declared.file_table.FileVersion.{FileVersion}
 use Rattle.ae_types.specs.declared.version.VersionRef.{VersionRef}
@@ -19,3 +20,11 @@ loop-row-preserved c =
     ∙ ap (λ (versions : List VersionRef). versions ++ past_versions row) c.loop-row.invariant
     ∙ flat_map_more past_versions before (take i rows) row
     ∙ ap (λ (front : List FileRow). before ++ flat_map past_versions front) (ap (λ (x : FileRow). take i rows ++ x ∷ []) c.row-item.is ∙ sym (take_more rows i row c.loop-row-test.true))
+
+pub returns : goal.returns
+returns c =
+    let all : take c.loop-row.row-index c.args.rows.now ≡ c.args.rows.now = take_all _ _ (omega arith) in
+    c.loop-row.invariant ∙ ap (λ (rows : List FileRow). c.args.versions.now.items ++ flat_map past_versions rows) all
+
+pub returns-in_err-add_past : goal.returns-in_err-add_past
+returns-in_err-add_past c = on_ok_of_err c.from_residual.result _ _ c.from_residual.ensures.1
