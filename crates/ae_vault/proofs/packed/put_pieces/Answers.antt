@@ -1,9 +1,11 @@
-use Rattle.std.proofs.Common.{◌≤◌, length, refl, arith}
+use Rattle.std.proofs.Common.{◌≤◌, List, length, refl, subst, arith}
+use Rattle.std.proofs.lemmas.Bool.{false≢true}
+use Rattle.std.proofs.lemmas.List.{take_all}
 use Rattle.ae_outside.proofs.Results.{on_ok_of_err}
 use Rattle.ae_outside.proofs.Rising.{counted_on}
 use Rattle.ae_outside.specs.State.{reads}
-use Rattle.ae_vault.specs.Pieces.{pack}
-use Rattle.std.proofs.lemmas.Bool.{false≢true}
+use Rattle.ae_vault.specs.declared.piece.Piece.{Piece}
+use Rattle.ae_vault.specs.Pieces.{pack, HasPieces}
 use Rattle.ae_vault.proofs.Packs.{piece_on, has_one_more}
 use Rattle.ae_vault.proofs.packed.put_pieces.Goals as goal
 
@@ -40,3 +42,7 @@ returns-clause-cause g c = record { later = c.loop-piece.invariant.faults; rose 
 
 pub put_piece-requires-clause-size : goal.put_piece-requires-clause-size
 put_piece-requires-clause-size g c = c.loop-piece.invariant.size
+
+pub returns-clause-has : goal.returns-clause-has
+returns-clause-has g c = λ t.
+    subst (λ (ps : List Piece). HasPieces ps (reads (g.D.Disk.state c.loop-piece.disk) pack)) (take_all c.loop-piece.piece-index c.args.pieces.now (omega arith)) (c.loop-piece.invariant.has t)
