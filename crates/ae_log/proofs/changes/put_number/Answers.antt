@@ -4,6 +4,7 @@ use Rattle.ae_types.specs.Ordered.{itself}
 use Rattle.std.specs.Ordering.{nat_cmp}
 use Rattle.ae_types.proofs.Keys.{by_number}
 use Rattle.ae_log.proofs.Placing.{set-put, insert-put, searchable}
+use Rattle.ae_log.proofs.Erring.{on_ok_of_some_err}
 use Rattle.ae_log.proofs.changes.put_number.Goals as goal
 
 pub returns-in-Ok : goal.returns-in-Ok
@@ -19,3 +20,8 @@ returns-in_ok-insert-in-Err c =
     let position = rw (c.deref.ensures.value) at c.in-Err.ensures.position in
     let point = position (λ (y : ℕ). nat_cmp (itself y) c.args.number) (always_returns_same _ _ _ (λ a r f' called. search rules)) in
     rw (c.in_ok-insert-in-Err.ensures.items) (insert-put by_number itself c.args.number c.args.numbers.now.items c.in-Err.at bound (point (searchable by_number itself c.args.number c.args.numbers.now.items c.requires)))
+
+-- ---- where memory runs out
+
+pub returns-in_err-insert-in-Err : goal.returns-in_err-insert-in-Err
+returns-in_err-insert-in-Err c = on_ok_of_some_err c.from_residual.result _ _ c.from_residual.ensures.1

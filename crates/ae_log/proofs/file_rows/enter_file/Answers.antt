@@ -7,6 +7,7 @@ use Rattle.ae_types.specs.declared.file_table.FileRow.{FileRow}
 use Rattle.ae_types.specs.Found.{row_path}
 use Rattle.ae_log.specs.After.{row_of, new_entry}
 use Rattle.ae_log.proofs.EnteredRows.{entered-there, entered-new}
+use Rattle.ae_log.proofs.Erring.{on_ok_of_some_err}
 use Rattle.ae_log.proofs.file_rows.enter_file.Goals as goal
 
 pub returns-in-Ok : goal.returns-in-Ok
@@ -26,3 +27,14 @@ returns-in_ok-insert-in-Err c =
     c.in_ok-insert-in-Err.ensures.items
     ∙ ap (insert c.args.rows.now.items c.in-Err.at) (λ i. row_of (c.in_ok-path-in-Err.ensures i) ((c.in_ok-push-in-Err.ensures.ok ∙ ap (λ past. past ++ new_entry c.args.delta c.args.file.now ∷ []) c.new-past.ensures) i))
     ∙ entered-new c.args.delta c.args.file.now c.args.rows.now.items c.in-Err.at c.requires bound point
+
+-- ---- where memory runs out
+
+pub returns-in_err-path-in-Err : goal.returns-in_err-path-in-Err
+returns-in_err-path-in-Err c = on_ok_of_some_err c.from_residual.result _ _ c.from_residual.ensures.1
+
+pub returns-in_err-insert-in-Err : goal.returns-in_err-insert-in-Err
+returns-in_err-insert-in-Err c = on_ok_of_some_err c.from_residual-in_err-insert-in-Err.result _ _ c.from_residual-in_err-insert-in-Err.ensures.1
+
+pub returns-in_err-push-in-Err : goal.returns-in_err-push-in-Err
+returns-in_err-push-in-Err c = on_ok_of_some_err c.from_residual-in_err-push-in-Err.result _ _ c.from_residual-in_err-push-in-Err.ensures.1

@@ -5,6 +5,7 @@ use Rattle.ae_types.specs.Found.{lock_path}
 use Rattle.ae_base.specs.Rows.{text_cmp}
 use Rattle.ae_types.proofs.Keys.{by_text}
 use Rattle.ae_log.proofs.Placing.{set-put, insert-put, searchable}
+use Rattle.ae_log.proofs.Erring.{on_ok_of_some_err}
 use Rattle.ae_log.proofs.locks.put_lock.Goals as goal
 
 pub returns-in-Ok : goal.returns-in-Ok
@@ -20,3 +21,8 @@ returns-in_ok-insert-in-Err c =
     let position = rw (c.deref.ensures.value) at c.in-Err.ensures.position in
     let point = position (λ (y : Lock). text_cmp (lock_path y) c.args.lock.path) (always_returns_same _ _ _ (λ a r f' called. search rules)) in
     rw (c.in_ok-insert-in-Err.ensures.items) (insert-put by_text lock_path c.args.lock c.args.locks.now.items c.in-Err.at bound (point (searchable by_text lock_path c.args.lock.path c.args.locks.now.items c.requires)))
+
+-- ---- where memory runs out
+
+pub returns-in_err-insert-in-Err : goal.returns-in_err-insert-in-Err
+returns-in_err-insert-in-Err c = on_ok_of_some_err c.from_residual.result _ _ c.from_residual.ensures.1
