@@ -4,3 +4,4 @@ pub mod PathParts
 pub mod WordTables
 pub mod WordsFound
 pub mod Ascii
+pub mod Results

@@ -1,3 +1,2 @@
 pub mod DirLaws
-pub mod Results
 pub mod Rising

@@ -1,6 +1,6 @@
 -- What a printer has put, where the rest is still to come.
 use Rattle.std.proofs.Common.{◌≡◌, ℕ, ◌+◌, ◌<◌, List, [], ◌∷◌, ◌++◌, length, drop, get_or, ap, sym, subst, ◌∙◌, append_assoc, Result, Ok, Err, OnOk, rules, if◌then◌else◌}
-use Rattle.std.specs.Result.{IsErrAnd, is_ok}
+use Rattle.std.specs.Result.{is_ok}
 use Rattle.std.proofs.lemmas.List.{at_drop_more}
 use Rattle.ae_text.specs.Tree.{Node, Items, item, Members, member}
 use Rattle.ae_text.specs.Tree as node_is
@@ -77,11 +77,6 @@ three_put out a b c one two three first second third =
 pub four_put : (out name a b c one two three four : List ℕ) → one ≡ out ++ name → two ≡ one ++ a → three ≡ two ++ b → four ≡ three ++ c → four ≡ out ++ (name ++ (a ++ (b ++ c)))
 four_put out name a b c one two three four first second third fourth =
     three_put one a b c two three four second third fourth ∙ (ap (λ (l : List ℕ). l ++ (a ++ (b ++ c))) first ∙ append_assoc out name (a ++ (b ++ c)))
-
--- where there is an error, nothing is said of what was put
-pub none_put : {T E : Type 0} (r : Result T E) (Q : E → Type 0) (P : Type 0) → IsErrAnd r Q → OnOk r P
-none_put (Ok v) Q P is = absurd is
-none_put (Err e) Q P is = tt
 
 -- what follows from the end that is put, where it was
 pub where_put : {T E : Type 0} (r : Result T E) (after put before : List ℕ) (P : Type 0) → after ≡ (if is_ok r then put else before) → (after ≡ put → P) → OnOk r P

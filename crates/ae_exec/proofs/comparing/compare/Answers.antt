@@ -1,5 +1,5 @@
 use Rattle.std.proofs.Common.{rules, ◌≡◌, ◌∙◌, ap, sym, subst, All, List, [], map, Option, Some, None, Err}
-use Rattle.ae_outside.proofs.Results.{err_is}
+use Rattle.ae_base.proofs.Results.{err_is}
 use Rattle.ae_outside.specs.Image.{Image}
 use Rattle.ae_outside.specs.State.{reads}
 use Rattle.ae_types.specs.Trees.{TreeRow, tree_path}

@@ -1,5 +1,5 @@
 use Rattle.std.proofs.Common.{refl, ◌≡◌, ap, Err}
-use Rattle.ae_outside.proofs.Results.{err_is}
+use Rattle.ae_base.proofs.Results.{err_is}
 use Rattle.ae_exec.specs.Stopping.{stop_of_store}
 use Rattle.ae_exec.proofs.Stores.{named_at}
 use Rattle.ae_exec.proofs.Unloaded.{store_ends}

@@ -1,6 +1,6 @@
 use Rattle.std.proofs.Math.Nat.{le_trans}
 use Rattle.std.proofs.Common.{arith, refl, ap, subst, List, inl, inr}
-use Rattle.ae_outside.proofs.Results.{err_is}
+use Rattle.ae_base.proofs.Results.{err_is}
 use Rattle.ae_outside.proofs.Rising.{risen_later}
 use Rattle.ae_vault.specs.declared.piece.Piece.{Piece}
 use Rattle.ae_exec.specs.Exact.{ChangesExactly, with_records}

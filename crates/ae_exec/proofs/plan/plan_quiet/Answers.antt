@@ -1,7 +1,7 @@
 use Rattle.std.proofs.Math.Nat.{le_trans}
 use Rattle.std.proofs.Common.{◌≡◌, le_refl, refl, subst, Err}
 use Rattle.std.specs.Prelude.{option_copied}
-use Rattle.ae_outside.proofs.Results.{err_is}
+use Rattle.ae_base.proofs.Results.{err_is}
 use Rattle.ae_outside.proofs.Rising.{risen_later}
 use Rattle.ae_outside.specs.Image.{IsSame}
 use Rattle.ae_outside.specs.Site.{SiteState}

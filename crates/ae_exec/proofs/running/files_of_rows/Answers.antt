@@ -1,6 +1,6 @@
 use Rattle.std.proofs.Common.{◌≡◌, ◌∙◌, ap, sym, subst, arith, drop, List, [], ◌∷◌, ◌++◌, Option, Err, le_refl, refl}
 use Rattle.std.proofs.lemmas.List.{drop_all, map_more}
-use Rattle.ae_outside.proofs.Results.{err_is}
+use Rattle.ae_base.proofs.Results.{err_is}
 use Rattle.ae_outside.proofs.Rising.{risen_later}
 use Rattle.ae_outside.specs.State.{reads}
 use Rattle.ae_outside.specs.Image.{Image, IsSame}

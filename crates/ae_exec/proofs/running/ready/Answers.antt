@@ -1,5 +1,5 @@
 use Rattle.std.proofs.Common.{◌≡◌, ◌∙◌, ap, subst, [], Option, Err}
-use Rattle.ae_outside.proofs.Results.{err_is}
+use Rattle.ae_base.proofs.Results.{err_is}
 use Rattle.ae_outside.proofs.Rising.{risen_later}
 use Rattle.ae_outside.specs.Image.{Image}
 use Rattle.ae_outside.specs.State.{reads}

@@ -1,7 +1,7 @@
 use Rattle.std.proofs.Math.Nat.{le_trans}
 use Rattle.std.proofs.Common.{refl, ◌≡◌, ◌∙◌, ap, sym, subst, inr, ℕ, List, Option, Some, Err}
 use Rattle.ae_machine.proofs.SightShows.{reads-too}
-use Rattle.ae_outside.proofs.Results.{err_is}
+use Rattle.ae_base.proofs.Results.{err_is}
 use Rattle.ae_outside.proofs.Rising.{risen_later}
 use Rattle.ae_outside.specs.Image.{Image}
 use Rattle.ae_outside.specs.Site.{SiteState}

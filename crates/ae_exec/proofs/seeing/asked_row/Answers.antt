@@ -2,7 +2,7 @@ use Rattle.std.proofs.Common.{◌≡◌, ◌∙◌, ap, sym, subst, inl, inr, []
 use Rattle.std.proofs.Math.Nat.{le_trans}
 use Rattle.std.specs.List.{cons_option}
 use Rattle.std.proofs.lemmas.Result.{IfOk-weaker}
-use Rattle.ae_outside.proofs.Results.{err_is, on_ok}
+use Rattle.ae_base.proofs.Results.{err_is, on_ok}
 use Rattle.ae_outside.proofs.Rising.{risen_later}
 use Rattle.ae_outside.specs.Image.{Image}
 use Rattle.ae_outside.specs.State.{reads}

@@ -1,6 +1,6 @@
 use Rattle.std.proofs.Common.{rules, ◌≡◌, ◌∙◌, ap, sym, subst, ℕ, List, [], ◌∷◌, Option, Some, Err}
 use Rattle.std.specs.List.{cons_option}
-use Rattle.ae_outside.proofs.Results.{err_is}
+use Rattle.ae_base.proofs.Results.{err_is}
 use Rattle.ae_outside.specs.declared.dir.Content.TheVariants.{Bytes}
 use Rattle.ae_outside.specs.State.{reads}
 use Rattle.ae_types.specs.Trees.{TreeRow}

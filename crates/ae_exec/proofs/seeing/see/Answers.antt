@@ -1,7 +1,7 @@
 use Rattle.std.proofs.Common.{◌≡◌, ◌∙◌, ap, sym, ℕ, List, [], ◌++◌, Err}
 use Rattle.std.specs.List.{cons_option}
 use Rattle.ae_machine.proofs.SightShows.{config-asked-is}
-use Rattle.ae_outside.proofs.Results.{err_is}
+use Rattle.ae_base.proofs.Results.{err_is}
 use Rattle.ae_outside.specs.declared.dir.Content.{Content}
 use Rattle.ae_outside.specs.State.{reads}
 use Rattle.ae_vault.specs.Vault.{effective}

@@ -1,6 +1,6 @@
 use Rattle.std.proofs.Math.Nat.{le_trans}
 use Rattle.std.proofs.Common.{◌∙◌, rules, ◌≡◌, inl, inr, ap, Err}
-use Rattle.ae_outside.proofs.Results.{err_is}
+use Rattle.ae_base.proofs.Results.{err_is}
 use Rattle.ae_outside.proofs.Rising.{risen_later}
 use Rattle.ae_exec.specs.Stopping.{stop_of_dirs, stop_of_site}
 use Rattle.ae_exec.proofs.Endings.{site_ends}

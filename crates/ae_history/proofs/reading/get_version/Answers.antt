@@ -1,5 +1,5 @@
 use Rattle.std.proofs.Common.{subst}
-use Rattle.ae_outside.proofs.Results.{if_ok_of_err, ok_is_no_err}
+use Rattle.ae_base.proofs.Results.{if_ok_of_err, ok_is_no_err}
 use Rattle.ae_history.specs.Packed.{AreOf}
 use Rattle.ae_history.proofs.reading.get_version.Goals as goal
 

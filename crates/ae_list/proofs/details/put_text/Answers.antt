@@ -1,10 +1,10 @@
-use Rattle.ae_list.proofs.Erring.{on_ok_of_some_err}
+use Rattle.ae_base.proofs.Results.{on_ok_of_err}
 use Rattle.ae_list.proofs.details.put_text.Goals as goal
 
 -- ---- where memory runs out
 
 pub returns-in_err-put_name : goal.returns-in_err-put_name
-returns-in_err-put_name c = on_ok_of_some_err c.from_residual.result _ _ c.from_residual.ensures.1
+returns-in_err-put_name c = on_ok_of_err c.from_residual.result _ _ c.from_residual.ensures.1
 
 pub returns-in_err-put_shown : goal.returns-in_err-put_shown
-returns-in_err-put_shown c = on_ok_of_some_err c.from_residual-in_err-put_shown.result _ _ c.from_residual-in_err-put_shown.ensures.1
+returns-in_err-put_shown c = on_ok_of_err c.from_residual-in_err-put_shown.result _ _ c.from_residual-in_err-put_shown.ensures.1

@@ -1,4 +1,4 @@
-use Rattle.ae_outside.proofs.Results.{on_ok_of_err}
+use Rattle.ae_base.proofs.Results.{on_ok_of_err}
 use Rattle.ae_log.proofs.altering.change_parts.Goals as goal
 
 -- ---- where memory runs out

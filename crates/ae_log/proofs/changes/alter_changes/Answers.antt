@@ -1,5 +1,5 @@
 use Rattle.std.proofs.Common.{◌∙◌}
-use Rattle.ae_log.proofs.Erring.{on_ok_of_some_err}
+use Rattle.ae_base.proofs.Results.{on_ok_of_err}
 use Rattle.ae_log.proofs.changes.alter_changes.Goals as goal
 
 pub alter_change-requires : goal.alter_change-requires
@@ -13,10 +13,10 @@ alter_change-requires c =
 -- ---- where memory runs out
 
 pub returns-in_err-made_change-in-New : goal.returns-in_err-made_change-in-New
-returns-in_err-made_change-in-New c = on_ok_of_some_err c.from_residual.result _ _ c.from_residual.ensures.1
+returns-in_err-made_change-in-New c = on_ok_of_err c.from_residual.result _ _ c.from_residual.ensures.1
 
 pub returns-in_err-alter_change-in_default : goal.returns-in_err-alter_change-in_default
-returns-in_err-alter_change-in_default c = on_ok_of_some_err c.from_residual-in_err-alter_change-in_default.result _ _ c.from_residual-in_err-alter_change-in_default.ensures.1
+returns-in_err-alter_change-in_default c = on_ok_of_err c.from_residual-in_err-alter_change-in_default.result _ _ c.from_residual-in_err-alter_change-in_default.ensures.1
 
 pub returns-in_err-put_change-in-New : goal.returns-in_err-put_change-in-New
-returns-in_err-put_change-in-New c = on_ok_of_some_err c.from_residual-in_err-put_change-in-New.result _ _ c.from_residual-in_err-put_change-in-New.ensures.1
+returns-in_err-put_change-in-New c = on_ok_of_err c.from_residual-in_err-put_change-in-New.result _ _ c.from_residual-in_err-put_change-in-New.ensures.1

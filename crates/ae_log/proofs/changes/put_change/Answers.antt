@@ -5,7 +5,7 @@ use Rattle.ae_types.specs.Found.{number_of_change}
 use Rattle.std.specs.Ordering.{nat_cmp}
 use Rattle.ae_types.proofs.Keys.{by_number}
 use Rattle.ae_log.proofs.Placing.{set-put, insert-put, searchable}
-use Rattle.ae_log.proofs.Erring.{on_ok_of_some_err}
+use Rattle.ae_base.proofs.Results.{on_ok_of_err}
 use Rattle.ae_log.proofs.changes.put_change.Goals as goal
 
 pub returns-in-Ok : goal.returns-in-Ok
@@ -25,4 +25,4 @@ returns-in_ok-insert-in-Err c =
 -- ---- where memory runs out
 
 pub returns-in_err-insert-in-Err : goal.returns-in_err-insert-in-Err
-returns-in_err-insert-in-Err c = on_ok_of_some_err c.from_residual.result _ _ c.from_residual.ensures.1
+returns-in_err-insert-in-Err c = on_ok_of_err c.from_residual.result _ _ c.from_residual.ensures.1

@@ -7,7 +7,7 @@ use Rattle.ae_types.specs.declared.file_table.FileRow.{FileRow}
 use Rattle.ae_types.specs.Found.{row_path}
 use Rattle.ae_log.specs.After.{row_of, new_entry}
 use Rattle.ae_log.proofs.EnteredRows.{entered-there, entered-new}
-use Rattle.ae_log.proofs.Erring.{on_ok_of_some_err}
+use Rattle.ae_base.proofs.Results.{on_ok_of_err}
 use Rattle.ae_log.proofs.file_rows.enter_file.Goals as goal
 
 pub returns-in-Ok : goal.returns-in-Ok
@@ -31,10 +31,10 @@ returns-in_ok-insert-in-Err c =
 -- ---- where memory runs out
 
 pub returns-in_err-path-in-Err : goal.returns-in_err-path-in-Err
-returns-in_err-path-in-Err c = on_ok_of_some_err c.from_residual.result _ _ c.from_residual.ensures.1
+returns-in_err-path-in-Err c = on_ok_of_err c.from_residual.result _ _ c.from_residual.ensures.1
 
 pub returns-in_err-insert-in-Err : goal.returns-in_err-insert-in-Err
-returns-in_err-insert-in-Err c = on_ok_of_some_err c.from_residual-in_err-insert-in-Err.result _ _ c.from_residual-in_err-insert-in-Err.ensures.1
+returns-in_err-insert-in-Err c = on_ok_of_err c.from_residual-in_err-insert-in-Err.result _ _ c.from_residual-in_err-insert-in-Err.ensures.1
 
 pub returns-in_err-push-in-Err : goal.returns-in_err-push-in-Err
-returns-in_err-push-in-Err c = on_ok_of_some_err c.from_residual-in_err-push-in-Err.result _ _ c.from_residual-in_err-push-in-Err.ensures.1
+returns-in_err-push-in-Err c = on_ok_of_err c.from_residual-in_err-push-in-Err.result _ _ c.from_residual-in_err-push-in-Err.ensures.1

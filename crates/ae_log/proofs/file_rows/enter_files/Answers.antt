@@ -4,7 +4,7 @@ use Rattle.ae_types.specs.Found.{row_path}
 use Rattle.ae_types.proofs.Keys.{by_text}
 use Rattle.ae_types.proofs.Ordered.{Ascends, put-ascends}
 use Rattle.ae_log.specs.After.{all_entered}
-use Rattle.ae_log.proofs.Erring.{on_ok_of_some_err}
+use Rattle.ae_base.proofs.Results.{on_ok_of_err}
 use Rattle.ae_log.proofs.file_rows.enter_files.Goals as goal
 
 pub loop-file-preserved : goal.loop-file-preserved
@@ -20,4 +20,4 @@ loop-file-preserved c = record {
 -- ---- where memory runs out
 
 pub returns-in_err-enter_file : goal.returns-in_err-enter_file
-returns-in_err-enter_file c = on_ok_of_some_err c.from_residual.result _ _ c.from_residual.ensures.1
+returns-in_err-enter_file c = on_ok_of_err c.from_residual.result _ _ c.from_residual.ensures.1

@@ -6,7 +6,7 @@ use Rattle.ae_types.proofs.Keys.{by_text}
 use Rattle.ae_types.proofs.Ordered.{Ascends, put-ascends}
 use Rattle.ae_log.specs.Observed.{lock_of}
 use Rattle.ae_log.proofs.TakenLocks.{lock-more}
-use Rattle.ae_log.proofs.Erring.{on_ok_of_some_err}
+use Rattle.ae_base.proofs.Results.{on_ok_of_err}
 use Rattle.ae_log.proofs.locks.lock_files.Goals as goal
 
 pub loop-at-preserved : goal.loop-at-preserved
@@ -20,7 +20,7 @@ loop-at-preserved c =
 -- ---- where memory runs out
 
 pub returns-in_err-path : goal.returns-in_err-path
-returns-in_err-path c = on_ok_of_some_err c.from_residual.result _ _ c.from_residual.ensures.1
+returns-in_err-path c = on_ok_of_err c.from_residual.result _ _ c.from_residual.ensures.1
 
 pub returns-in_err-put_lock : goal.returns-in_err-put_lock
-returns-in_err-put_lock c = on_ok_of_some_err c.from_residual-in_err-put_lock.result _ _ c.from_residual-in_err-put_lock.ensures.1
+returns-in_err-put_lock c = on_ok_of_err c.from_residual-in_err-put_lock.result _ _ c.from_residual-in_err-put_lock.ensures.1

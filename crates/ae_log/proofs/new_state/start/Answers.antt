@@ -1,5 +1,5 @@
 use Rattle.ae_log.proofs.SoundProject.{sound-start}
-use Rattle.ae_log.proofs.Erring.{if_ok_of_some_err}
+use Rattle.ae_base.proofs.Results.{if_ok_of_err}
 use Rattle.ae_log.proofs.new_state.start.Goals as goal
 
 pub of-requires : goal.of-requires
@@ -8,4 +8,4 @@ of-requires c = rw (c.in_ok-made_project.ensures, c.new.ensures, c.new-2.ensures
 -- ---- where memory runs out
 
 pub returns-in_err-made_project : goal.returns-in_err-made_project
-returns-in_err-made_project c = if_ok_of_some_err c.from_residual.result _ _ c.from_residual.ensures.1
+returns-in_err-made_project c = if_ok_of_err c.from_residual.result _ _ c.from_residual.ensures.1

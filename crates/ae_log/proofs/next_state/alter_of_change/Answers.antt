@@ -1,7 +1,7 @@
 use Rattle.std.proofs.Common.{◌∙◌, ap, sym, subst, List}
 use Rattle.std.specs.Ordering.{nat_cmp}
 use Rattle.std.proofs.lemmas.Result.{on_ok_weaker}
-use Rattle.ae_outside.proofs.Results.{on_ok_of_err}
+use Rattle.ae_base.proofs.Results.{on_ok_of_err}
 use Rattle.ae_base.specs.Rows.{text_cmp}
 use Rattle.ae_types.specs.declared.change.Change.{Change}
 use Rattle.ae_types.specs.Observation.{Observation}

@@ -1,7 +1,7 @@
-use Rattle.ae_log.proofs.Erring.{if_ok_of_some_err}
+use Rattle.ae_base.proofs.Results.{if_ok_of_err}
 use Rattle.ae_log.proofs.runs.copy_path.Goals as goal
 
 -- ---- where memory runs out
 
 pub returns-in_err-copy-in-Some : goal.returns-in_err-copy-in-Some
-returns-in_err-copy-in-Some c = if_ok_of_some_err c.from_residual.result _ _ c.from_residual.ensures.1
+returns-in_err-copy-in-Some c = if_ok_of_err c.from_residual.result _ _ c.from_residual.ensures.1

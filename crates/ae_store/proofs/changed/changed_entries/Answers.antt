@@ -1,4 +1,4 @@
-use Rattle.ae_outside.proofs.Results.{if_ok_of_err}
+use Rattle.ae_base.proofs.Results.{if_ok_of_err}
 use Rattle.std.proofs.Common.{◌<◌, ℕ, List, Some, length, get_or, subst}
 use Rattle.std.specs.Prelude.{option_copied}
 use Rattle.ae_store.specs.Names.{project_file, files_file, change_file}

@@ -1,7 +1,7 @@
 use Rattle.std.proofs.Common.{◌≡◌, ℕ, ◌∙◌, ap}
 use Rattle.std.specs.Prelude.{option_copied}
 use Rattle.std.proofs.Common.{Vec, Global}
-use Rattle.ae_outside.proofs.Results.{on_ok_of_err, on_ok_both}
+use Rattle.ae_base.proofs.Results.{on_ok_of_err, on_ok_both}
 use Rattle.ae_store.specs.Batching.{is_state_name}
 use Rattle.ae_store.proofs.BatchNames.{change_name_is}
 use Rattle.ae_store.specs.Names.{change_file}

@@ -1,4 +1,4 @@
-use Rattle.ae_outside.proofs.Results.{on_ok_of_err}
+use Rattle.ae_base.proofs.Results.{on_ok_of_err}
 use Rattle.std.proofs.Common.{◌≡◌, ◌<◌, ℕ, List, Some, length, get_or, ◌∙◌, subst, below_more, arith}
 use Rattle.std.specs.Prelude.{option_copied}
 use Rattle.std.proofs.lemmas.List.{get_or_default}

@@ -1,6 +1,6 @@
 use Rattle.std.proofs.Common.{◌≡◌, ◌∙◌}
 use Rattle.std.specs.Prelude.{option_copied}
-use Rattle.ae_outside.proofs.Results.{on_ok_both, on_ok_of_err}
+use Rattle.ae_base.proofs.Results.{on_ok_both, on_ok_of_err}
 use Rattle.ae_store.specs.Names.{project_file}
 use Rattle.ae_store.specs.Changed.{text_of}
 use Rattle.ae_store.proofs.BatchSteps.{step_right, step_done, step_kept}

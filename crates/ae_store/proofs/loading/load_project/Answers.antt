@@ -1,7 +1,7 @@
 use Rattle.std.proofs.Common.{◌≢◌, ℕ, List, [], Err, refl, sym, ◌∙◌, ap, subst, arith}
 use Rattle.std.proofs.Math.Nat.{le_refl}
 use Rattle.std.proofs.lemmas.Result.{err_from_is_err_and}
-use Rattle.ae_outside.proofs.Results.{err_was}
+use Rattle.ae_base.proofs.Results.{err_was}
 use Rattle.ae_outside.proofs.Rising.{counted_on}
 use Rattle.ae_outside.specs.Image.{Image, IsSame}
 use Rattle.ae_outside.specs.State.{reads}

@@ -1,7 +1,8 @@
 use Rattle.std.proofs.Common.{ℕ, List, ◌++◌, ◌∙◌, ap, sym}
+use Rattle.ae_base.proofs.Results.{on_ok_of_err}
 use Rattle.ae_text.specs.Tree.{Node}
 use Rattle.ae_text.specs.Canonical.{value_text}
-use Rattle.ae_text.proofs.Printed.{none_put, put_item, item_fits, put_spaced, member_fits, three_put, four_put, where_put, seen_list, seen_fields}
+use Rattle.ae_text.proofs.Printed.{put_item, item_fits, put_spaced, member_fits, three_put, four_put, where_put, seen_list, seen_fields}
 use Rattle.ae_text.proofs.print.+value.Goals as goal
 
 pub put_items-loop-tree-preserved : goal.put_items-loop-tree-preserved
@@ -50,67 +51,67 @@ put_value-returns-in_ok-put_items-in-List-clause-text n c =
 -- ---- where memory runs out
 
 pub put_value-returns-in_err-push-in-List-clause-text : goal.put_value-returns-in_err-push-in-List-clause-text
-put_value-returns-in_err-push-in-List-clause-text n c = none_put c.from_residual.result _ _ c.from_residual.ensures.1
+put_value-returns-in_err-push-in-List-clause-text n c = on_ok_of_err c.from_residual.result _ _ c.from_residual.ensures.1
 
 pub put_value-returns-in_err-push-in-List-clause-types : goal.put_value-returns-in_err-push-in-List-clause-types
-put_value-returns-in_err-push-in-List-clause-types n c = none_put c.from_residual.result _ _ c.from_residual.ensures.1
+put_value-returns-in_err-push-in-List-clause-types n c = on_ok_of_err c.from_residual.result _ _ c.from_residual.ensures.1
 
 pub put_value-returns-in_err-put_items-in-List-clause-text : goal.put_value-returns-in_err-put_items-in-List-clause-text
-put_value-returns-in_err-put_items-in-List-clause-text n c = none_put c.from_residual-in_err-put_items-in-List.result _ _ c.from_residual-in_err-put_items-in-List.ensures.1
+put_value-returns-in_err-put_items-in-List-clause-text n c = on_ok_of_err c.from_residual-in_err-put_items-in-List.result _ _ c.from_residual-in_err-put_items-in-List.ensures.1
 
 pub put_value-returns-in_err-put_items-in-List-clause-types : goal.put_value-returns-in_err-put_items-in-List-clause-types
-put_value-returns-in_err-put_items-in-List-clause-types n c = none_put c.from_residual-in_err-put_items-in-List.result _ _ c.from_residual-in_err-put_items-in-List.ensures.1
+put_value-returns-in_err-put_items-in-List-clause-types n c = on_ok_of_err c.from_residual-in_err-put_items-in-List.result _ _ c.from_residual-in_err-put_items-in-List.ensures.1
 
 pub put_value-returns-in_err-push-in-Fields-clause-text : goal.put_value-returns-in_err-push-in-Fields-clause-text
-put_value-returns-in_err-push-in-Fields-clause-text n c = none_put c.from_residual-in_err-push-in-Fields.result _ _ c.from_residual-in_err-push-in-Fields.ensures.1
+put_value-returns-in_err-push-in-Fields-clause-text n c = on_ok_of_err c.from_residual-in_err-push-in-Fields.result _ _ c.from_residual-in_err-push-in-Fields.ensures.1
 
 pub put_value-returns-in_err-push-in-Fields-clause-types : goal.put_value-returns-in_err-push-in-Fields-clause-types
-put_value-returns-in_err-push-in-Fields-clause-types n c = none_put c.from_residual-in_err-push-in-Fields.result _ _ c.from_residual-in_err-push-in-Fields.ensures.1
+put_value-returns-in_err-push-in-Fields-clause-types n c = on_ok_of_err c.from_residual-in_err-push-in-Fields.result _ _ c.from_residual-in_err-push-in-Fields.ensures.1
 
 pub put_value-returns-in_err-put_spaced_fields-in-Fields-clause-text : goal.put_value-returns-in_err-put_spaced_fields-in-Fields-clause-text
-put_value-returns-in_err-put_spaced_fields-in-Fields-clause-text n c = none_put c.from_residual-in_err-put_spaced_fields-in-Fields.result _ _ c.from_residual-in_err-put_spaced_fields-in-Fields.ensures.1
+put_value-returns-in_err-put_spaced_fields-in-Fields-clause-text n c = on_ok_of_err c.from_residual-in_err-put_spaced_fields-in-Fields.result _ _ c.from_residual-in_err-put_spaced_fields-in-Fields.ensures.1
 
 pub put_value-returns-in_err-put_spaced_fields-in-Fields-clause-types : goal.put_value-returns-in_err-put_spaced_fields-in-Fields-clause-types
-put_value-returns-in_err-put_spaced_fields-in-Fields-clause-types n c = none_put c.from_residual-in_err-put_spaced_fields-in-Fields.result _ _ c.from_residual-in_err-put_spaced_fields-in-Fields.ensures.1
+put_value-returns-in_err-put_spaced_fields-in-Fields-clause-types n c = on_ok_of_err c.from_residual-in_err-put_spaced_fields-in-Fields.result _ _ c.from_residual-in_err-put_spaced_fields-in-Fields.ensures.1
 
 pub put_items-returns-in_err-extend_from_slice-clause-text : goal.put_items-returns-in_err-extend_from_slice-clause-text
-put_items-returns-in_err-extend_from_slice-clause-text n c = none_put c.from_residual.result _ _ c.from_residual.ensures.1
+put_items-returns-in_err-extend_from_slice-clause-text n c = on_ok_of_err c.from_residual.result _ _ c.from_residual.ensures.1
 
 pub put_items-returns-in_err-extend_from_slice-clause-types : goal.put_items-returns-in_err-extend_from_slice-clause-types
-put_items-returns-in_err-extend_from_slice-clause-types n c = none_put c.from_residual.result _ _ c.from_residual.ensures.1
+put_items-returns-in_err-extend_from_slice-clause-types n c = on_ok_of_err c.from_residual.result _ _ c.from_residual.ensures.1
 
 pub put_items-returns-in_err-put_value-clause-text : goal.put_items-returns-in_err-put_value-clause-text
-put_items-returns-in_err-put_value-clause-text n c = none_put c.from_residual-in_err-put_value.result _ _ c.from_residual-in_err-put_value.ensures.1
+put_items-returns-in_err-put_value-clause-text n c = on_ok_of_err c.from_residual-in_err-put_value.result _ _ c.from_residual-in_err-put_value.ensures.1
 
 pub put_items-returns-in_err-put_value-clause-types : goal.put_items-returns-in_err-put_value-clause-types
-put_items-returns-in_err-put_value-clause-types n c = none_put c.from_residual-in_err-put_value.result _ _ c.from_residual-in_err-put_value.ensures.1
+put_items-returns-in_err-put_value-clause-types n c = on_ok_of_err c.from_residual-in_err-put_value.result _ _ c.from_residual-in_err-put_value.ensures.1
 
 pub put_spaced_fields-returns-in_err-push-clause-text : goal.put_spaced_fields-returns-in_err-push-clause-text
-put_spaced_fields-returns-in_err-push-clause-text n c = none_put c.from_residual.result _ _ c.from_residual.ensures.1
+put_spaced_fields-returns-in_err-push-clause-text n c = on_ok_of_err c.from_residual.result _ _ c.from_residual.ensures.1
 
 pub put_spaced_fields-returns-in_err-push-clause-types : goal.put_spaced_fields-returns-in_err-push-clause-types
-put_spaced_fields-returns-in_err-push-clause-types n c = none_put c.from_residual.result _ _ c.from_residual.ensures.1
+put_spaced_fields-returns-in_err-push-clause-types n c = on_ok_of_err c.from_residual.result _ _ c.from_residual.ensures.1
 
 pub put_spaced_fields-returns-in_err-put_field-clause-text : goal.put_spaced_fields-returns-in_err-put_field-clause-text
-put_spaced_fields-returns-in_err-put_field-clause-text n c = none_put c.from_residual-in_err-put_field.result _ _ c.from_residual-in_err-put_field.ensures.1
+put_spaced_fields-returns-in_err-put_field-clause-text n c = on_ok_of_err c.from_residual-in_err-put_field.result _ _ c.from_residual-in_err-put_field.ensures.1
 
 pub put_spaced_fields-returns-in_err-put_field-clause-types : goal.put_spaced_fields-returns-in_err-put_field-clause-types
-put_spaced_fields-returns-in_err-put_field-clause-types n c = none_put c.from_residual-in_err-put_field.result _ _ c.from_residual-in_err-put_field.ensures.1
+put_spaced_fields-returns-in_err-put_field-clause-types n c = on_ok_of_err c.from_residual-in_err-put_field.result _ _ c.from_residual-in_err-put_field.ensures.1
 
 pub put_field-returns-in_err-extend_from_slice-clause-text : goal.put_field-returns-in_err-extend_from_slice-clause-text
-put_field-returns-in_err-extend_from_slice-clause-text n c = none_put c.from_residual.result _ _ c.from_residual.ensures.1
+put_field-returns-in_err-extend_from_slice-clause-text n c = on_ok_of_err c.from_residual.result _ _ c.from_residual.ensures.1
 
 pub put_field-returns-in_err-extend_from_slice-clause-types : goal.put_field-returns-in_err-extend_from_slice-clause-types
-put_field-returns-in_err-extend_from_slice-clause-types n c = none_put c.from_residual.result _ _ c.from_residual.ensures.1
+put_field-returns-in_err-extend_from_slice-clause-types n c = on_ok_of_err c.from_residual.result _ _ c.from_residual.ensures.1
 
 pub put_field-returns-in_err-extend_from_slice-2-clause-text : goal.put_field-returns-in_err-extend_from_slice-2-clause-text
-put_field-returns-in_err-extend_from_slice-2-clause-text n c = none_put c.from_residual-in_err-extend_from_slice-2.result _ _ c.from_residual-in_err-extend_from_slice-2.ensures.1
+put_field-returns-in_err-extend_from_slice-2-clause-text n c = on_ok_of_err c.from_residual-in_err-extend_from_slice-2.result _ _ c.from_residual-in_err-extend_from_slice-2.ensures.1
 
 pub put_field-returns-in_err-extend_from_slice-2-clause-types : goal.put_field-returns-in_err-extend_from_slice-2-clause-types
-put_field-returns-in_err-extend_from_slice-2-clause-types n c = none_put c.from_residual-in_err-extend_from_slice-2.result _ _ c.from_residual-in_err-extend_from_slice-2.ensures.1
+put_field-returns-in_err-extend_from_slice-2-clause-types n c = on_ok_of_err c.from_residual-in_err-extend_from_slice-2.result _ _ c.from_residual-in_err-extend_from_slice-2.ensures.1
 
 pub put_field-returns-in_err-put_value-clause-text : goal.put_field-returns-in_err-put_value-clause-text
-put_field-returns-in_err-put_value-clause-text n c = none_put c.from_residual-in_err-put_value.result _ _ c.from_residual-in_err-put_value.ensures.1
+put_field-returns-in_err-put_value-clause-text n c = on_ok_of_err c.from_residual-in_err-put_value.result _ _ c.from_residual-in_err-put_value.ensures.1
 
 pub put_field-returns-in_err-put_value-clause-types : goal.put_field-returns-in_err-put_value-clause-types
-put_field-returns-in_err-put_value-clause-types n c = none_put c.from_residual-in_err-put_value.result _ _ c.from_residual-in_err-put_value.ensures.1
+put_field-returns-in_err-put_value-clause-types n c = on_ok_of_err c.from_residual-in_err-put_value.result _ _ c.from_residual-in_err-put_value.ensures.1

@@ -1,5 +1,5 @@
 use Rattle.std.proofs.Common.{◌≡◌, ◌-◌, ◌+◌, Err, List, ap, sym, ◌∙◌, arith}
-use Rattle.ae_outside.proofs.Results.{err_was, if_ok_of_err, ok_is_no_err}
+use Rattle.ae_base.proofs.Results.{err_was, if_ok_of_err, ok_is_no_err}
 use Rattle.ae_vault.specs.declared.entry.Entry.{Entry}
 use Rattle.ae_vault.specs.declared.error.VaultError.TheVariants.{DiskFault, Damaged, Memory}
 use Rattle.ae_vault.specs.Vault.{entries_read}

@@ -1,5 +1,5 @@
 use Rattle.std.proofs.Common.{Err, ap}
-use Rattle.ae_outside.proofs.Results.{err_was, if_ok_of_err}
+use Rattle.ae_base.proofs.Results.{err_was, if_ok_of_err}
 use Rattle.ae_vault.specs.declared.error.VaultError.TheVariants.{DiskFault, Damaged}
 use Rattle.ae_vault.proofs.Erring.{damaged_is_no_fault}
 use Rattle.ae_vault.proofs.body.read_entry.Goals as goal

@@ -1,6 +1,6 @@
 use Rattle.std.proofs.Common.{◌∙◌}
 use Rattle.std.proofs.lemmas.Result.{IfOk-weaker}
-use Rattle.ae_outside.proofs.Results.{ok_is_no_err}
+use Rattle.ae_base.proofs.Results.{ok_is_no_err}
 use Rattle.ae_vault.proofs.BodyText.{kind_of_none, kind_absent, kind_with_bytes, kind_of_neither}
 use Rattle.ae_vault.proofs.Erring.{damaged_is_no_fault}
 use Rattle.ae_vault.proofs.body.read_kind.Goals as goal

@@ -1,6 +1,6 @@
 use Rattle.std.proofs.Common.{◌≤◌, ℕ, List, [], ◌∷◌, length, refl, subst, arith}
 use Rattle.std.proofs.Math.Nat.{le_trans}
-use Rattle.ae_outside.proofs.Results.{if_ok_of_err, on_ok_of_err}
+use Rattle.ae_base.proofs.Results.{if_ok_of_err, on_ok_of_err}
 use Rattle.ae_outside.proofs.Rising.{counted_on}
 use Rattle.ae_outside.specs.Image.{WriteBegun, Overwritten}
 use Rattle.ae_outside.specs.State.{reads, GoesOn}

@@ -1,7 +1,7 @@
 use Rattle.std.proofs.Common.{◌≤◌, List, length, refl, subst, arith}
 use Rattle.std.proofs.lemmas.Bool.{false≢true}
 use Rattle.std.proofs.lemmas.List.{take_all}
-use Rattle.ae_outside.proofs.Results.{on_ok_of_err}
+use Rattle.ae_base.proofs.Results.{on_ok_of_err}
 use Rattle.ae_outside.proofs.Rising.{counted_on}
 use Rattle.ae_outside.specs.State.{reads}
 use Rattle.ae_vault.specs.declared.piece.Piece.{Piece}

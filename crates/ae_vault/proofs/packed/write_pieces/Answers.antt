@@ -1,6 +1,6 @@
 use Rattle.std.proofs.Common.{refl, sym, ◌∙◌, arith}
 use Rattle.std.proofs.Math.Nat.{le_trans}
-use Rattle.ae_outside.proofs.Results.{on_ok_of_err}
+use Rattle.ae_base.proofs.Results.{on_ok_of_err}
 use Rattle.ae_outside.proofs.Rising.{counted_on}
 use Rattle.std.proofs.lemmas.Bool.{false≢true}
 use Rattle.ae_vault.proofs.Packs.{packs_over, none_over, begun_behind, begun_before, no_items, some_items}

@@ -1,6 +1,6 @@
 use Rattle.std.proofs.Common.{true, false, List, ap, refl, subst, ◌∙◌}
 use Rattle.std.proofs.Math.Nat.{le_trans}
-use Rattle.ae_outside.proofs.Results.{on_ok, on_ok_both, on_ok_of_err}
+use Rattle.ae_base.proofs.Results.{on_ok, on_ok_both, on_ok_of_err}
 use Rattle.ae_outside.proofs.Rising.{counted_on}
 use Rattle.ae_vault.specs.declared.entry.Entry.{Entry}
 use Rattle.ae_outside.specs.Image.{Image}

@@ -18,9 +18,9 @@ pub on_ok_of_err : {T E : Type 0} (r : Result T E) (Q : E → Type 0) (P : Type 
 on_ok_of_err (Ok v) Q P is = absurd is
 on_ok_of_err (Err x) Q P is = tt
 
-pub if_ok_of_err : {T E : Type 0} (r : Result T E) (e : E) (P : T → Type 0) → IsErrAnd r (λ (x : E). x ≡ e) → IfOk r P
-if_ok_of_err (Ok v) e P is = absurd is
-if_ok_of_err (Err x) e P is = tt
+pub if_ok_of_err : {T E : Type 0} (r : Result T E) (Q : E → Type 0) (P : T → Type 0) → IsErrAnd r Q → IfOk r P
+if_ok_of_err (Ok v) Q P is = absurd is
+if_ok_of_err (Err x) Q P is = tt
 
 -- an error of which this is ensured is this one
 pub err_is : {T E : Type 0} (r : Result T E) (e : E) → IsErrAnd r (λ (x : E). x ≡ e) → r ≡ Err e
