@@ -1,7 +1,8 @@
 """What the scripts share that run the program on real files.
 
 `run` runs a command as a process of its own. `traced` does so under a watch that sees each system call of the command once
-it looks at its folder, and may let one fail or stop the command there. That needs ptrace on x86-64 Linux.
+it looks at its folder, and may let one fail or stop the command there. `looked_at` answers which files a command looks at. Both
+need ptrace on x86-64 Linux.
 """
 import ctypes
 import os
@@ -27,7 +28,7 @@ WATCHED = {WRITE, PREAD, PWRITE, FLOCK, FSYNC, FDATASYNC, FTRUNCATE, MKDIR, GETD
 
 TRACEME, PEEKUSER, POKEUSER, SYSCALL, SETOPTIONS = 0, 3, 6, 24, 0x4200
 SEES_CALLS_ENDS_WITH_TRACER = 0x00100001
-NUMBER, ANSWER, FIRST_WORD = 15 * 8, 10 * 8, 14 * 8
+NUMBER, ANSWER, FIRST_WORD, SECOND_WORD = 15 * 8, 10 * 8, 14 * 8, 13 * 8
 STOP = object()
 
 ptrace = ctypes.CDLL(None, use_errno=True).ptrace
@@ -69,11 +70,12 @@ def can_trace():
     return False
 
 
-def start_traced(program, top, who, words, err):
+def start_traced(program, top, who, words, err, out=1):
     child = os.fork()
     if child == 0:
         try:
             os.chdir(top)
+            os.dup2(out, 1)
             os.dup2(err, 2)
             if ptrace(TRACEME, 0, None, None) != 0:
                 os._exit(126)
@@ -143,3 +145,25 @@ def traced(program, top, who, words, watch):
         status = follow(start_traced(program, top, who, words, err.fileno()), watch)
         err.seek(0)
         return os.waitstatus_to_exitcode(status), err.read().decode()
+
+
+def named_path(child):
+    """The path that the call of the child names as its second word."""
+    place = ptrace(PEEKUSER, child, SECOND_WORD, None)
+    with open(f"/proc/{child}/mem", "rb", buffering=0) as memory:
+        memory.seek(place)
+        return memory.read(4096).split(b"\0")[0].decode()
+
+
+def looked_at(program, top, who, words):
+    """Runs one command, and answers the paths of the files that it opens or asks the system about."""
+    paths = set()
+
+    def watch(_, number):
+        if number in [OPENAT, STATX]:
+            paths.add(named_path(child))
+
+    with tempfile.TemporaryFile() as said:
+        child = start_traced(program, top, who, words, said.fileno(), said.fileno())
+        follow(child, watch)
+    return paths

@@ -5,7 +5,7 @@ use Rattle.ae_base.specs.Words.{phase_word, which_word}
 use Rattle.ae_base.specs.declared.refusal.Subject.{Subject}
 use Rattle.ae_base.specs.declared.refusal.Subject.TheVariants as named
 use Rattle.ae_base.specs.declared.refusal.Refusal.{Refusal}
-use Rattle.ae_base.specs.declared.refusal.Refusal.TheVariants.{NoProject, ProjectExists, WrongProject, NoSuchChange, WrongPhase, NotAdministrator, NotDeveloper, NotReviewer, NotIntegrator, NotThisDeveloper, NotThisReviewer, NotThisIntegrator, DeveloperMayNotReview, DeveloperMayNotIntegrate, ReviewerMayNotIntegrate, UserThere, UserNotThere, LastAdministrator, FileInChange, FileNotInChange, FileNotInProject, FileInProject, FileLocked, OutOfDate, NoFiles, FileMissing, NoTest, BuildNeeded, TestNeeded, BaselineTestNeeded, RegressionNeeded, IntegrationInProgress, Differs, NoCommand, BadConfig, BadAttributes, Limit, NoSuchDelta, SpaceFull, NoAttributes, PathClash}
+use Rattle.ae_base.specs.declared.refusal.Refusal.TheVariants.{NoProject, ProjectExists, WrongProject, NoSuchChange, WrongPhase, NotAdministrator, NotDeveloper, NotReviewer, NotIntegrator, NotThisDeveloper, NotThisReviewer, NotThisIntegrator, DeveloperMayNotReview, DeveloperMayNotIntegrate, ReviewerMayNotIntegrate, UserThere, UserNotThere, LastAdministrator, FileInChange, FileNotInChange, FileNotInProject, FileInProject, FileLocked, OutOfDate, NoFiles, FileMissing, NoTest, BuildNeeded, TestNeeded, BaselineTestNeeded, RegressionNeeded, IntegrationInProgress, Differs, NoCommand, BadConfig, BadAttributes, Limit, NoSuchDelta, SpaceFull, NoAttributes, PathClash, NotShown, BadReport, ReportNumber, BadBundle, NotABranch, BranchBusy}
 
 abbrev pub number_of : Refusal → ℕ
 number_of NoProject = 1
@@ -49,6 +49,12 @@ number_of NoSuchDelta = 38
 number_of SpaceFull = 39
 number_of (NoAttributes _) = 40
 number_of (PathClash _) = 41
+number_of (NotShown _) = 42
+number_of (BadReport _) = 43
+number_of (ReportNumber _) = 44
+number_of BadBundle = 45
+number_of NotABranch = 46
+number_of (BranchBusy _) = 47
 
 -- a user, or `-` where there is none
 abbrev pub user_or_dash : Option (List ℕ) → List ℕ
@@ -105,6 +111,12 @@ text_of NoSuchDelta = codes "there is no such delta"
 text_of SpaceFull = codes "the version space is full"
 text_of (NoAttributes path) = codes "there is no file \"" ++ path ++ codes "\""
 text_of (PathClash path) = file_text path ++ codes " clashes with a folder"
+text_of (NotShown delta) = codes "delta " ++ decimal delta ++ codes " is not shown"
+text_of (BadReport line) = codes "report, line " ++ decimal line
+text_of (ReportNumber line) = codes "report, line " ++ decimal line ++ codes ": number out of range"
+text_of BadBundle = codes "the change set is not understood"
+text_of NotABranch = codes "this is not a branch"
+text_of (BranchBusy change) = codes "change " ++ decimal change ++ codes " of the branch is not completed"
 
 -- what a refusal names
 abbrev pub subject_text : Subject → List ℕ
@@ -116,6 +128,7 @@ subject_text (named.Lock path change) = file_text path.now ++ (codes " is locked
 subject_text (named.Edits path origin edit) = file_text path.now ++ edits_text origin edit
 subject_text (named.Phase phase) = phase_word phase
 subject_text (named.Change change) = decimal change.now
+subject_text (named.Delta delta) = decimal delta.now
 subject_text (named.Line line) = decimal line
 subject_text (named.Limit which number) = which_word which ++ codes " is " ++ decimal number
 

@@ -2,7 +2,7 @@
 ghost use Rattle.std.specs.Prelude.{◌≡◌, ◌++◌, IfOk, Some};
 ghost use Rattle.ae_base.specs.Refusals.{number_of, text_of, message_of, file_text, subject_text};
 
-use crate::{ChangeNo, Path, Phase, User, Which};
+use crate::{ChangeNo, Delta, Path, Phase, User, Which};
 use std::alloc::{AllocError, Global};
 use std::fmt;
 
@@ -50,10 +50,16 @@ pub enum Refusal {
     SpaceFull,
     NoAttributes(Path),
     PathClash(Path),
+    NotShown(Delta),
+    BadReport(u32),
+    ReportNumber(u32),
+    BadBundle,
+    NotABranch,
+    BranchBusy(ChangeNo),
 }
 
 impl Refusal {
-    /// Its number, 1 to 41.
+    /// Its number, 1 to 47.
     pub fn number(&self) -> u8
         ensures { result ≡ number_of self.now }
     {
@@ -99,6 +105,12 @@ impl Refusal {
             Refusal::SpaceFull => 39,
             Refusal::NoAttributes(_) => 40,
             Refusal::PathClash(_) => 41,
+            Refusal::NotShown(_) => 42,
+            Refusal::BadReport(_) => 43,
+            Refusal::ReportNumber(_) => 44,
+            Refusal::BadBundle => 45,
+            Refusal::NotABranch => 46,
+            Refusal::BranchBusy(_) => 47,
         }
     }
 
@@ -177,6 +189,20 @@ impl Refusal {
             Refusal::SpaceFull => ("the version space is full", Subject::Nothing, ""),
             Refusal::NoAttributes(path) => ("there is no file \"", Subject::Path(path), "\""),
             Refusal::PathClash(path) => ("", Subject::File(path), " clashes with a folder"),
+            Refusal::NotShown(delta) => ("delta ", Subject::Delta(delta), " is not shown"),
+            Refusal::BadReport(line) => ("report, line ", Subject::Line(*line), ""),
+            Refusal::ReportNumber(line) => (
+                "report, line ",
+                Subject::Line(*line),
+                ": number out of range",
+            ),
+            Refusal::BadBundle => ("the change set is not understood", Subject::Nothing, ""),
+            Refusal::NotABranch => ("this is not a branch", Subject::Nothing, ""),
+            Refusal::BranchBusy(change) => (
+                "change ",
+                Subject::Change(change),
+                " of the branch is not completed",
+            ),
         }
     }
 
@@ -217,6 +243,7 @@ enum Subject<'a> {
     Edits(&'a Path, u32, u32),
     Phase(Phase),
     Change(&'a ChangeNo),
+    Delta(&'a Delta),
     Line(u32),
     Limit(Which, u64),
 }
@@ -238,6 +265,7 @@ impl fmt::Display for Subject<'_> {
             ),
             Subject::Phase(phase) => f.write_str(phase.word()),
             Subject::Change(change) => write!(f, "{change}"),
+            Subject::Delta(delta) => write!(f, "{delta}"),
             Subject::Line(line) => write!(f, "{line}"),
             Subject::Limit(which, number) => write!(f, "{} is {number}", which.word()),
         }

@@ -134,3 +134,7 @@ kinds-fit function.IntegrateFail given is short = one-fits _ tt
 kinds-fit function.List given is short = All-nil FitsRegion
 kinds-fit function.Script given is short = All-nil FitsRegion
 kinds-fit function.Generate given is short = All-nil FitsRegion
+kinds-fit function.Audit given is short = All-nil FitsRegion
+kinds-fit function.Report given is short = All-nil FitsRegion
+kinds-fit function.DistributionSend given is short = All-nil FitsRegion
+kinds-fit function.DistributionReceive given is short = All-nil FitsRegion

@@ -122,6 +122,10 @@ bytes-by function.List given who when c typed = tt
 bytes-by function.NewProject given who when c typed = tt
 bytes-by function.Script given who when c typed = tt
 bytes-by function.Generate given who when c typed = tt
+bytes-by function.Audit given who when c typed = tt
+bytes-by function.Report given who when c typed = tt
+bytes-by function.DistributionSend given who when c typed = tt
+bytes-by function.DistributionReceive given who when c typed = tt
 bytes-by _ given who when c typed = (tt, tt)
 
 -- ---- the log

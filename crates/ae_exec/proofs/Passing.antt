@@ -87,6 +87,10 @@ pass-alone function.List given there = absurd there
 pass-alone function.NewProject given there = absurd there
 pass-alone function.Script given there = absurd there
 pass-alone function.Generate given there = absurd there
+pass-alone function.Audit given there = absurd there
+pass-alone function.Report given there = absurd there
+pass-alone function.DistributionSend given there = absurd there
+pass-alone function.DistributionReceive given there = absurd there
 pass-alone _ given there = (refl, single _ there)
 
 -- ---- the events of an answer

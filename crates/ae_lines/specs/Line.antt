@@ -1,5 +1,5 @@
 -- What a line of a script says.
-use Rattle.std.specs.Prelude.{ℕ, ◌≡◌, ◌==◌, ◌≤◌, nat_eq, nat_le, List, [], ◌∷◌, if◌then◌else◌, Bool, true, false, Option, Some, None, codes, length, drop}
+use Rattle.std.specs.Prelude.{ℕ, ◌≡◌, ◌==◌, ◌≤◌, nat_eq, nat_le, List, [], ◌∷◌, if◌then◌else◌, Bool, true, false, not, Option, Some, None, codes, length, drop}
 use Rattle.std.specs.List.{list_all, starts_with}
 use Rattle.std.specs.Option.{option_map, option_and_then}
 use Rattle.std.specs.Str.{bytes_eq}
@@ -13,6 +13,7 @@ use Rattle.ae_words.specs.declared.command.Command.{Command}
 use Rattle.ae_words.specs.declared.table.Function.{Function}
 use Rattle.ae_words.specs.declared.table.Function.TheVariants as function
 use Rattle.ae_words.specs.Formed.{IsFormed, is_change_number}
+use Rattle.ae_words.specs.Table.{is_to_come}
 use Rattle.ae_lines.specs.declared.line.Line.{Line}
 use Rattle.ae_lines.specs.declared.line.Line.TheVariants.{Nothing, As, At, Do, Put, Fill, Remove}
 use Rattle.ae_lines.specs.Tokens.{tokens}
@@ -125,11 +126,11 @@ said text = if is_comment text then says Nothing else said_where (tokens text)
 abbrev pub is_ascii_word : List ℕ → Bool
 is_ascii_word word = list_all (λ (b : ℕ). nat_le b 127) word
 
--- a function that may stand in a script: not a script itself, and not the generator
+-- a function that may stand in a script: not a script itself, not the generator, and none to come
 abbrev pub is_part_of_script : Function → Bool
 is_part_of_script function.Script = false
 is_part_of_script function.Generate = false
-is_part_of_script _ = true
+is_part_of_script f = not (is_to_come f)
 
 -- these words are this command, whose function may stand in a script
 pub record IsCommandOf (words : List (List ℕ)) (command : Command) : Type 0 where

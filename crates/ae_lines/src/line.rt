@@ -251,11 +251,11 @@ fn words_of(alloc: Global, rest: &[Text]) -> Result<Option<Vec<String>>, AllocEr
     Ok(Some(words))
 }
 
-// Whether the function may stand in a script: not a script itself, and not the generator.
+// Whether the function may stand in a script: not a script itself, not the generator, and none to come.
 fn is_part_of_script(function: Function) -> bool
     ensures { result ≡ is_part_of_script function }
 {
-    !matches!(function, Function::Script | Function::Generate)
+    !matches!(function, Function::Script | Function::Generate) && !function.is_to_come()
 }
 
 // The command that these words are, where its function may stand in a script.

@@ -1,5 +1,5 @@
 -- The logs that commands make.
-use Rattle.std.specs.Prelude.{◌≡◌, ℕ, ◌≤◌, Bool, true, false, List, [], Option, Some, None}
+use Rattle.std.specs.Prelude.{◌≡◌, ℕ, ◌≤◌, Bool, true, false, not, List, [], Option, Some, None}
 use Rattle.ae_base.specs.Limits.{last_moment}
 use Rattle.ae_base.specs.Names.{IsUser}
 use Rattle.ae_types.specs.Observation.{Observation}
@@ -11,6 +11,7 @@ use Rattle.ae_words.specs.declared.command.Command.{Command}
 use Rattle.ae_words.specs.declared.table.Function.{Function}
 use Rattle.ae_words.specs.declared.table.Function.TheVariants as function
 use Rattle.ae_words.specs.Formed.{IsFormed}
+use Rattle.ae_words.specs.Table.{is_to_come}
 use Rattle.ae_machine.specs.declared.verdict.Verdict.{Verdict}
 use Rattle.ae_machine.specs.declared.verdict.Verdict.TheVariants.{Accept}
 use Rattle.ae_machine.specs.declared.view.View.{View}
@@ -27,11 +28,11 @@ pub record Occasion : Type 0 where
   pub when : ℕ
   pub view : View
 
--- a script and the generator are no command of their own, but many
+-- a script and the generator are no command of their own, but many, and one to come is none yet
 abbrev pub is_one_command : Function → Bool
 is_one_command function.Script = false
 is_one_command function.Generate = false
-is_one_command _ = true
+is_one_command f = not (is_to_come f)
 
 -- the view fits what stands, and has all of its runs
 abbrev pub ViewFits : Option Observation → (ℕ → List ℕ) → Occasion → Type 0

@@ -71,6 +71,10 @@ part_is_one function.Test is = refl
 part_is_one function.List is = refl
 part_is_one function.Script is = is
 part_is_one function.Generate is = is
+part_is_one function.Audit is = is
+part_is_one function.Report is = is
+part_is_one function.DistributionSend is = is
+part_is_one function.DistributionReceive is = is
 
 -- ---- a disk that isn't called
 

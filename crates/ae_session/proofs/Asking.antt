@@ -7,6 +7,7 @@ use Rattle.ae_words.specs.declared.read.WordsError.TheVariants as words_error
 use Rattle.ae_words.specs.declared.table.Function.{Function}
 use Rattle.ae_words.specs.declared.table.Function.TheVariants as function
 use Rattle.ae_words.specs.Grammar.{IsCommand, IsFirstBad}
+use Rattle.ae_words.specs.Table.{is_to_come}
 use Rattle.ae_words.proofs.FirstBad.{one_command, never_both}
 use Rattle.ae_words.proofs.OneAnswer.{one_place}
 use Rattle.ae_machine.specs.Legal.{is_one_command}
@@ -14,33 +15,54 @@ use Rattle.ae_script.specs.Step.{may_give}
 use Rattle.ae_session.specs.declared.request.Request.{Request}
 use Rattle.ae_session.specs.declared.request.RequestError.{RequestError}
 use Rattle.ae_session.specs.declared.request.RequestError.TheVariants as error
-use Rattle.ae_session.specs.Request.{AsksFor, BadAt, nobody, bad_word, NeverBoth, OnePlace}
+use Rattle.ae_session.specs.Request.{AsksFor, BadAt, nobody, to_come, bad_word, is_one_to_come, names_one_to_come, NeverBoth, OnePlace}
 
 pub asks_once : (words : List (List ℕ)) (who : List ℕ) (now : ℕ) (command other : Command) → AsksFor words who now command → AsksFor words who now other → command ≡ other
 asks_once words who now command other a b = one_command words command other a.said b.said
 
 -- ---- good or bad
 
-good_bad : (words : List (List ℕ)) (who : List ℕ) (now place : ℕ) (command : Command) → BadAt words who now place → may_give who now ≡ true → IsCommand words command → ⊥
-good_bad words who now place command (nobody may is) asks said = absurd (let both : true ≡ false = sym asks ∙ may in cc)
-good_bad words who now place command (bad_word first may is told) asks said = never_both words command first said is
+named_there : (words : List (List ℕ)) (command : Command) → IsCommand words command → names_one_to_come words ≡ is_to_come command.function
+named_there words command said = ap is_one_to_come said.names
+
+-- the function of a command is there, where its words name none to come
+pub there_if : (words : List (List ℕ)) (command : Command) → IsCommand words command → names_one_to_come words ≡ false → is_to_come command.function ≡ false
+there_if words command said none = sym (named_there words command said) ∙ none
+
+good_bad : (words : List (List ℕ)) (who : List ℕ) (now place : ℕ) (command : Command) → BadAt words who now place → may_give who now ≡ true → IsCommand words command → is_to_come command.function ≡ false → ⊥
+good_bad words who now place command (nobody may is) asks said there = absurd (let both : true ≡ false = sym asks ∙ may in cc)
+good_bad words who now place command (to_come may named is) asks said there = absurd (let both : true ≡ false = sym named ∙ named_there words command said ∙ there in cc)
+good_bad words who now place command (bad_word first may none is told) asks said there = never_both words command first said is
+
+-- a function that is one command is there
+one_is_there : (f : Function) → is_one_command f ≡ true → is_to_come f ≡ false
+one_is_there function.Audit one = absurd (let both : false ≡ true = one in cc)
+one_is_there function.Report one = absurd (let both : false ≡ true = one in cc)
+one_is_there function.DistributionSend one = absurd (let both : false ≡ true = one in cc)
+one_is_there function.DistributionReceive one = absurd (let both : false ≡ true = one in cc)
+one_is_there _ one = refl
 
 pub never_both_asked : NeverBoth
 never_both_asked words who now place bad = record {
-  no_command = λ command asks. good_bad words who now place command bad asks.may asks.said;
-  no_script = λ asks. good_bad words who now place asks.command bad asks.may asks.said;
-  no_project = λ start changes files asks. good_bad words who now place asks.command bad asks.may asks.said;
+  no_command = λ command asks. good_bad words who now place command bad asks.may asks.said (one_is_there command.function asks.one);
+  no_script = λ asks. good_bad words who now place asks.command bad asks.may asks.said (ap is_to_come asks.is_script);
+  no_project = λ start changes files asks. good_bad words who now place asks.command bad asks.may asks.said (ap is_to_come asks.generates);
 }
 
 pub one_bad_place : OnePlace
 one_bad_place words who now place other (nobody may is) (nobody can at) = is ∙ sym at
-one_bad_place words who now place other (nobody may is) (bad_word first can at told) = absurd (let both : true ≡ false = sym can ∙ may in cc)
-one_bad_place words who now place other (bad_word first may is told_so) (nobody can at) = absurd (let both : true ≡ false = sym may ∙ can in cc)
-one_bad_place words who now place other (bad_word first may is told_so) (bad_word second can at told_too) = told_so ∙ ap told (one_place words first second is at) ∙ sym told_too
+one_bad_place words who now place other (nobody may is) (to_come can named at) = absurd (let both : true ≡ false = sym can ∙ may in cc)
+one_bad_place words who now place other (nobody may is) (bad_word first can none at told) = absurd (let both : true ≡ false = sym can ∙ may in cc)
+one_bad_place words who now place other (to_come may named is) (nobody can at) = absurd (let both : true ≡ false = sym may ∙ can in cc)
+one_bad_place words who now place other (to_come may named is) (to_come can too at) = is ∙ sym at
+one_bad_place words who now place other (to_come may named is) (bad_word first can none at told) = absurd (let both : true ≡ false = sym named ∙ none in cc)
+one_bad_place words who now place other (bad_word first may none is told_so) (nobody can at) = absurd (let both : true ≡ false = sym may ∙ can in cc)
+one_bad_place words who now place other (bad_word first may none is told_so) (to_come can named at) = absurd (let both : true ≡ false = sym named ∙ none in cc)
+one_bad_place words who now place other (bad_word first may none is told_so) (bad_word second can too at told_too) = told_so ∙ ap told (one_place words first second is at) ∙ sym told_too
 
 -- what was read asks for something
-pub read_not_bad : (words : List (List ℕ)) (who : List ℕ) (now place : ℕ) (command : Command) → may_give who now ≡ true → IsCommand words command → BadAt words who now place → ⊥
-read_not_bad words who now place command may said bad = good_bad words who now place command bad may said
+pub read_not_bad : (words : List (List ℕ)) (who : List ℕ) (now place : ℕ) (command : Command) → may_give who now ≡ true → IsCommand words command → is_to_come command.function ≡ false → BadAt words who now place → ⊥
+read_not_bad words who now place command may said there bad = good_bad words who now place command bad may said there
 
 -- no words ask for two of these
 pub not_both_functions : (words : List (List ℕ)) (a b : Command) → IsCommand words a → IsCommand words b → is_one_command a.function ≡ true → is_one_command b.function ≡ false → ⊥
@@ -49,47 +71,51 @@ not_both_functions words a b is_a is_b one none = absurd (let both : false ≡ t
 pub not_both_kinds : (words : List (List ℕ)) (a b : Command) → IsCommand words a → IsCommand words b → a.function ≡ function.Script → b.function ≡ function.Generate → ⊥
 not_both_kinds words a b is_a is_b script made = absurd (let both : function.Script ≡ function.Generate = sym script ∙ ap (λ (c : Command). c.function) (one_command words a b is_a is_b) ∙ made in cc)
 
--- a function that is neither a script nor the generator is one command
-pub one_of_others : (f : Function) → (f ≡ function.Script → ⊥) → (f ≡ function.Generate → ⊥) → is_one_command f ≡ true
-one_of_others function.Build no_script no_made = refl
-one_of_others function.ChangeAttributes no_script no_made = refl
-one_of_others function.CopyFile no_script no_made = refl
-one_of_others function.CopyFileUndo no_script no_made = refl
-one_of_others function.DevelopBegin no_script no_made = refl
-one_of_others function.DevelopBeginUndo no_script no_made = refl
-one_of_others function.DevelopEnd no_script no_made = refl
-one_of_others function.DevelopEndUndo no_script no_made = refl
-one_of_others function.Generate no_script no_made = absurd (no_made refl)
-one_of_others function.IntegrateBegin no_script no_made = refl
-one_of_others function.IntegrateBeginUndo no_script no_made = refl
-one_of_others function.IntegrateFail no_script no_made = refl
-one_of_others function.IntegratePass no_script no_made = refl
-one_of_others function.List no_script no_made = refl
-one_of_others function.NewAdministrator no_script no_made = refl
-one_of_others function.NewChange no_script no_made = refl
-one_of_others function.NewChangeUndo no_script no_made = refl
-one_of_others function.NewDeveloper no_script no_made = refl
-one_of_others function.NewFile no_script no_made = refl
-one_of_others function.NewFileUndo no_script no_made = refl
-one_of_others function.NewIntegrator no_script no_made = refl
-one_of_others function.NewProject no_script no_made = refl
-one_of_others function.NewReviewer no_script no_made = refl
-one_of_others function.NewTest no_script no_made = refl
-one_of_others function.NewTestUndo no_script no_made = refl
-one_of_others function.ProjectAttributes no_script no_made = refl
-one_of_others function.RemoveAdministrator no_script no_made = refl
-one_of_others function.RemoveDeveloper no_script no_made = refl
-one_of_others function.RemoveFile no_script no_made = refl
-one_of_others function.RemoveFileUndo no_script no_made = refl
-one_of_others function.RemoveIntegrator no_script no_made = refl
-one_of_others function.RemoveReviewer no_script no_made = refl
-one_of_others function.ReviewBegin no_script no_made = refl
-one_of_others function.ReviewBeginUndo no_script no_made = refl
-one_of_others function.ReviewFail no_script no_made = refl
-one_of_others function.ReviewPass no_script no_made = refl
-one_of_others function.ReviewPassUndo no_script no_made = refl
-one_of_others function.Script no_script no_made = absurd (no_script refl)
-one_of_others function.Test no_script no_made = refl
+-- a function that is there, and is neither a script nor the generator, is one command
+pub one_of_others : (f : Function) → (f ≡ function.Script → ⊥) → (f ≡ function.Generate → ⊥) → is_to_come f ≡ false → is_one_command f ≡ true
+one_of_others function.Build no_script no_made there = refl
+one_of_others function.ChangeAttributes no_script no_made there = refl
+one_of_others function.CopyFile no_script no_made there = refl
+one_of_others function.CopyFileUndo no_script no_made there = refl
+one_of_others function.DevelopBegin no_script no_made there = refl
+one_of_others function.DevelopBeginUndo no_script no_made there = refl
+one_of_others function.DevelopEnd no_script no_made there = refl
+one_of_others function.DevelopEndUndo no_script no_made there = refl
+one_of_others function.Generate no_script no_made there = absurd (no_made refl)
+one_of_others function.Audit no_script no_made there = absurd (let both : true ≡ false = there in cc)
+one_of_others function.Report no_script no_made there = absurd (let both : true ≡ false = there in cc)
+one_of_others function.DistributionSend no_script no_made there = absurd (let both : true ≡ false = there in cc)
+one_of_others function.DistributionReceive no_script no_made there = absurd (let both : true ≡ false = there in cc)
+one_of_others function.IntegrateBegin no_script no_made there = refl
+one_of_others function.IntegrateBeginUndo no_script no_made there = refl
+one_of_others function.IntegrateFail no_script no_made there = refl
+one_of_others function.IntegratePass no_script no_made there = refl
+one_of_others function.List no_script no_made there = refl
+one_of_others function.NewAdministrator no_script no_made there = refl
+one_of_others function.NewChange no_script no_made there = refl
+one_of_others function.NewChangeUndo no_script no_made there = refl
+one_of_others function.NewDeveloper no_script no_made there = refl
+one_of_others function.NewFile no_script no_made there = refl
+one_of_others function.NewFileUndo no_script no_made there = refl
+one_of_others function.NewIntegrator no_script no_made there = refl
+one_of_others function.NewProject no_script no_made there = refl
+one_of_others function.NewReviewer no_script no_made there = refl
+one_of_others function.NewTest no_script no_made there = refl
+one_of_others function.NewTestUndo no_script no_made there = refl
+one_of_others function.ProjectAttributes no_script no_made there = refl
+one_of_others function.RemoveAdministrator no_script no_made there = refl
+one_of_others function.RemoveDeveloper no_script no_made there = refl
+one_of_others function.RemoveFile no_script no_made there = refl
+one_of_others function.RemoveFileUndo no_script no_made there = refl
+one_of_others function.RemoveIntegrator no_script no_made there = refl
+one_of_others function.RemoveReviewer no_script no_made there = refl
+one_of_others function.ReviewBegin no_script no_made there = refl
+one_of_others function.ReviewBeginUndo no_script no_made there = refl
+one_of_others function.ReviewFail no_script no_made there = refl
+one_of_others function.ReviewPass no_script no_made there = refl
+one_of_others function.ReviewPassUndo no_script no_made there = refl
+one_of_others function.Script no_script no_made there = absurd (no_script refl)
+one_of_others function.Test no_script no_made there = refl
 
 -- ---- what is read
 

@@ -43,6 +43,10 @@ build_none function.DevelopBeginUndo is = refl
 build_none function.DevelopEnd is = refl
 build_none function.DevelopEndUndo is = refl
 build_none function.Generate is = refl
+build_none function.Audit is = refl
+build_none function.Report is = refl
+build_none function.DistributionSend is = refl
+build_none function.DistributionReceive is = refl
 build_none function.IntegrateBegin is = refl
 build_none function.IntegrateBeginUndo is = refl
 build_none function.IntegrateFail is = refl
@@ -84,6 +88,10 @@ only_builds function.DevelopBeginUndo is other = absurd (let both : false ≡ tr
 only_builds function.DevelopEnd is other = absurd (let both : false ≡ true = is in cc)
 only_builds function.DevelopEndUndo is other = absurd (let both : false ≡ true = is in cc)
 only_builds function.Generate is other = absurd (let both : false ≡ true = is in cc)
+only_builds function.Audit is other = absurd (let both : false ≡ true = is in cc)
+only_builds function.Report is other = absurd (let both : false ≡ true = is in cc)
+only_builds function.DistributionSend is other = absurd (let both : false ≡ true = is in cc)
+only_builds function.DistributionReceive is other = absurd (let both : false ≡ true = is in cc)
 only_builds function.IntegrateBegin is other = absurd (let both : false ≡ true = is in cc)
 only_builds function.IntegrateBeginUndo is other = absurd (let both : false ≡ true = is in cc)
 only_builds function.IntegrateFail is other = absurd (let both : false ≡ true = is in cc)

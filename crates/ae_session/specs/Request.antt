@@ -1,9 +1,12 @@
 -- What the words of a call ask for.
-use Rattle.std.specs.Prelude.{ℕ, ◌≡◌, List, [], ◌∷◌, true, false}
+use Rattle.std.specs.Prelude.{ℕ, ◌≡◌, List, [], ◌∷◌, Bool, true, false, Option, Some, None}
 use Rattle.ae_words.specs.Answer.{told}
 use Rattle.ae_words.specs.Grammar.{IsCommand, IsFirstBad}
+use Rattle.ae_words.specs.Items.{function}
+use Rattle.ae_words.specs.Table.{is_to_come}
 use Rattle.ae_words.specs.declared.command.Command.{Command}
-use Rattle.ae_words.specs.declared.table.Function.TheVariants as function
+use Rattle.ae_words.specs.declared.table.Function.{Function}
+use Rattle.ae_words.specs.declared.table.Function.TheVariants as functions
 use Rattle.ae_machine.specs.Legal.{is_one_command}
 use Rattle.ae_exec.specs.Said.{lists}
 use Rattle.ae_script.specs.Step.{may_give}
@@ -19,14 +22,14 @@ pub record AsksForScript (words : List (List ℕ)) (who : List ℕ) (now : ℕ) 
   pub may : may_give who now ≡ true
   pub command : Command
   pub said : IsCommand words command
-  pub is_script : command.function ≡ function.Script
+  pub is_script : command.function ≡ functions.Script
 
 -- it asks for a made-up project: the number from which its texts are drawn, its changes, and the files of each
 pub record AsksForGenerate (words : List (List ℕ)) (who : List ℕ) (now start changes files : ℕ) : Type 0 where
   pub may : may_give who now ≡ true
   pub command : Command
   pub said : IsCommand words command
-  pub generates : command.function ≡ function.Generate
+  pub generates : command.function ≡ functions.Generate
   pub numbers : command.numbers ≡ start ∷ changes ∷ files ∷ []
 
 -- it asks for something that is told to `out`: a script, a listing, or a made-up project
@@ -35,11 +38,21 @@ pub data TellsToOut (words : List (List ℕ)) (who : List ℕ) (now : ℕ) : Typ
   listing : (command : Command) → AsksFor words who now command → lists command.function ≡ true → TellsToOut words who now
   project : (start changes files : ℕ) → AsksForGenerate words who now start changes files → TellsToOut words who now
 
--- the place at which a call is bad: 0 for a user that is none or a moment that is too late, else that of the first bad word, or
--- of a missing one
+-- whether it is there, and is to come
+abbrev pub is_one_to_come : Option Function → Bool
+is_one_to_come None = false
+is_one_to_come (Some f) = is_to_come f
+
+-- whether the first word names a function that the program doesn't do yet
+abbrev pub names_one_to_come : List (List ℕ) → Bool
+names_one_to_come words = is_one_to_come (function words)
+
+-- the place at which a call is bad: 0 for a user that is none or a moment that is too late, else 1 for a function to come,
+-- else that of the first bad word, or of a missing one
 pub data BadAt (words : List (List ℕ)) (who : List ℕ) (now place : ℕ) : Type 0 where
   nobody : may_give who now ≡ false → place ≡ 0 → BadAt words who now place
-  bad_word : (first : ℕ) → may_give who now ≡ true → IsFirstBad words first → place ≡ told first → BadAt words who now place
+  to_come : may_give who now ≡ true → names_one_to_come words ≡ true → place ≡ 1 → BadAt words who now place
+  bad_word : (first : ℕ) → may_give who now ≡ true → names_one_to_come words ≡ false → IsFirstBad words first → place ≡ told first → BadAt words who now place
 
 -- a call that is bad asks for nothing
 pub record AsksForNothing (words : List (List ℕ)) (who : List ℕ) (now : ℕ) : Type 0 where

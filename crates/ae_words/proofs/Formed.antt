@@ -6,9 +6,9 @@ use Rattle.std.specs.List.{list_all}
 use Rattle.std.specs.Option.{is_none}
 use Rattle.std.proofs.lemmas.Bool.{not-true, and_parts, and_from}
 use Rattle.ae_words.specs.Items.{Item, a_plain, a_flag, an_option, a_wrong, listing_named, listing}
-use Rattle.ae_words.specs.Meaning.{step, or_bad, may_come, with_plain, with_name, with_user, with_path, with_test, with_listing, listed, numbered, next_number, with_flag, with_value, with_change, with_delta, is_free, blank, is_whole, has_plain}
+use Rattle.ae_words.specs.Meaning.{step, or_bad, may_come, with_plain, with_name, with_user, with_path, with_one_path, with_test, with_listing, listed, numbered, next_number, with_flag, with_value, with_change, with_delta, is_free, blank, is_whole, has_plain}
 use Rattle.ae_words.specs.Table.{row, allows, allows_change, may_take_change, needs_change, needs_attributes}
-use Rattle.ae_words.specs.Formed.{has, AreKinds, AreOptions, are_plain, IsFormed, are_users, are_paths, are_tests, is_no_config, are_numbers}
+use Rattle.ae_words.specs.Formed.{has, AreKinds, AreOptions, are_plain, IsFormed, are_users, are_paths, are_tests, is_no_config, is_path_at_most, are_numbers}
 use Rattle.ae_words.specs.Spelling.{is_empty}
 use Rattle.ae_words.specs.Grammar.{reads, then_read}
 use Rattle.ae_base.specs.Names.{is_user, is_path}
@@ -28,6 +28,10 @@ some_if false x y e = absurd cc
 pub none_if : {A : Type 0} (b : Bool) (o : Option A) (y : A) → cond b None o ≡ Some y → (b ≡ false) × (o ≡ Some y)
 none_if true o y e = absurd cc
 none_if false o y e = (refl, e)
+
+pub else_none : {A : Type 0} (b : Bool) (o : Option A) (y : A) → cond b o None ≡ Some y → (b ≡ true) × (o ≡ Some y)
+else_none true o y e = (refl, e)
+else_none false o y e = absurd cc
 
 -- ---- options are kept by plain words
 
@@ -58,6 +62,7 @@ plain_makes rows.Users c d w e = made_along c (record c { users = c.users ++ w �
 plain_makes rows.Copy c d w e = path_makes c d w e
 plain_makes rows.Paths c d w e = path_makes c d w e
 plain_makes rows.NewTest c d w e = path_makes c d w (none_if _ (with_path c w) d e).1
+plain_makes rows.Report c d w e = path_makes c d w (else_none _ (with_path c w) d e).1
 plain_makes rows.Listing c d w e = listed_makes c d (listing_named w) (none_if _ (listed c (listing_named w)) d e).1
 plain_makes rows.Numbers c d w e = numbered_makes c d (next_number (length c.numbers) w) e
 plain_makes rows.Attributes c d w e = absurd cc
@@ -65,6 +70,7 @@ plain_makes rows.ChangeAttributes c d w e = absurd cc
 plain_makes rows.Change c d w e = absurd cc
 plain_makes rows.Test c d w e = absurd cc
 plain_makes rows.Nothing c d w e = absurd cc
+plain_makes rows.Alone c d w e = absurd cc
 
 options_kept : (l : Option Listing) (c d : Command) → Makes c d → AreOptions l c → AreOptions l d
 options_kept l c _ (to_name w) h = h
@@ -244,6 +250,10 @@ sets_plain rows.NewTest _ c _ (to_project v) h = h
 sets_plain rows.NewTest _ c _ (to_file v) h = h
 sets_plain rows.NewTest _ c _ (to_change n) h = h
 sets_plain rows.NewTest _ c _ (to_delta n) h = h
+sets_plain rows.Report _ c _ (to_project v) h = h
+sets_plain rows.Report _ c _ (to_file v) h = h
+sets_plain rows.Report _ c _ (to_change n) h = h
+sets_plain rows.Report _ c _ (to_delta n) h = h
 sets_plain rows.Listing _ c _ (to_project v) h = h
 sets_plain rows.Listing _ c _ (to_file v) h = h
 sets_plain rows.Listing _ c _ (to_change n) h = h
@@ -272,6 +282,10 @@ sets_plain rows.Nothing _ c _ (to_project v) h = h
 sets_plain rows.Nothing _ c _ (to_file v) h = h
 sets_plain rows.Nothing _ c _ (to_change n) h = h
 sets_plain rows.Nothing _ c _ (to_delta n) h = h
+sets_plain rows.Alone _ c _ (to_project v) h = h
+sets_plain rows.Alone _ c _ (to_file v) h = h
+sets_plain rows.Alone _ c _ (to_change n) h = h
+sets_plain rows.Alone _ c _ (to_delta n) h = h
 
 sets_listing : (o : Setting) (c d : Command) → Sets c o d → d.listing ≡ c.listing
 sets_listing _ c _ (to_project v) = refl
@@ -315,6 +329,13 @@ flag_plain rows.NewTest setting.Delta c h = h
 flag_plain rows.NewTest setting.Overwriting c h = h
 flag_plain rows.NewTest setting.Baseline c h = h
 flag_plain rows.NewTest setting.Regression c h = h
+flag_plain rows.Report setting.Project c h = h
+flag_plain rows.Report setting.File c h = h
+flag_plain rows.Report setting.Change c h = h
+flag_plain rows.Report setting.Delta c h = h
+flag_plain rows.Report setting.Overwriting c h = h
+flag_plain rows.Report setting.Baseline c h = h
+flag_plain rows.Report setting.Regression c h = h
 flag_plain rows.Listing setting.Project c h = h
 flag_plain rows.Listing setting.File c h = h
 flag_plain rows.Listing setting.Change c h = h
@@ -364,6 +385,13 @@ flag_plain rows.Nothing setting.Delta c h = h
 flag_plain rows.Nothing setting.Overwriting c h = h
 flag_plain rows.Nothing setting.Baseline c h = h
 flag_plain rows.Nothing setting.Regression c h = h
+flag_plain rows.Alone setting.Project c h = h
+flag_plain rows.Alone setting.File c h = h
+flag_plain rows.Alone setting.Change c h = h
+flag_plain rows.Alone setting.Delta c h = h
+flag_plain rows.Alone setting.Overwriting c h = h
+flag_plain rows.Alone setting.Baseline c h = h
+flag_plain rows.Alone setting.Regression c h = h
 
 flag_listing : (o : Setting) (c : Command) → (with_flag o c).listing ≡ c.listing
 flag_listing setting.Project c = refl
@@ -436,6 +464,10 @@ tests_more ps w h n k =
     let a = and_parts (list_all is_no_config ps) (are_paths ps) h in
     rw (all_more is_no_config ps w a.0 n, paths_more ps w a.1 k) refl
 
+first_path : (ps : List (List ℕ)) (w : List ℕ) → is_empty ps ≡ true → is_path w ≡ true → is_path_at_most (ps ++ w ∷ []) ≡ true
+first_path [] w e h = h
+first_path (p ∷ ps) w e h = absurd cc
+
 -- ---- numbers are in their ranges
 
 range_of : (low high : ℕ) (o : Option ℕ) (n : ℕ) → in_range low high o ≡ Some n → (nat_le low n && nat_le n high) ≡ true
@@ -486,6 +518,14 @@ tests_plain c d w e h =
     subst (λ (x : Command). are_plain rows.NewTest x ≡ true) made.1
     (swap_third (is_none c.name) (is_empty c.users) (are_tests c.paths) (are_tests (c.paths ++ w ∷ [])) (is_none c.listing) (is_empty c.numbers) h good)
 
+one_path_plain : (c d : Command) (w : List ℕ) → with_one_path c w ≡ Some d → are_plain rows.Report c ≡ true → are_plain rows.Report d ≡ true
+one_path_plain c d w e h =
+    let t = else_none (is_empty c.paths) (with_path c w) d e in
+    let made = some_if _ (record c { paths = c.paths ++ w ∷ [] }) d t.1 in
+    let good = first_path c.paths w t.0 (and_parts (not (nat_le 1000 (length c.paths))) (is_path w) made.0).1 in
+    subst (λ (x : Command). are_plain rows.Report x ≡ true) made.1
+    (swap_third (is_none c.name) (is_empty c.users) (is_path_at_most c.paths) (is_path_at_most (c.paths ++ w ∷ [])) (is_none c.listing) (is_empty c.numbers) h good)
+
 listed_plain : (c d : Command) (o : Option Listing) → listed c o ≡ Some d → are_plain rows.Listing c ≡ true → are_plain rows.Listing d ≡ true
 listed_plain c d None e h = absurd cc
 listed_plain c d (Some l) e h = let made : record c { listing = Some l } ≡ d = cc in subst (λ (x : Command). are_plain rows.Listing x ≡ true) made h
@@ -504,6 +544,7 @@ plain_plain rows.Users c d w e h = users_plain c d w e h
 plain_plain rows.Copy c d w e h = paths_plain c d w e h
 plain_plain rows.Paths c d w e h = paths_plain c d w e h
 plain_plain rows.NewTest c d w e h = tests_plain c d w e h
+plain_plain rows.Report c d w e h = one_path_plain c d w e h
 plain_plain rows.Listing c d w e h = listed_plain c d (listing_named w) (none_if _ (listed c (listing_named w)) d e).1 h
 plain_plain rows.Numbers c d w e h = numbered_plain c d w (next_number (length c.numbers) w) refl e h
 plain_plain rows.Attributes c d w e h = absurd cc
@@ -511,6 +552,7 @@ plain_plain rows.ChangeAttributes c d w e h = absurd cc
 plain_plain rows.Change c d w e h = absurd cc
 plain_plain rows.Test c d w e h = absurd cc
 plain_plain rows.Nothing c d w e h = absurd cc
+plain_plain rows.Alone c d w e h = absurd cc
 
 -- ---- what holds of the command so far
 
@@ -568,6 +610,7 @@ blank_plain rows.Users f = refl
 blank_plain rows.Copy f = refl
 blank_plain rows.Paths f = refl
 blank_plain rows.NewTest f = refl
+blank_plain rows.Report f = refl
 blank_plain rows.Listing f = refl
 blank_plain rows.Numbers f = refl
 blank_plain rows.Attributes f = refl
@@ -575,6 +618,7 @@ blank_plain rows.ChangeAttributes f = refl
 blank_plain rows.Change f = refl
 blank_plain rows.Test f = refl
 blank_plain rows.Nothing f = refl
+blank_plain rows.Alone f = refl
 
 blank_has_none : (f : Function) (o : Setting) → has (blank f) o ≡ true → ⊥
 unfolding blank
@@ -683,6 +727,7 @@ allows_change_same rows.Users l m h = refl
 allows_change_same rows.Copy l m h = refl
 allows_change_same rows.Paths l m h = refl
 allows_change_same rows.NewTest l m h = refl
+allows_change_same rows.Report l m h = refl
 allows_change_same rows.Listing l m h = ap may_take_change (h refl)
 allows_change_same rows.Numbers l m h = refl
 allows_change_same rows.Attributes l m h = refl
@@ -690,6 +735,7 @@ allows_change_same rows.ChangeAttributes l m h = refl
 allows_change_same rows.Change l m h = refl
 allows_change_same rows.Test l m h = refl
 allows_change_same rows.Nothing l m h = refl
+allows_change_same rows.Alone l m h = refl
 
 allows_same : (f : Function) (l m : Option Listing) (o : Setting) → (row f ≡ rows.Listing → l ≡ m) → allows f l o ≡ allows f m o
 allows_same f l m setting.Project h = refl

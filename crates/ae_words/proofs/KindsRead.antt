@@ -15,7 +15,7 @@ use Rattle.ae_words.specs.declared.table.Setting.{Setting}
 use Rattle.ae_words.specs.declared.table.Setting.TheVariants as setting
 use Rattle.ae_words.specs.declared.table.Row.{Row}
 use Rattle.ae_words.specs.declared.table.Row.TheVariants as rows
-use Rattle.ae_words.proofs.Formed.{some_if, none_if, within, ok_some, ok_if}
+use Rattle.ae_words.proofs.Formed.{some_if, none_if, else_none, within, ok_some, ok_if}
 
 along : (c d : Command) → c ≡ d → AreKinds c → AreKinds d
 along c d e h = subst (λ (x : Command). AreKinds x) e h
@@ -51,6 +51,7 @@ plain_kinds rows.Users c d w e h = along (record c { users = c.users ++ w ∷ []
 plain_kinds rows.Copy c d w e h = path_kinds c d w e h
 plain_kinds rows.Paths c d w e h = path_kinds c d w e h
 plain_kinds rows.NewTest c d w e h = path_kinds c d w (none_if _ (with_path c w) d e).1 h
+plain_kinds rows.Report c d w e h = path_kinds c d w (else_none _ (with_path c w) d e).1 h
 plain_kinds rows.Listing c d w e h = listed_kinds c d (listing_named w) (none_if _ (listed c (listing_named w)) d e).1 h
 plain_kinds rows.Numbers c d w e h = numbered_kinds c d (next_number (length c.numbers) w) e h
 plain_kinds rows.Attributes c d w e h = absurd cc
@@ -58,6 +59,7 @@ plain_kinds rows.ChangeAttributes c d w e h = absurd cc
 plain_kinds rows.Change c d w e h = absurd cc
 plain_kinds rows.Test c d w e h = absurd cc
 plain_kinds rows.Nothing c d w e h = absurd cc
+plain_kinds rows.Alone c d w e h = absurd cc
 
 -- ---- options
 

@@ -44,6 +44,12 @@ are_paths ps = list_all is_path ps && nat_le (length ps) 1000
 abbrev pub are_tests : List (List ℕ) → Bool
 are_tests ps = list_all is_no_config ps && are_paths ps
 
+-- at most one path
+abbrev pub is_path_at_most : List (List ℕ) → Bool
+is_path_at_most [] = true
+is_path_at_most (p ∷ []) = is_path p
+is_path_at_most (p ∷ q ∷ ps) = false
+
 -- the start, the number of changes and the number of files, as far as they are there
 abbrev pub are_numbers : List ℕ → Bool
 are_numbers [] = true
@@ -59,6 +65,7 @@ are_plain rows.Users c = is_none c.name && are_users c.users && is_empty c.paths
 are_plain rows.Copy c = is_none c.name && is_empty c.users && are_paths c.paths && is_none c.listing && is_empty c.numbers
 are_plain rows.Paths c = is_none c.name && is_empty c.users && are_paths c.paths && is_none c.listing && is_empty c.numbers
 are_plain rows.NewTest c = is_none c.name && is_empty c.users && are_tests c.paths && is_none c.listing && is_empty c.numbers
+are_plain rows.Report c = is_none c.name && is_empty c.users && is_path_at_most c.paths && is_none c.listing && is_empty c.numbers
 are_plain rows.Listing c = is_none c.name && is_empty c.users && is_empty c.paths && is_empty c.numbers
 are_plain rows.Numbers c = is_none c.name && is_empty c.users && is_empty c.paths && is_none c.listing && are_numbers c.numbers
 are_plain rows.Attributes c = is_none c.name && is_empty c.users && is_empty c.paths && is_none c.listing && is_empty c.numbers
@@ -66,6 +73,7 @@ are_plain rows.ChangeAttributes c = is_none c.name && is_empty c.users && is_emp
 are_plain rows.Change c = is_none c.name && is_empty c.users && is_empty c.paths && is_none c.listing && is_empty c.numbers
 are_plain rows.Test c = is_none c.name && is_empty c.users && is_empty c.paths && is_none c.listing && is_empty c.numbers
 are_plain rows.Nothing c = is_none c.name && is_empty c.users && is_empty c.paths && is_none c.listing && is_empty c.numbers
+are_plain rows.Alone c = is_none c.name && is_empty c.users && is_empty c.paths && is_none c.listing && is_empty c.numbers
 
 -- what is there passes the test
 abbrev pub fits : {A : Type 0} → (A → Bool) → Option A → Bool

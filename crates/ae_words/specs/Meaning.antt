@@ -4,6 +4,7 @@ use Rattle.std.specs.Str.{bytes_eq}
 use Rattle.ae_base.specs.Names.{is_user, is_project_name, is_path}
 use Rattle.ae_base.specs.Numbers.{change_number, delta_number, number_within}
 use Rattle.ae_words.specs.Items.{Item, a_plain, a_flag, an_option, a_wrong, listing_named}
+use Rattle.ae_words.specs.Spelling.{is_empty}
 use Rattle.ae_words.specs.Table.{row, allows, needs_change, needs_attributes}
 use Rattle.ae_words.specs.declared.command.Command.{Command}
 use Rattle.ae_words.specs.declared.table.Function.{Function}
@@ -34,6 +35,10 @@ with_user c w = if not (nat_le most (length c.users)) && is_user w then Some (re
 -- one path more
 abbrev pub with_path : Command → List ℕ → Option Command
 with_path c w = if not (nat_le most (length c.paths)) && is_path w then Some (record c { paths = c.paths ++ w ∷ [] }) else None
+
+-- the path, where none is there yet
+abbrev pub with_one_path : Command → List ℕ → Option Command
+with_one_path c w = if is_empty c.paths then with_path c w else None
 
 -- the path of the project's settings, which is no test
 abbrev pub is_config : List ℕ → Bool
@@ -76,6 +81,7 @@ with_plain rows.Users c w = with_user c w
 with_plain rows.Copy c w = with_path c w
 with_plain rows.Paths c w = with_path c w
 with_plain rows.NewTest c w = with_test c w
+with_plain rows.Report c w = with_one_path c w
 with_plain rows.Listing c w = with_listing c w
 with_plain rows.Numbers c w = with_number c w
 with_plain rows.Attributes c w = None
@@ -83,6 +89,7 @@ with_plain rows.ChangeAttributes c w = None
 with_plain rows.Change c w = None
 with_plain rows.Test c w = None
 with_plain rows.Nothing c w = None
+with_plain rows.Alone c w = None
 
 -- ---- options
 
@@ -151,6 +158,7 @@ has_plain rows.Users c = not (nat_le (length c.users) 0)
 has_plain rows.Copy c = not (nat_le (length c.paths) 0)
 has_plain rows.Paths c = not (nat_le (length c.paths) 0)
 has_plain rows.NewTest c = not (nat_le (length c.paths) 0)
+has_plain rows.Report c = not (nat_le (length c.paths) 0)
 has_plain rows.Listing c = is_some c.listing
 has_plain rows.Numbers c = nat_le 3 (length c.numbers)
 has_plain rows.Attributes c = true
@@ -158,6 +166,7 @@ has_plain rows.ChangeAttributes c = true
 has_plain rows.Change c = true
 has_plain rows.Test c = true
 has_plain rows.Nothing c = true
+has_plain rows.Alone c = true
 
 -- whether nothing that is required is missing
 unfoldable pub is_whole : Command → Bool

@@ -50,6 +50,10 @@ function_pattern function.Test = codes "Test"
 function_pattern function.List = codes "List"
 function_pattern function.Script = codes "SCRipt"
 function_pattern function.Generate = codes "GENerate"
+function_pattern function.Audit = codes "AUDit"
+function_pattern function.Report = codes "REPort"
+function_pattern function.DistributionSend = codes "Distribution_Send"
+function_pattern function.DistributionReceive = codes "Distribution_Receive"
 
 -- all of them, in the order of the table
 abbrev pub all_functions : List Function
@@ -63,7 +67,7 @@ all_functions =
     function.IntegrateBeginUndo ∷ function.IntegratePass ∷ function.IntegrateFail ∷ function.CopyFile ∷
     function.CopyFileUndo ∷ function.NewFile ∷ function.NewFileUndo ∷ function.NewTest ∷ function.NewTestUndo ∷
     function.RemoveFile ∷ function.RemoveFileUndo ∷ function.Test ∷ function.List ∷ function.Script ∷
-    function.Generate ∷ []
+    function.Generate ∷ function.Audit ∷ function.Report ∷ function.DistributionSend ∷ function.DistributionReceive ∷ []
 
 -- the pattern of a listing's word
 abbrev pub listing_pattern : Listing → List ℕ
@@ -145,6 +149,18 @@ row function.Test = rows.Test
 row function.List = rows.Listing
 row function.Script = rows.Nothing
 row function.Generate = rows.Numbers
+row function.Audit = rows.Nothing
+row function.Report = rows.Report
+row function.DistributionSend = rows.Change
+row function.DistributionReceive = rows.Alone
+
+-- whether its words are read, and the program doesn't do it yet
+abbrev pub is_to_come : Function → Bool
+is_to_come function.Audit = true
+is_to_come function.Report = true
+is_to_come function.DistributionSend = true
+is_to_come function.DistributionReceive = true
+is_to_come _ = false
 
 -- whether the listing shows a change
 abbrev pub of_change : Listing → Bool
@@ -167,7 +183,7 @@ abbrev pub may_take_change : Option Listing → Bool
 may_take_change None = true
 may_take_change (Some l) = of_change l
 
--- all rows allow `-Project` but those of three functions
+-- all rows allow `-Project` but those of a new project, of no word, and of numbers
 abbrev pub allows_project : Row → Bool
 allows_project rows.NewProject = false
 allows_project rows.Nothing = false

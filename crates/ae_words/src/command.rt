@@ -1,6 +1,6 @@
 // A command, and how its words make it.
 ghost use Rattle.std.specs.Prelude.{◌≡◌, ◌<◌, IfOk, IfErr, Ok, Err, Some, None, if◌then◌else◌, length, map, string_bytes, true, false};
-ghost use Rattle.ae_words.specs.Meaning.{blank, next_number, with_plain, with_name, with_user, with_path, with_test, with_listing, with_number, with_value, with_flag, is_free, may_come, step, has_plain, is_whole};
+ghost use Rattle.ae_words.specs.Meaning.{blank, next_number, with_plain, with_name, with_user, with_path, with_one_path, with_test, with_listing, with_number, with_value, with_flag, is_free, may_come, step, has_plain, is_whole};
 ghost use Rattle.ae_words.specs.Items.{items_from, listing};
 ghost use Rattle.ae_words.specs.Grammar.{reads};
 ghost use Rattle.ae_words.specs.Table.{row};
@@ -123,6 +123,16 @@ impl Command {
         Ok(true)
     }
 
+    /// Takes the word as the path; tells whether it is one, and the first.
+    fn take_one_path(&mut self, alloc: Global, word: &[u8]) -> Result<bool, AllocError>
+        ensures { IfOk result (λ taken. (if taken then Some self.new else None) ≡ with_one_path self.old word.now) }
+    {
+        if 0 < self.paths.len() {
+            return Ok(false);
+        }
+        self.take_path(alloc, word)
+    }
+
     /// Takes the word as one path more that may be a test's; tells whether it is one, and not too many.
     fn take_test(&mut self, alloc: Global, word: &[u8]) -> Result<bool, AllocError>
         ensures { IfOk result (λ taken. (if taken then Some self.new else None) ≡ with_test self.old word.now) }
@@ -164,11 +174,15 @@ impl Command {
             Row::Users => self.take_user(alloc, word),
             Row::Copy | Row::Paths => self.take_path(alloc, word),
             Row::NewTest => self.take_test(alloc, word),
+            Row::Report => self.take_one_path(alloc, word),
             Row::Listing => Ok(self.take_listing(word)),
             Row::Numbers => self.take_number(word),
-            Row::Attributes | Row::ChangeAttributes | Row::Change | Row::Test | Row::Nothing => {
-                Ok(false)
-            }
+            Row::Attributes
+            | Row::ChangeAttributes
+            | Row::Change
+            | Row::Test
+            | Row::Nothing
+            | Row::Alone => Ok(false),
         }
     }
 
@@ -276,11 +290,15 @@ impl Command {
         match self.function.row() {
             Row::NewProject => self.name.is_some(),
             Row::Users => 0 < self.users.len(),
-            Row::Copy | Row::Paths | Row::NewTest => 0 < self.paths.len(),
+            Row::Copy | Row::Paths | Row::NewTest | Row::Report => 0 < self.paths.len(),
             Row::Listing => self.listing.is_some(),
             Row::Numbers => 3 <= self.numbers.len(),
-            Row::Attributes | Row::ChangeAttributes | Row::Change | Row::Test | Row::Nothing =>
-                true,
+            Row::Attributes
+            | Row::ChangeAttributes
+            | Row::Change
+            | Row::Test
+            | Row::Nothing
+            | Row::Alone => true,
         }
     }
 

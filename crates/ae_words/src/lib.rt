@@ -10,6 +10,6 @@ mod table;
 
 pub use command::Command;
 pub use numbers::NumberList;
-pub use read::{WordsError, read_words, words_have_one_answer};
+pub use read::{WordsError, first_function, read_words, words_have_one_answer};
 pub use spelling::matches_option;
 pub use table::{Function, Listing, Row, Setting};

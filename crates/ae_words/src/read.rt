@@ -3,9 +3,11 @@ ghost use Rattle.std.specs.Prelude.{◌≡◌, ◌+◌, ◌<◌, ◌∷◌, map,
 ghost use Rattle.ae_words.specs.Formed.{IsFormed};
 ghost use Rattle.ae_words.specs.Answer.{IsAnswer, IsReadAs, OneCommand, OnePlace, NeverBoth, PlaceWithin, told};
 ghost use Rattle.ae_words.specs.Grammar.{IsCommand};
+ghost use Rattle.ae_words.specs.Items.{function};
 
 use crate::command::{Command, Stop, said};
 use crate::items::named_function;
+use crate::table::Function;
 use std::alloc::Global;
 
 /// Why words are no command.
@@ -45,6 +47,16 @@ fn read_function(alloc: Global, first: &[u8], behind: &[String]) -> Result<Comma
         }
         Err(Stop::Bad(place)) => Err(WordsError::Bad(told(place))),
         Err(Stop::Memory) => Err(WordsError::Memory),
+    }
+}
+
+/// The function that the first word names, whatever the others are.
+pub fn first_function(words: &[String]) -> Option<Function>
+    ensures { result ≡ function (map string_bytes words.now) }
+{
+    match words {
+        [] => None,
+        [first, ..] => named_function(first.as_bytes()),
     }
 }
 

@@ -1,7 +1,7 @@
 // The table of functions, listings and options, with their patterns and the words that they take.
 ghost use Rattle.std.specs.Prelude.{◌≡◌, ◌↔◌, Some};
 ghost use Rattle.ae_words.specs.Spelling.{Matches};
-ghost use Rattle.ae_words.specs.Table.{function_pattern, listing_pattern, setting_pattern, row, of_change, allows, allows_change, needs_change, needs_attributes};
+ghost use Rattle.ae_words.specs.Table.{function_pattern, listing_pattern, setting_pattern, row, is_to_come, of_change, allows, allows_change, needs_change, needs_attributes};
 ghost use Rattle.ae_words.specs.Items.{function_named, listing_named, setting_named};
 
 use crate::spelling::spells_from;
@@ -48,6 +48,10 @@ pub enum Function {
     List,
     Script,
     Generate,
+    Audit,
+    Report,
+    DistributionSend,
+    DistributionReceive,
 }
 
 /// What a listing shows.
@@ -106,13 +110,17 @@ pub enum Row {
     Listing,
     /// No word.
     Nothing,
+    /// No word but `-Project`.
+    Alone,
+    /// One path.
+    Report,
     /// Three numbers: 0 to 18,446,744,073,709,551,615, 1 to 200 and 1 to 99.
     Numbers,
 }
 
 impl Function {
     /// All of them.
-    pub const ALL: [Function; 39] = [
+    pub const ALL: [Function; 43] = [
         Function::NewProject,
         Function::NewAdministrator,
         Function::RemoveAdministrator,
@@ -152,6 +160,10 @@ impl Function {
         Function::List,
         Function::Script,
         Function::Generate,
+        Function::Audit,
+        Function::Report,
+        Function::DistributionSend,
+        Function::DistributionReceive,
     ];
 
     /// The pattern of its words.
@@ -198,6 +210,10 @@ impl Function {
             Function::List => "List",
             Function::Script => "SCRipt",
             Function::Generate => "GENerate",
+            Function::Audit => "AUDit",
+            Function::Report => "REPort",
+            Function::DistributionSend => "Distribution_Send",
+            Function::DistributionReceive => "Distribution_Receive",
         }
     }
 
@@ -355,7 +371,8 @@ impl Function {
             | Function::IntegrateBegin
             | Function::IntegrateBeginUndo
             | Function::IntegratePass
-            | Function::IntegrateFail => Row::Change,
+            | Function::IntegrateFail
+            | Function::DistributionSend => Row::Change,
             Function::CopyFile => Row::Copy,
             Function::CopyFileUndo
             | Function::NewFile
@@ -366,9 +383,24 @@ impl Function {
             Function::NewTest => Row::NewTest,
             Function::Test => Row::Test,
             Function::List => Row::Listing,
-            Function::Script => Row::Nothing,
+            Function::Script | Function::Audit => Row::Nothing,
+            Function::DistributionReceive => Row::Alone,
+            Function::Report => Row::Report,
             Function::Generate => Row::Numbers,
         }
+    }
+
+    /// Whether its words are read, and the program doesn't do it yet.
+    pub fn is_to_come(self) -> bool
+        ensures { result ≡ is_to_come self }
+    {
+        matches!(
+            self,
+            Function::Audit
+                | Function::Report
+                | Function::DistributionSend
+                | Function::DistributionReceive
+        )
     }
 
     /// Whether the option may stand with this function; with `List`, with this listing.
@@ -404,7 +436,13 @@ impl Row {
                 None => true,
                 Some(listing) => listing.is_of_change(),
             },
-            Row::NewProject | Row::Users | Row::Attributes | Row::Nothing | Row::Numbers => false,
+            Row::NewProject
+            | Row::Users
+            | Row::Attributes
+            | Row::Nothing
+            | Row::Alone
+            | Row::Report
+            | Row::Numbers => false,
         }
     }
 
