@@ -1,0 +1,122 @@
+-- How a change is made of a change set: what is done, one after the other.
+use Rattle.std.specs.Prelude.{◌≡◌, ℕ, Bool, false, ◌&&◌, not, if◌then◌else◌, List, [], ◌∷◌, ◌++◌, Option, Some, None, is_some, codes, find}
+use Rattle.std.specs.List.{filter_map}
+use Rattle.std.specs.Str.{bytes_eq}
+use Rattle.ae_base.specs.Limits.{most_changes}
+use Rattle.ae_base.specs.Words.{cause_word}
+use Rattle.ae_base.specs.declared.refusal.Refusal.{Refusal}
+use Rattle.ae_base.specs.declared.refusal.Refusal.TheVariants.{Limit}
+use Rattle.ae_base.specs.declared.words.Which.TheVariants.{Changes}
+use Rattle.ae_log.specs.Settings.{change_numbers}
+use Rattle.ae_outside.specs.declared.dir.Dir.TheVariants.{Here, Develop}
+use Rattle.ae_text.specs.Canonical.{fields_text}
+use Rattle.ae_text.specs.Tree.{str, word, Members}
+use Rattle.ae_text.specs.View.{members_of}
+use Rattle.ae_files.specs.InTree.{row_at}
+use Rattle.ae_types.specs.Found.{has_number}
+use Rattle.ae_types.specs.Observation.{Observation}
+use Rattle.ae_types.specs.Phases.{is_remove, is_test}
+use Rattle.ae_types.specs.Trees.{baseline_of}
+use Rattle.ae_words.specs.declared.command.Command.{Command}
+use Rattle.ae_words.specs.declared.table.Function.{Function}
+use Rattle.ae_words.specs.declared.table.Function.TheVariants as function
+use Rattle.ae_bundle.specs.declared.bundle.Bundle.{Bundle}
+use Rattle.ae_bundle.specs.declared.bundle.BundleFile.{BundleFile}
+use Rattle.ae_dist.specs.Sending.{refuses_project}
+use Rattle.ae_dist.specs.declared.acts.Act.{Act}
+use Rattle.ae_dist.specs.declared.acts.Act.TheVariants.{Run, Put}
+
+-- ---- the change that is made
+
+-- the least number that no change has
+abbrev pub is_unused : List ℕ → ℕ → Bool
+is_unused numbers number = not (has_number numbers number)
+
+abbrev pub free_number : Observation → Option ℕ
+free_number o = find (is_unused o.numbers) change_numbers
+
+-- the file that gives its attributes, and the text of it
+abbrev pub attributes_path : List ℕ
+attributes_path = codes "received.attr"
+
+abbrev pub attributes_of : Bundle → Members
+attributes_of bundle = members_of (
+    (codes "brief_description", str bundle.brief)
+    ∷ (codes "description", str bundle.description)
+    ∷ (codes "cause", word (cause_word bundle.cause))
+    ∷ [])
+
+abbrev pub attributes_text : Bundle → List ℕ
+attributes_text bundle = fields_text (attributes_of bundle)
+
+-- ---- commands
+
+abbrev pub command : Function → Option ℕ → Option (List ℕ) → List (List ℕ) → Command
+command function change attributes paths = record {
+  function = function;
+  project = None;
+  change = change;
+  attributes = attributes;
+  delta = None;
+  overwriting = false;
+  baseline = false;
+  regression = false;
+  name = None;
+  users = [];
+  paths = paths;
+  listing = None;
+  numbers = [];
+}
+
+-- the change is made, and its development begins
+abbrev pub new_change : Command
+new_change = command function.NewChange None (Some attributes_path) []
+
+abbrev pub begin : ℕ → Command
+begin number = command function.DevelopBegin (Some number) None []
+
+-- a command on one path of the change
+abbrev pub on_path : Function → ℕ → List ℕ → Command
+on_path function number path = command function (Some number) None (path ∷ [])
+
+-- ---- what is done with the files
+
+-- the baseline has the path
+abbrev pub is_there : Observation → List ℕ → Bool
+is_there o path = is_some (row_at (baseline_of o) path)
+
+-- a removed path is removed, where the baseline has it
+abbrev pub removal : Observation → ℕ → BundleFile → Option Act
+removal o number file = if is_remove file.action && is_there o file.path then Some (Run (on_path function.RemoveFile number file.path)) else None
+
+-- any other is copied where the baseline has it, and else it is a new test or a new file
+abbrev pub adding : Observation → BundleFile → Function
+adding o file =
+    if is_there o file.path then function.CopyFile
+    else if is_test file.usage && not (bytes_eq file.path (codes "aegis.conf")) then function.NewTest
+    else function.NewFile
+
+abbrev pub addition : Observation → ℕ → BundleFile → Option Act
+addition o number file = if is_remove file.action then None else Some (Run (on_path (adding o file) number file.path))
+
+-- and its bytes are put into the develop directory
+abbrev pub put : ℕ → BundleFile → Option Act
+put number file = if is_remove file.action then None else Some (Put (Develop number) file.path file.bytes)
+
+-- ---- the plan
+
+abbrev pub plan_of : Observation → ℕ → Bundle → List Act
+plan_of o number bundle =
+    Put Here attributes_path (attributes_text bundle) ∷ Run new_change ∷ Run (begin number)
+    ∷ (filter_map (removal o number) bundle.files ++ (filter_map (addition o number) bundle.files ++ filter_map (put number) bundle.files))
+
+-- there is no room for one more change
+abbrev pub no_room : Refusal
+no_room = Limit Changes most_changes
+
+-- the files say that this is the plan: of the least free number
+pub record IsPlan (o : Observation) (name : Option (List ℕ)) (bundle : Bundle) (acts : List Act) : Type 0 where
+  pub number : ℕ
+  pub named : refuses_project name (Some o) ≡ None
+  pub free : free_number o ≡ Some number
+  pub is : acts ≡ plan_of o number bundle

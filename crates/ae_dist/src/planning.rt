@@ -1,0 +1,320 @@
+// How a change is made of a change set.
+ghost use Rattle.std.specs.Prelude.{◌≡◌, ◌≤◌, ◌++◌, ◌∷◌, [], map, option_copied, IfOk, OnOk, find};
+ghost use Rattle.std.specs.List.{filter_map, cons_option};
+ghost use Rattle.std.specs.Ordering.{nat_cmp};
+ghost use Rattle.ae_log.specs.Settings.{change_numbers};
+ghost use Rattle.ae_outside.specs.Causes.{HasRisen};
+ghost use Rattle.ae_outside.specs.State.{reads};
+ghost use Rattle.ae_text.specs.Tree.{fields};
+ghost use Rattle.ae_text.specs.View.{members_of, named_node, node};
+ghost use Rattle.ae_types.specs.Ordered.{Ascends, itself};
+ghost use Rattle.ae_types.specs.Phases.{is_remove};
+ghost use Rattle.ae_dist.specs.Answers.{Answers, IsPlanned, Plans, RefusesPlan, IsDamagedAt, LeavesStore};
+ghost use Rattle.ae_dist.specs.Plan.{adding, addition, attributes_of, attributes_path, attributes_text, begin, command, is_there, is_unused, new_change, on_path, plan_of, put, removal};
+
+use crate::opening::open_project;
+use crate::{Act, ActList, DistError};
+use ae_base::limits::MOST_CHANGES;
+use ae_base::{
+    Action, ChangeNo, Path, PathList, ProjectName, Refusal, Text, Usage, UserList, Want, Which,
+};
+use ae_bundle::{Bundle, BundleFile};
+use ae_files::file_in_tree;
+use ae_outside::{Dir, Disk};
+use ae_text::{Field, FieldList, Tree, print_tree};
+use ae_types::{State, has_number};
+use ae_words::{Command, Function, NumberList};
+use std::alloc::{AllocError, Global};
+
+// The least number that isn't among these, which ascend.
+fn free_number(numbers: &[ChangeNo]) -> Option<ChangeNo>
+    requires { Ascends nat_cmp itself numbers.now }
+    ensures { result ≡ find (is_unused numbers.now) change_numbers }
+{
+    for n in 10..2000 {
+        let number = ChangeNo::of(n);
+        if !has_number(numbers, number) {
+            return Some(number);
+        }
+    }
+    None
+}
+
+// The path of the file that gives the attributes.
+fn attributes_path(alloc: Global) -> Result<Path, AllocError>
+    ensures { IfOk result (λ path. path ≡ attributes_path) }
+{
+    match Path::read(alloc, b"received.attr")? {
+        Some(path) => Ok(path),
+        None => unreachable!(),
+    }
+}
+
+fn structure_of(members: Vec<Field>) -> Tree
+    ensures { node result ≡ fields (members_of (map named_node members.items)) }
+{
+    Tree::Fields(FieldList::of(members))
+}
+
+// What stands in that file.
+fn attributes_tree(alloc: Global, bundle: &Bundle) -> Result<Tree, AllocError>
+    ensures { IfOk result (λ tree. node tree ≡ fields (attributes_of bundle.now)) }
+{
+    let brief = Tree::string(alloc, bundle.brief.bytes())?;
+    let description = Tree::string(alloc, bundle.description.bytes())?;
+    let cause = Tree::word(alloc, bundle.cause.word().as_bytes())?;
+    let mut members = Vec::new(alloc);
+    members.push(Field::of(alloc, b"brief_description", brief)?)?;
+    members.push(Field::of(alloc, b"description", description)?)?;
+    members.push(Field::of(alloc, b"cause", cause)?)?;
+    Ok(structure_of(members))
+}
+
+// The text of that file.
+fn attributes_text(alloc: Global, bundle: &Bundle) -> Result<Text, AllocError>
+    ensures { IfOk result (λ text. text ≡ attributes_text bundle.now) }
+{
+    let tree = attributes_tree(alloc, bundle)?;
+    Ok(Text::of(print_tree(alloc, &tree)?))
+}
+
+// A command that says no more.
+fn command(
+    alloc: Global,
+    function: Function,
+    change: Option<ChangeNo>,
+    attributes: Option<Path>,
+    paths: PathList,
+) -> Command
+    ensures { result ≡ command function change attributes paths }
+{
+    Command {
+        function,
+        project: None,
+        change,
+        attributes,
+        delta: None,
+        overwriting: false,
+        baseline: false,
+        regression: false,
+        name: None,
+        users: UserList::new(alloc),
+        paths,
+        listing: None,
+        numbers: NumberList::new(alloc),
+    }
+}
+
+// A command on one path of the change.
+fn on_path(
+    alloc: Global,
+    function: Function,
+    number: ChangeNo,
+    path: &Path,
+) -> Result<Act, AllocError>
+    ensures { IfOk result (λ act. act ≡ Act.Run (on_path function number path.now)) }
+{
+    let mut paths = PathList::new(alloc);
+    paths.push(path.copy(alloc)?)?;
+    Ok(Act::Run(command(alloc, function, Some(number), None, paths)))
+}
+
+// Whether the baseline has the path.
+fn is_there(state: &State, path: &Path) -> bool
+    ensures { result ≡ is_there state.now path.now }
+{
+    file_in_tree(state, state.project().deltas.len(), path).is_some()
+}
+
+fn is_removed(file: &BundleFile) -> bool
+    ensures { result ≡ is_remove file.now.action }
+{
+    file.action == Action::Remove
+}
+
+// A removed path is removed, where the baseline has it.
+fn removal(
+    alloc: Global,
+    state: &State,
+    number: ChangeNo,
+    file: &BundleFile,
+) -> Result<Option<Act>, AllocError>
+    ensures { IfOk result (λ act. act ≡ removal state.now number file.now) }
+{
+    if !is_removed(file) || !is_there(state, &file.path) {
+        return Ok(None);
+    }
+    Ok(Some(on_path(alloc, Function::RemoveFile, number, &file.path)?))
+}
+
+// The function that puts a file into the change.
+fn adding(state: &State, file: &BundleFile) -> Function
+    ensures { result ≡ adding state.now file.now }
+{
+    if is_there(state, &file.path) {
+        Function::CopyFile
+    } else if file.usage == Usage::Test && file.path.bytes() != b"aegis.conf".as_slice() {
+        Function::NewTest
+    } else {
+        Function::NewFile
+    }
+}
+
+// Any other is copied where the baseline has it, and else it is a new test or a new file.
+fn addition(
+    alloc: Global,
+    state: &State,
+    number: ChangeNo,
+    file: &BundleFile,
+) -> Result<Option<Act>, AllocError>
+    ensures { IfOk result (λ act. act ≡ addition state.now number file.now) }
+{
+    if is_removed(file) {
+        return Ok(None);
+    }
+    Ok(Some(on_path(alloc, adding(state, file), number, &file.path)?))
+}
+
+// Its bytes are put into the develop directory.
+fn put(alloc: Global, number: ChangeNo, file: &BundleFile) -> Result<Option<Act>, AllocError>
+    ensures { IfOk result (λ act. act ≡ put number file.now) }
+{
+    if is_removed(file) {
+        return Ok(None);
+    }
+    let path = file.path.copy(alloc)?;
+    let bytes = file.bytes.copy(alloc)?;
+    Ok(Some(Act::Put(Dir::Develop(number), path, bytes)))
+}
+
+fn add_act(acts: &mut ActList, act: Option<Act>) -> Result<(), AllocError>
+    ensures { OnOk result (acts.new ≡ acts.old ++ cons_option act []) }
+{
+    match act {
+        Some(act) => acts.push(act),
+        None => Ok(()),
+    }
+}
+
+fn add_removals(
+    acts: &mut ActList,
+    alloc: Global,
+    state: &State,
+    number: ChangeNo,
+    files: &[BundleFile],
+) -> Result<(), AllocError>
+    ensures { OnOk result (acts.new ≡ acts.old ++ filter_map (removal state.now number) files.now) }
+{
+    for file in files {
+        let act = removal(alloc, state, number, file)?;
+        add_act(acts, act)?;
+    }
+    Ok(())
+}
+
+fn add_additions(
+    acts: &mut ActList,
+    alloc: Global,
+    state: &State,
+    number: ChangeNo,
+    files: &[BundleFile],
+) -> Result<(), AllocError>
+    ensures { OnOk result (acts.new ≡ acts.old ++ filter_map (addition state.now number) files.now) }
+{
+    for file in files {
+        let act = addition(alloc, state, number, file)?;
+        add_act(acts, act)?;
+    }
+    Ok(())
+}
+
+fn add_puts(
+    acts: &mut ActList,
+    alloc: Global,
+    number: ChangeNo,
+    files: &[BundleFile],
+) -> Result<(), AllocError>
+    ensures { OnOk result (acts.new ≡ acts.old ++ filter_map (put number) files.now) }
+{
+    for file in files {
+        let act = put(alloc, number, file)?;
+        add_act(acts, act)?;
+    }
+    Ok(())
+}
+
+// The change is made, and its development begins.
+fn first_acts(alloc: Global, number: ChangeNo, bundle: &Bundle) -> Result<ActList, AllocError>
+    ensures { IfOk result (λ acts. acts ≡
+        Act.Put Dir.Here attributes_path (attributes_text bundle.now) ∷ Act.Run new_change ∷ Act.Run (begin number) ∷ []) }
+{
+    let mut acts = ActList::new(alloc);
+    let text = attributes_text(alloc, bundle)?;
+    acts.push(Act::Put(Dir::Here, attributes_path(alloc)?, text))?;
+    let path = attributes_path(alloc)?;
+    acts.push(Act::Run(command(
+        alloc,
+        Function::NewChange,
+        None,
+        Some(path),
+        PathList::new(alloc),
+    )))?;
+    acts.push(Act::Run(command(
+        alloc,
+        Function::DevelopBegin,
+        Some(number),
+        None,
+        PathList::new(alloc),
+    )))?;
+    Ok(acts)
+}
+
+// The plan for a change of this number.
+fn acts_for(
+    alloc: Global,
+    state: &State,
+    number: ChangeNo,
+    bundle: &Bundle,
+) -> Result<ActList, AllocError>
+    ensures { IfOk result (λ acts. acts ≡ plan_of state.now number bundle.now) }
+{
+    let mut acts = first_acts(alloc, number, bundle)?;
+    let files = bundle.files.as_slice();
+    add_removals(&mut acts, alloc, state, number, files)?;
+    add_additions(&mut acts, alloc, state, number, files)?;
+    add_puts(&mut acts, alloc, number, files)?;
+    Ok(acts)
+}
+
+// The plan for the least number that is free.
+fn acts_of(alloc: Global, state: &State, bundle: &Bundle) -> Result<ActList, DistError>
+    ensures { IsPlanned state.now bundle.now result }
+{
+    state.note_sound();
+    let Some(number) = free_number(state.numbers()) else {
+        return Err(DistError::Refused(Refusal::Limit(Which::Changes, MOST_CHANGES as u64)));
+    };
+    Ok(acts_for(alloc, state, number, bundle)?)
+}
+
+/// The plan of a change set, for the least number that is free.
+pub fn plan<D: Disk>(
+    alloc: Global,
+    disk: &mut D,
+    project: Option<&ProjectName>,
+    bundle: &Bundle,
+) -> Result<ActList, DistError>
+    // Each answer has its cause in the files that the disk read.
+    ensures answer { Answers
+        (λ acts. D.tells → Plans (reads (D.state disk.old)) (option_copied project.entry) bundle.now acts)
+        (λ refusal. D.tells → RefusesPlan (reads (D.state disk.old)) (option_copied project.entry) refusal)
+        (λ name. D.tells → IsDamagedAt Want.Nothing (reads (D.state disk.old)) name)
+        (HasRisen (D.faults disk.old) (D.faults disk.new)) result }
+    ensures disk { D.tells → LeavesStore (D.state disk.old) (D.state disk.new) }
+    ensures later { D.faults disk.old ≤ D.faults disk.new }
+{
+    match open_project(alloc, disk, Want::Nothing, project) {
+        Ok(state) => acts_of(alloc, &state, bundle),
+        Err(error) => Err(error),
+    }
+}
