@@ -1,13 +1,13 @@
 -- Words have one answer, and its place is one of theirs or the next.
-use Rattle.std.proofs.Common.{◌≡◌, ◌≤◌, ◌<◌, ◌+◌, inl, inr, ℕ, Bool, true, false, List, [], ◌∷◌, Option, Some, None, Err, sym, ◌∙◌, arith, length}
+use Rattle.std.proofs.Common.{◌≡◌, ◌≤◌, ◌<◌, ◌+◌, ◌⊎◌, inl, inr, ℕ, Bool, true, false, List, [], ◌∷◌, Option, Some, None, Result, Ok, Err, refl, sym, subst, ◌∙◌, arith, length}
 use Rattle.ae_words.specs.Items.{Word, plain, flag, written, asks, wrong, word, item, items_from, takes_next, items, function, listing}
-use Rattle.ae_words.specs.Meaning.{step, blank}
-use Rattle.ae_words.specs.Grammar.{IsBadItem, IsFirstOf, or_as_before}
-use Rattle.ae_words.specs.Answer.{OnePlace, PlaceWithin}
+use Rattle.ae_words.specs.Meaning.{step, blank, is_whole}
+use Rattle.ae_words.specs.Grammar.{IsBadItem, IsCommand, IsFirstBad, IsFirstOf, or_as_before, reads}
+use Rattle.ae_words.specs.Answer.{CommandOrPlace, OnePlace, PlaceWithin}
 use Rattle.ae_words.specs.declared.command.Command.{Command}
 use Rattle.ae_words.specs.declared.table.Function.{Function}
 use Rattle.ae_words.specs.declared.table.Listing.{Listing}
-use Rattle.ae_words.proofs.FirstBad.{in_plain, in_flag, in_option, in_wrong, bad_none, bad_cases}
+use Rattle.ae_words.proofs.FirstBad.{in_plain, in_flag, in_option, in_wrong, bad_none, bad_cases, answer_command, answer_missing, answer_bad}
 
 one_of : (o : Option Function) (words : List (List ℕ)) (p q : ℕ) → IsFirstOf o words p → IsFirstOf o words q → p ≡ q
 one_of None words p q a b = a ∙ sym b
@@ -44,3 +44,26 @@ within_of (Some f) words p (inr missing) = let at = missing.2 in omega arith
 
 pub place_within : PlaceWithin
 place_within words p is = within_of (function words) words p is
+
+-- ---- and they have one
+
+module _ (w : List ℕ) (ws : List (List ℕ)) where
+  abbrev Has : Type 0
+  Has = ((c : Command) × IsCommand (w ∷ ws) c) ⊎ ((place : ℕ) × IsFirstBad (w ∷ ws) place)
+
+  module _ (f : Function) (names : function (w ∷ ws) ≡ Some f) where
+    said_or_missing : (c : Command) (whole : Bool) → reads (listing (items_from 2 false ws)) (blank f) (items_from 2 false ws) ≡ Ok c → is_whole c ≡ whole → Has
+    said_or_missing c true is all = inl (c, answer_command f w ws names c is all)
+    said_or_missing c false is part = inr (length ws + 2, answer_missing f w ws names c is part)
+
+    read_through : (r : Result Command ℕ) → reads (listing (items_from 2 false ws)) (blank f) (items_from 2 false ws) ≡ r → Has
+    read_through (Ok c) is = said_or_missing c (is_whole c) is refl
+    read_through (Err p) is = inr (p, answer_bad f w ws names p is)
+
+  by_function : (o : Option Function) → function (w ∷ ws) ≡ o → Has
+  by_function None none = inr (1, subst (λ (o : Option Function). IsFirstOf o (w ∷ ws) 1) (sym none) refl)
+  by_function (Some f) names = read_through f names (reads (listing (items_from 2 false ws)) (blank f) (items_from 2 false ws)) refl
+
+pub command_or_place : CommandOrPlace
+command_or_place [] = inr (1, refl)
+command_or_place (w ∷ ws) = by_function w ws (function (w ∷ ws)) refl

@@ -1,5 +1,5 @@
 -- What the reader answers.
-use Rattle.std.specs.Prelude.{ℕ, ◌≡◌, ◌≤◌, ◌+◌, List, length, Result, Ok, Err, if◌then◌else◌, nat_le}
+use Rattle.std.specs.Prelude.{ℕ, ◌≡◌, ◌≤◌, ◌+◌, ◌⊎◌, List, length, Result, Ok, Err, if◌then◌else◌, nat_le}
 use Rattle.ae_words.specs.Grammar.{IsCommand, IsFirstBad}
 use Rattle.ae_words.specs.declared.command.Command.{Command}
 use Rattle.ae_words.specs.declared.read.WordsError.{WordsError}
@@ -24,6 +24,10 @@ IsReadAs c (Err error.Memory) = Unit {0}
 -- words are at most one command
 abbrev pub OneCommand : Type 0
 OneCommand = (words : List (List ℕ)) (c d : Command) → IsCommand words c → IsCommand words d → c ≡ d
+
+-- words are a command, or one of them is the first bad one, or a word is missing
+abbrev pub CommandOrPlace : Type 0
+CommandOrPlace = (words : List (List ℕ)) → ((c : Command) × IsCommand words c) ⊎ ((place : ℕ) × IsFirstBad words place)
 
 -- words have at most one first bad place
 abbrev pub OnePlace : Type 0

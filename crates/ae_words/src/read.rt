@@ -1,7 +1,7 @@
 // Reading the words of a command.
 ghost use Rattle.std.specs.Prelude.{◌≡◌, ◌+◌, ◌<◌, ◌∷◌, map, length, string_bytes, IfOk};
 ghost use Rattle.ae_words.specs.Formed.{IsFormed};
-ghost use Rattle.ae_words.specs.Answer.{IsAnswer, IsReadAs, OneCommand, OnePlace, NeverBoth, PlaceWithin, told};
+ghost use Rattle.ae_words.specs.Answer.{IsAnswer, IsReadAs, CommandOrPlace, OneCommand, OnePlace, NeverBoth, PlaceWithin, told};
 ghost use Rattle.ae_words.specs.Grammar.{IsCommand};
 ghost use Rattle.ae_words.specs.Items.{function};
 
@@ -73,9 +73,10 @@ pub fn read_words(alloc: Global, words: &[String]) -> Result<Command, WordsError
     }
 }
 
-/// Laws: words are at most one command, have at most one first bad place, never both, and that place is at most one past
-/// the last word.
+/// Laws: words are a command or have a first bad place, whatever they are; at most one command, at most one place, and
+/// never both. That place is at most one past the last word.
 pub fn words_have_one_answer()
+    ensures one_of_two { CommandOrPlace }
     ensures command { OneCommand }
     ensures place { OnePlace }
     ensures never_both { NeverBoth }
