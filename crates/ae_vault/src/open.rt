@@ -4,7 +4,7 @@ ghost use Rattle.ae_outside.specs.Image.{IsSame};
 ghost use Rattle.ae_outside.specs.Causes.{HasRisen};
 ghost use Rattle.ae_outside.specs.State.{reads, MayLeave, Continues, GoesOn};
 ghost use Rattle.ae_vault.specs.Vault.{effective, is_open, all_entry_names};
-ghost use Rattle.ae_vault.specs.Commit.{IsClean, IsSettled, OpenAt, Throughout, IsRecovering, IsGateSynced, IsRedo};
+ghost use Rattle.ae_vault.specs.Commit.{IsClean, IsSettled, OpenAt, Throughout, IsRecovering, IsGateSynced, IsRedo, UnlessFault};
 
 use crate::body::read_body;
 use crate::vault::{BODY, GATE, put_entries, set_gate};
@@ -19,9 +19,10 @@ impl Vault {
         ensures clean { OnOk result (D.tells → IsClean (D.state disk.new)) }
         // Where the disk is settled, a stop at any moment leaves the files that one before it would have left,
         ensures any_moment { D.tells → IsSettled (reads (D.state disk.old)) (MayLeave (D.state disk.old)) → Throughout (OpenAt (D.state disk.old)) (D.state disk.old).moment (D.state disk.new) }
-        // And from the sync of the gate on those of a stop that left the gate as it is read.
+        // And from the sync of the gate on those of a stop that left the gate as it is read. Only a fault leaves open whether
+        // the gate was synced, and then only while nothing was written.
         ensures synced { D.tells → IsSettled (reads (D.state disk.old)) (MayLeave (D.state disk.old)) → GoesOn IsSame (D.state disk.old) (D.state disk.new) ⊎ IsRecovering (D.state disk.old) (D.state disk.new) }
-        ensures synced_ok { OnOk result (D.tells → IsSettled (reads (D.state disk.old)) (MayLeave (D.state disk.old)) → IsRecovering (D.state disk.old) (D.state disk.new)) }
+        ensures synced_ok { UnlessFault result (D.tells → IsSettled (reads (D.state disk.old)) (MayLeave (D.state disk.old)) → IsRecovering (D.state disk.old) (D.state disk.new)) }
         // However it ends, what is read are the files that were read before.
         ensures read { D.tells → effective (reads (D.state disk.new)) ≡ effective (reads (D.state disk.old)) }
         ensures whole { OnOk result (D.tells → effective (reads (D.state disk.old)) ≢ None) }
@@ -45,7 +46,7 @@ impl Vault {
 // Syncs the gate, and reads what it and the body say.
 fn read_redo<D: Disk>(alloc: Global, disk: &mut D) -> Result<Option<Vec<Entry>>, VaultError>
     ensures change { D.tells → GoesOn IsSame (D.state disk.old) (D.state disk.new) }
-    ensures synced { OnOk result (D.tells → IsGateSynced (D.state disk.old) (D.state disk.new)) }
+    ensures synced { UnlessFault result (D.tells → IsGateSynced (D.state disk.old) (D.state disk.new)) }
     ensures redo { IfOk result (λ entries. D.tells → IsRedo (reads (D.state disk.old)) (option_map (λ v. v.items) entries)) }
     ensures names { IfOk result (λ entries. IfSome entries (λ v. all_entry_names v.items ≡ true)) }
     ensures damaged { IsErrOf result VaultError.Damaged → D.tells → effective (reads (D.state disk.old)) ≡ None }
