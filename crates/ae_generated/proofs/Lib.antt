@@ -1,0 +1,9 @@
+pub mod Commands
+pub mod Digits
+pub mod First
+pub mod Lines
+pub mod Made
+pub mod Paths
+pub mod Puts
+pub mod Tokens
+pub mod Whole
