@@ -19,9 +19,13 @@ use Rattle.ae_words.specs.declared.table.Row.TheVariants as rows
 use Rattle.ae_words.specs.declared.table.Setting.TheVariants as setting
 use Rattle.ae_words.proofs.FirstBad.{answer_command}
 
--- the command of a function on a change and paths
+-- the command of a function, with nothing else
+abbrev pub bare : Function → Command
+bare f = record { function = f; project = None; change = None; attributes = None; delta = None; overwriting = false; baseline = false; regression = false; name = None; users = []; paths = []; listing = None; numbers = [] }
+
+-- the same on a change and paths
 abbrev pub on_paths : Function → ℕ → List (List ℕ) → Command
-on_paths f n ps = record { function = f; project = None; change = Some n; attributes = None; delta = None; overwriting = false; baseline = false; regression = false; name = None; users = []; paths = ps; listing = None; numbers = [] }
+on_paths f n ps = record (bare f) { change = Some n; paths = ps }
 
 -- the words `-c` and a number are one item
 dash_c : word (codes "-c") ≡ asks setting.Change

@@ -69,7 +69,7 @@ copied_made files k n x some few some_files few_files low high = at (k == 1) ref
         let change_few : 1 + drawn (k - 1) (next x) < 210 = omega arith in
         let file_few : 1 + drawn files (next (next x)) < 210 = omega arith in (
           one_more (copy_made n (1 + drawn (k - 1) (next x)) (1 + drawn files (next (next x))) low high change_few file_few)
-          (one_more (put_made n low high (1 + drawn (k - 1) (next x)) (1 + drawn files (next (next x))) (next (next x)) change_few file_few) no_lines),
+              (one_more (put_made n low high (1 + drawn (k - 1) (next x)) (1 + drawn files (next (next x))) (next (next x)) change_few file_few) no_lines),
           omega arith,
         )
 
@@ -77,11 +77,11 @@ passed_made : (n : ℕ) → 10 ≤ n → n < 210 → AreMade (passed_lines n) ×
 unfolding passed_lines
 passed_made n low high = (
   one_more (change_made (codes "-b") function.Build n build_word low high)
-  (one_more (change_made (codes "-de") function.DevelopEnd n end_word low high)
-  (one_more (change_made (codes "-rpass") function.ReviewPass n review_word low high)
-  (one_more (change_made (codes "-ib") function.IntegrateBegin n integrate_word low high)
-  (one_more (change_made (codes "-b") function.Build n build_word low high)
-  (one_more (change_made (codes "-ipass") function.IntegratePass n pass_word low high) no_lines))))),
+      (one_more (change_made (codes "-de") function.DevelopEnd n end_word low high)
+      (one_more (change_made (codes "-rpass") function.ReviewPass n review_word low high)
+      (one_more (change_made (codes "-ib") function.IntegrateBegin n integrate_word low high)
+      (one_more (change_made (codes "-b") function.Build n build_word low high)
+      (one_more (change_made (codes "-ipass") function.IntegratePass n pass_word low high) no_lines))))),
   omega arith,
 )
 
@@ -104,11 +104,11 @@ module _ (files : ℕ) (some_files : 1 ≤ files) (few_files : files ≤ 99) whe
       let pair : length (copied_lines files k (k + 9) (after_texts files x)) ≤ 2 = copied.1 in
       let six : length (passed_lines (k + 9)) ≤ 6 = passed.1 in (
         one_more new_change
-        (one_more (change_made (codes "-db") function.DevelopBegin (k + 9) begin_word low high)
-        (made_append config.0
-        (one_more (new_files_made files k (k + 9) some_files few_files k_few low high)
-        (made_append texts
-        (made_append copied.0 passed.0))))),
+            (one_more (change_made (codes "-db") function.DevelopBegin (k + 9) begin_word low high)
+            (made_append config.0
+            (one_more (new_files_made files k (k + 9) some_files few_files k_few low high)
+            (made_append texts
+            (made_append copied.0 passed.0))))),
         omega (arith, length-append (config_lines k) (new_files_line files k (k + 9) ∷ with_texts), length-append (text_lines files k (k + 9) 1 x) behind, length-append (copied_lines files k (k + 9) (after_texts files x)) (passed_lines (k + 9)), texts_length files k (k + 9) 1 x),
       )
 
