@@ -12,7 +12,7 @@ ghost use Rattle.ae_machine.specs.declared.directories.DirChange.TheVariants.{Fi
 ghost use Rattle.ae_words.specs.declared.command.Command.{Command};
 ghost use Rattle.ae_machine.specs.declared.view.View.{View};
 ghost use Rattle.ae_machine.specs.Call.{Placing, call_of, change_of, given_of};
-ghost use Rattle.ae_machine.specs.Directories.{dir_changes};
+ghost use Rattle.ae_machine.specs.Directories.{dir_changes, dir_of};
 ghost use Rattle.ae_machine.specs.Fits.{makes_runs, tracked_in};
 ghost use Rattle.ae_machine.specs.Sight.{bytes_of, only_tests, overlaid, paths_read, read_at, with_bytes};
 ghost use Rattle.ae_machine.specs.Versions.{is_test_at, removed_among, rows_based, rows_refreshed};
@@ -234,11 +234,15 @@ pub fn run_changes(
     tracked: &Snapshot,
 ) -> Result<DirChangeList, AllocError>
     requires runs { makes_runs command.now.function ≡ true }
-    ensures { (places : Placing) (bytes : ℕ → List ℕ) (who : List ℕ) (when : ℕ) (view : View) →
+    ensures changes { (places : Placing) (bytes : ℕ → List ℕ) (who : List ℕ) (when : ℕ) (view : View) →
         let given = given_of places state.now bytes command.now who when view in
         refreshed ≡ with_bytes bytes (rows_refreshed given.call (change_of given.call)) →
         tracked.now ≡ tracked_in given (change_of given.call) →
         IfOk result (λ changes. changes ≡ dir_changes given) }
+    // Whatever bytes they have, they are of the same directories.
+    ensures dirs { (places : Placing) (bytes : ℕ → List ℕ) (who : List ℕ) (when : ℕ) (view : View) →
+        let given = given_of places state.now bytes command.now who when view in
+        IfOk result (λ changes. map dir_of changes ≡ map dir_of (dir_changes given)) }
 {
     let Some(change) = change_of(state, command) else {
         drop(refreshed);

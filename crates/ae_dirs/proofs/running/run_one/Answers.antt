@@ -1,5 +1,9 @@
+use Rattle.std.proofs.Common.{refl, sym, ap, ◌∙◌}
+use Rattle.ae_base.proofs.Results.{err_is}
+use Rattle.ae_outside.specs.Site.{SiteState}
+use Rattle.ae_dirs.specs.declared.error.DirsError.TheVariants.{SiteFault}
 use Rattle.ae_dirs.specs.Runs.{MakesByteRuns}
-use Rattle.ae_dirs.proofs.ByteRuns.{made-same, none-made, one-made}
+use Rattle.ae_dirs.proofs.ByteRuns.{made-same, no-more, none-made, one-made}
 use Rattle.ae_dirs.proofs.running.run_one.Goals as goal
 
 pub returns-clause-before : goal.returns-clause-before
@@ -21,3 +25,22 @@ returns-clause-bytes g c = λ tells.
     let made : MakesByteRuns (g.S.Site.state c.args.site.now) (g.S.Site.state c.run.new.self) =
     one-made c.args.dir c.command_text.result.now c.in_ok-exit.exit _ _ c.note_exit.ensures (c.note_bytes.ensures.bytes tells) (c.note_bytes-2.ensures.bytes tells) (c.in_ok-exit.ensures.ran tells) in
     made-same (g.S.Site.state c.args.site.now) (g.S.Site.state c.run.new.self) (g.S.Site.state c.read_again.new.site) made (c.read_again.ensures.same tells)
+
+-- ---- where none was made nothing is changed
+
+pub returns-in_err-path-clause-still : goal.returns-in_err-path-clause-still
+returns-in_err-path-clause-still g c = λ tells none same. refl
+
+pub returns-in_err-before-clause-still : goal.returns-in_err-before-clause-still
+returns-in_err-before-clause-still g c = λ tells none same. refl
+
+pub returns-in_err-exit-clause-still : goal.returns-in_err-exit-clause-still
+returns-in_err-exit-clause-still g c = λ tells none same. absurd (none (err_is _ SiteFault c.from_residual-in_err-exit.ensures.1))
+
+pub returns-in_err-after-clause-still : goal.returns-in_err-after-clause-still
+returns-in_err-after-clause-still g c = λ tells none same.
+    absurd (no-more (g.S.Site.state c.args.site.now).runs _ (sym (c.in_ok-exit.ensures.ran tells) ∙ sym (ap (λ (s : SiteState). s.runs) (c.read_again.ensures.same tells)) ∙ same))
+
+pub returns-clause-still : goal.returns-clause-still
+returns-clause-still g c = λ tells none same.
+    absurd (no-more (g.S.Site.state c.args.site.now).runs _ (sym (c.in_ok-exit.ensures.ran tells) ∙ sym (ap (λ (s : SiteState). s.runs) (c.read_again.ensures.same tells)) ∙ same))
