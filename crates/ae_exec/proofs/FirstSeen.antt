@@ -20,7 +20,6 @@ use Rattle.ae_types.specs.Trees.{TreeRow, baseline_of, candidate_of, tree_path}
 use Rattle.ae_types.proofs.Keys.{by_text}
 use Rattle.ae_types.proofs.Members.{In, in-any, in-map, map-in}
 use Rattle.ae_words.specs.declared.command.Command.{Command}
-use Rattle.ae_words.specs.declared.table.Function.TheVariants as function
 use Rattle.ae_words.specs.Meaning.{is_config}
 use Rattle.ae_machine.specs.declared.view.View.{View}
 use Rattle.ae_machine.specs.Call.{Call, call_of, change_named, given_of}

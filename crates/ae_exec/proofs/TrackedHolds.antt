@@ -9,7 +9,7 @@ use Rattle.std.proofs.lemmas.Bool.{false≢true, le-leb}
 use Rattle.ae_exec.proofs.RunsTyped.{same-paths}
 use Rattle.ae_machine.proofs.SightShows.{reads-too}
 use Rattle.ae_base.specs.Limits.{most_file_bytes}
-use Rattle.ae_base.specs.Rows.{Ascends, Row, Rows, paths_of, put_row, text_cmp}
+use Rattle.ae_base.specs.Rows.{Ascends, Row, Rows, put_row, text_cmp}
 use Rattle.ae_base.specs.declared.words.Kind.{Kind}
 use Rattle.ae_base.specs.declared.words.Kind.TheVariants as kind
 use Rattle.ae_outside.specs.Image.{Image}
