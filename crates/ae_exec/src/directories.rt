@@ -1,5 +1,5 @@
 // The directories are changed as a command asks, before anything is put on the disk.
-ghost use Rattle.std.specs.Prelude.{◌≡◌, ◌≤◌, ◌<◌, ◌+◌, ◌++◌, ◌∷◌, [], ℕ, List, Option, Some, map, true, false, IfOk, IfErr, OnOk, option_copied};
+ghost use Rattle.std.specs.Prelude.{◌≡◌, ◌≤◌, ◌<◌, ◌+◌, ◌++◌, ◌∷◌, [], ℕ, List, Option, Some, map, true, false, IfSome, IfOk, IfErr, OnOk, option_copied};
 ghost use Rattle.std.specs.List.{cons_option};
 ghost use Rattle.ae_outside.specs.Causes.{HasRisen};
 ghost use Rattle.std.specs.Option.{option_map};
@@ -19,7 +19,7 @@ ghost use Rattle.ae_machine.specs.Real.{IsLeft};
 ghost use Rattle.ae_machine.specs.Sight.{row_at};
 ghost use Rattle.ae_machine.specs.Legal.{is_one_command};
 ghost use Rattle.ae_exec.specs.Bytes.{HaveBytes, row_of_path, row_version, rows_at};
-ghost use Rattle.ae_exec.specs.Directories.{AreChanges, AreOwn, DeltaHasRoom, LeavesDirs, makes_files, removes_files, paths_put, puts_files, tree_put};
+ghost use Rattle.ae_exec.specs.Directories.{AreChanges, AreOfOneDelta, AreOwn, ChangesOneDelta, DeltaHasRoom, LeavesDirs, makes_files, removes_files, paths_put, puts_files, tree_put};
 ghost use Rattle.ae_exec.specs.Reading.{AreKept, IsInside, IsLostAmong, reads_of, versions_at, versions_of, versions_read};
 ghost use Rattle.ae_exec.specs.Endings.{EndsAs, StopsReading, outcome_of, outcome_of_stop};
 
@@ -321,6 +321,7 @@ fn integrate_changes<D: Disk>(
     requires room { last_delta state.now < most_deltas }
     ensures changes { IfOk result (λ changes. D.tells → AreChanges (effective (reads (D.state disk.old))) state.now command.now changes) }
     ensures own { IfOk result (λ changes. AreOwn command.now changes) }
+    ensures delta { IfOk result (λ changes. AreOfOneDelta command.now state.now changes) }
     ensures kept { OnOk result (D.tells → AreKept (effective (reads (D.state disk.old))) (versions_read command.now state.now)) }
     ensures same { D.tells → GoesOn IsSame (D.state disk.old) (D.state disk.new) }
     ensures stopped { IfErr result (λ stop. StopsReading D.tells (reads (D.state disk.old)) (versions_read command.now state.now) (HasRisen (D.faults disk.old) (D.faults disk.new)) stop) }
@@ -347,6 +348,7 @@ fn dir_changes<D: Disk>(
     requires room { DeltaHasRoom command.now (Some state.now) }
     ensures changes { IfOk result (λ changes. D.tells → AreChanges (effective (reads (D.state disk.old))) state.now command.now changes) }
     ensures own { IfOk result (λ changes. AreOwn command.now changes) }
+    ensures delta { IfOk result (λ changes. AreOfOneDelta command.now state.now changes) }
     ensures kept { OnOk result (D.tells → AreKept (effective (reads (D.state disk.old))) (versions_read command.now state.now)) }
     ensures same { D.tells → GoesOn IsSame (D.state disk.old) (D.state disk.new) }
     ensures stopped { IfErr result (λ stop. StopsReading D.tells (reads (D.state disk.old)) (versions_read command.now state.now) (HasRisen (D.faults disk.old) (D.faults disk.new)) stop) }
@@ -380,6 +382,7 @@ pub(crate) fn change_directories<D: Disk, S: Site>(
     requires room { DeltaHasRoom command.now (option_copied old) }
     ensures left { OnOk result (D.tells → S.tells → (bytes : ℕ → List ℕ) (who : List ℕ) (when : ℕ) → HaveBytes (effective (reads (D.state disk.old))) (option_copied old.entry) bytes → IsLeft (option_copied old.entry) bytes (called command.now who when (S.state site.old) (S.state site.new))) }
     ensures directories { S.tells → LeavesDirs command.now (S.state site.old) (S.state site.new) (outcome_of result) }
+    ensures delta { S.tells → IfSome (option_copied old.entry) (λ o. ChangesOneDelta command.now o (S.state site.old) (S.state site.new)) }
     ensures kept { OnOk result (D.tells → AreKept (effective (reads (D.state disk.old))) (reads_of command.now (option_copied old.entry))) }
     ensures same { D.tells → GoesOn IsSame (D.state disk.old) (D.state disk.new) }
     ensures stopped { IfErr result (λ stop. EndsAs ⊥ ⊥ (λ refusal. ⊥) (λ name. D.tells → IsLostAmong (reads (D.state disk.old)) (reads_of command.now (option_copied old.entry)) name) (HasRisen (D.faults disk.old) (D.faults disk.new)) (HasRisen (S.faults site.old) (S.faults site.new) × (D.tells → AreKept (effective (reads (D.state disk.old))) (reads_of command.now (option_copied old.entry)))) (outcome_of_stop stop)) }

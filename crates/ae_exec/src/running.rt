@@ -12,7 +12,7 @@ ghost use Rattle.ae_dirs.specs.Jobs.{IsGroup};
 ghost use Rattle.ae_dirs.specs.Reads.{tracked_in};
 ghost use Rattle.ae_dirs.specs.Runs.{MakesByteRuns};
 ghost use Rattle.ae_machine.specs.declared.jobs.Job.{Job};
-ghost use Rattle.ae_machine.specs.Directories.{dirs_after};
+ghost use Rattle.ae_machine.specs.Directories.{dirs_after, ChangesThese};
 ghost use Rattle.ae_base.specs.Rows.{Ascends};
 ghost use Rattle.ae_machine.specs.Call.{given_of};
 ghost use Rattle.ae_machine.specs.Fits.{makes_runs};
@@ -21,6 +21,7 @@ ghost use Rattle.ae_machine.specs.Sight.{with_bytes};
 ghost use Rattle.ae_machine.specs.Space.{placing};
 ghost use Rattle.ae_machine.specs.Versions.{ShowsVersions, rows_based, rows_refreshed};
 ghost use Rattle.ae_exec.specs.Bytes.{AreThere, HaveBytes, rows_at};
+ghost use Rattle.ae_exec.specs.Directories.{AreOwn};
 ghost use Rattle.ae_exec.specs.Endings.{StopsReading};
 ghost use Rattle.ae_exec.specs.Reading.{AreKept, IsInside, based_for, refreshed_for, versions_for_runs, versions_of};
 ghost use Rattle.ae_exec.specs.Runs.{AreForRuns, HaveRun, IsConfigured};
@@ -116,6 +117,8 @@ pub(crate) fn make_runs<S: Site>(
     requires commands { All (λ (job : Job). IsCommand job.command) plan.now.jobs }
     ensures ran { IfOk result (λ rows. S.tells → plan.now.tracked ≡ tracked_in (dirs_after plan.now.changes (S.state site.old).trees dir) plan.now.tracked → HaveRun dir plan.now.changes (paths_of plan.now.tracked) plan.now.jobs rows (S.state site.old) (S.state site.new)) }
     ensures whole { IfOk result (λ rows. IsGroup plan.now.tracked plan.now.jobs rows) }
+    // Where it made none, and it isn't that the directories failed, only those of the changes are changed.
+    ensures unrun { S.tells → (IsErrOf result DirsError.SiteFault → ⊥) → (S.state site.new).runs ≡ (S.state site.old).runs → ChangesThese plan.now.changes (S.state site.old) (S.state site.new) }
     // However it ends, the runs that it made are of bytes.
     ensures bytes { S.tells → MakesByteRuns (S.state site.old) (S.state site.new) }
     ensures cause { Counted (S.faults site.old) (S.faults site.new) (IsErrOf result DirsError.SiteFault) }
@@ -156,6 +159,7 @@ fn run_plan(
     requires paths { paths_of based ≡ map tree_path (based_for command.now state.now) }
     ensures are { IfOk result (λ plan. (bytes : ℕ → List ℕ) (who : List ℕ) (when : ℕ) → refreshed ≡ with_bytes bytes (refreshed_for command.now state.now) → based ≡ with_bytes bytes (based_for command.now state.now) → ShowsVersions (Some state.now) bytes command.now who view.now → AreForRuns (given_of placing state.now bytes command.now who when view.now) plan.changes plan.tracked plan.jobs) }
     ensures commands { IfOk result (λ plan. All (λ (job : Job). IsCommand job.command) plan.jobs) }
+    ensures own { IfOk result (λ plan. AreOwn command.now plan.changes) }
     ensures ascends { IfOk result (λ plan. Ascends plan.tracked) }
 {
     let tracked = tracked(alloc, state, command, view, based)?;
@@ -221,6 +225,7 @@ pub(crate) fn ready<D: Disk>(
     requires accepted { IsConfigured state.now command.now view.now }
     ensures are { IfOk result (λ plan. D.tells → (bytes : ℕ → List ℕ) (who : List ℕ) (when : ℕ) → HaveBytes (effective (reads (D.state disk.old))) (Some state.now) bytes → ShowsVersions (Some state.now) bytes command.now who view.now → AreForRuns (given_of placing state.now bytes command.now who when view.now) plan.changes plan.tracked plan.jobs) }
     ensures commands { IfOk result (λ plan. All (λ (job : Job). IsCommand job.command) plan.jobs) }
+    ensures own { IfOk result (λ plan. AreOwn command.now plan.changes) }
     ensures ascends { IfOk result (λ plan. Ascends plan.tracked) }
     ensures kept { OnOk result (D.tells → AreKept (effective (reads (D.state disk.old))) (versions_for_runs command.now state.now)) }
     ensures same { D.tells → GoesOn IsSame (D.state disk.old) (D.state disk.new) }

@@ -1,4 +1,4 @@
-use Rattle.std.proofs.Common.{rules, ◌≡◌, ◌∙◌, sym, [], ◌∷◌, Some, Err}
+use Rattle.std.proofs.Common.{rules, ◌≡◌, ◌∙◌, ap, sym, [], ◌∷◌, Some, Err}
 use Rattle.std.specs.Option.{option_and_then}
 use Rattle.ae_base.proofs.Results.{err_is}
 use Rattle.ae_outside.specs.declared.dir.Dir.TheVariants.{Integrate}
@@ -7,7 +7,7 @@ use Rattle.ae_types.specs.Found.{change_at}
 use Rattle.ae_machine.specs.declared.directories.DirChange.TheVariants.{Fill}
 use Rattle.ae_exec.specs.declared.stop.Stop.TheVariants as stop
 use Rattle.ae_exec.specs.Endings.{memory}
-use Rattle.ae_exec.proofs.OwnDirs.{named-at, one-own, integrate-own, integrated-changes}
+use Rattle.ae_exec.proofs.OwnDirs.{named-at, one-of-delta, one-own, integrate-own, integrated-changes}
 use Rattle.ae_exec.proofs.RunVersions.{candidate-have}
 use Rattle.ae_exec.proofs.directories.integrate_changes.Goals as goal
 
@@ -50,3 +50,6 @@ returns-clause-same g c = c.candidate_files.ensures.same
 
 pub returns-clause-later : goal.returns-clause-later
 returns-clause-later g c = c.candidate_files.ensures.later
+
+pub returns-clause-delta : goal.returns-clause-delta
+returns-clause-delta g c = one-of-delta c.args.command.now c.args.state.now (Fill (Integrate c.next_delta.result) c.in_ok-files.files) _ c.in_ok-one_change.ensures (ap Integrate c.next_delta.ensures)

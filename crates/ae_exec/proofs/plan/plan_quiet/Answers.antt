@@ -1,18 +1,20 @@
 use Rattle.std.proofs.Math.Nat.{le_trans}
 use Rattle.std.proofs.Common.{◌≡◌, le_refl, refl, subst, Err}
-use Rattle.std.specs.Prelude.{option_copied}
+use Rattle.std.specs.Prelude.{IfSome, option_copied}
 use Rattle.ae_base.proofs.Results.{err_is}
 use Rattle.ae_outside.proofs.Rising.{risen_later}
 use Rattle.ae_outside.specs.Image.{IsSame}
 use Rattle.ae_outside.specs.Site.{SiteState}
 use Rattle.ae_outside.specs.State.{reads}
 use Rattle.ae_outside.specs.Time.{goes_on_refl}
+use Rattle.ae_types.specs.Observation.{Observation}
 use Rattle.ae_vault.specs.Vault.{effective}
 use Rattle.ae_machine.specs.declared.verdict.Verdict.{Verdict}
 use Rattle.ae_machine.specs.declared.verdict.Verdict.TheVariants.{Accept, Refuse}
 use Rattle.ae_machine.specs.Called.{Called, called}
 use Rattle.ae_machine.specs.Real.{IsLeft}
 use Rattle.ae_exec.specs.declared.stop.Stop.TheVariants as stop
+use Rattle.ae_exec.specs.Directories.{ChangesOneDelta}
 use Rattle.ae_exec.specs.Endings.{refused, memory}
 use Rattle.ae_exec.specs.Next.{IfAccepted, MayFollow}
 use Rattle.ae_exec.specs.Seen as seen_specs
@@ -22,7 +24,7 @@ use Rattle.ae_exec.proofs.RunVersions.{quiet-asked}
 use Rattle.ae_exec.proofs.Endings.{ends_for}
 use Rattle.ae_exec.proofs.Following.{same_answer, seen_answer}
 use Rattle.ae_exec.proofs.Room.{delta-room}
-use Rattle.ae_exec.proofs.OwnDirs.{leaves-still}
+use Rattle.ae_exec.proofs.OwnDirs.{leaves-still, one-delta-still}
 use Rattle.ae_exec.proofs.Ended.{leaves-done, leaves-stopped, leaves-unmade}
 use Rattle.ae_exec.proofs.plan.plan_quiet.Goals as goal
 
@@ -164,3 +166,23 @@ change_directories-requires-clause-quiet g c = c.requires.quiet
 
 pub change_directories-requires-clause-clean : goal.change_directories-requires-clause-clean
 change_directories-requires-clause-clean g c = c.requires.clean
+
+-- ---- an integration that begins
+
+pub returns-in_err-view-clause-delta : goal.returns-in_err-view-clause-delta
+returns-in_err-view-clause-delta g c = λ seen. one-delta-still c.args.command.now (option_copied c.args.old) (g.S.Site.state c.args.site.now) (g.S.Site.state c.see_quiet.new.site) (c.see_quiet.ensures.same seen)
+
+pub returns-in_err-events-clause-delta : goal.returns-in_err-events-clause-delta
+returns-in_err-events-clause-delta g c = λ seen. one-delta-still c.args.command.now (option_copied c.args.old) (g.S.Site.state c.args.site.now) (g.S.Site.state c.see_quiet.new.site) (c.see_quiet.ensures.same seen)
+
+pub returns-in-Refuse-clause-delta : goal.returns-in-Refuse-clause-delta
+returns-in-Refuse-clause-delta g c = λ seen. one-delta-still c.args.command.now (option_copied c.args.old) (g.S.Site.state c.args.site.now) (g.S.Site.state c.see_quiet.new.site) (c.see_quiet.ensures.same seen)
+
+pub returns-in_err-change_directories-in-Accept-clause-delta : goal.returns-in_err-change_directories-in-Accept-clause-delta
+returns-in_err-change_directories-in-Accept-clause-delta g c = λ seen. subst (λ (before : SiteState). IfSome (option_copied c.args.old) (λ (o : Observation). ChangesOneDelta c.args.command.now o before (g.S.Site.state c.change_directories.new.site))) (c.see_quiet.ensures.same seen) (c.change_directories.ensures.delta seen)
+
+pub returns-in_err-prepare-in-Accept-clause-delta : goal.returns-in_err-prepare-in-Accept-clause-delta
+returns-in_err-prepare-in-Accept-clause-delta g c = λ seen. subst (λ (before : SiteState). IfSome (option_copied c.args.old) (λ (o : Observation). ChangesOneDelta c.args.command.now o before (g.S.Site.state c.change_directories.new.site))) (c.see_quiet.ensures.same seen) (c.change_directories.ensures.delta seen)
+
+pub returns-in_ok-prepare-in-Accept-clause-delta : goal.returns-in_ok-prepare-in-Accept-clause-delta
+returns-in_ok-prepare-in-Accept-clause-delta g c = λ seen. subst (λ (before : SiteState). IfSome (option_copied c.args.old) (λ (o : Observation). ChangesOneDelta c.args.command.now o before (g.S.Site.state c.change_directories.new.site))) (c.see_quiet.ensures.same seen) (c.change_directories.ensures.delta seen)

@@ -1,3 +1,7 @@
+use Rattle.std.proofs.Common.{◌≡◌, ◌∙◌, sym, subst, List}
+use Rattle.ae_outside.specs.Site.{SiteState}
+use Rattle.ae_machine.specs.declared.directories.DirChange.{DirChange}
+use Rattle.ae_machine.specs.Directories.{ChangesThese}
 use Rattle.ae_dirs.proofs.ByteRuns.{made-then, none-made}
 use Rattle.ae_exec.proofs.running.make_runs.Goals as goal
 
@@ -7,3 +11,18 @@ returns-in_err-change_dirs-clause-bytes g c = λ tells. none-made (g.S.Site.stat
 pub returns-clause-bytes : goal.returns-clause-bytes
 returns-clause-bytes g c = λ tells.
     made-then (g.S.Site.state c.args.site.now) (g.S.Site.state c.change_dirs.new.site) (g.S.Site.state c.run_group.new.site) (none-made (g.S.Site.state c.args.site.now) (g.S.Site.state c.change_dirs.new.site) (c.change_dirs.ensures.only tells).runs) (c.run_group.ensures.bytes tells)
+
+-- ---- where nothing was run
+
+pub returns-in_err-change_dirs-clause-unrun : goal.returns-in_err-change_dirs-clause-unrun
+returns-in_err-change_dirs-clause-unrun g c = λ tells none same.
+    subst (λ (l : List DirChange). ChangesThese l (g.S.Site.state c.args.site.now) (g.S.Site.state c.change_dirs.new.site)) c.as_slice.ensures (c.change_dirs.ensures.only tells)
+
+pub returns-clause-unrun : goal.returns-clause-unrun
+returns-clause-unrun g c = λ tells none same.
+    let before : SiteState = g.S.Site.state c.args.site.now in
+    let changed : SiteState = g.S.Site.state c.change_dirs.new.site in
+    let after : SiteState = g.S.Site.state c.run_group.new.site in
+    let these : ChangesThese c.args.plan.now.changes before changed = subst (λ (l : List DirChange). ChangesThese l before changed) c.as_slice.ensures (c.change_dirs.ensures.only tells) in
+    let still : after ≡ changed = c.run_group.ensures.still tells none (same ∙ sym these.runs) in
+    subst (λ (end : SiteState). ChangesThese c.args.plan.now.changes before end) (sym still) these

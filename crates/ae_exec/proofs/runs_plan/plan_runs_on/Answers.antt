@@ -1,7 +1,7 @@
 use Rattle.std.proofs.Math.Nat.{le_trans}
 use Rattle.std.proofs.Common.{refl, ◌≡◌, ◌∙◌, ap, sym, subst, inr, ℕ, List, Option, Some, Err}
 use Rattle.ae_machine.proofs.SightShows.{reads-too}
-use Rattle.ae_base.proofs.Results.{err_is}
+use Rattle.ae_base.proofs.Results.{err_is, ok_is_no_err}
 use Rattle.ae_outside.proofs.Rising.{risen_later}
 use Rattle.ae_outside.specs.Image.{Image}
 use Rattle.ae_outside.specs.Site.{SiteState}
@@ -11,7 +11,7 @@ use Rattle.ae_vault.specs.Vault.{effective}
 use Rattle.ae_machine.specs.declared.verdict.Verdict.TheVariants.{Accept, Refuse}
 use Rattle.ae_machine.specs.declared.view.View.{View}
 use Rattle.ae_machine.specs.Called.{Called, answer_to, called}
-use Rattle.ae_machine.specs.Directories.{dirs_after}
+use Rattle.ae_machine.specs.Directories.{dirs_after, ChangesThese}
 use Rattle.ae_machine.specs.Real.{IsLeft}
 use Rattle.ae_dirs.specs.Reads as dir_reads
 use Rattle.ae_dirs.specs.Runs.{MakesByteRuns}
@@ -29,7 +29,7 @@ use Rattle.ae_exec.specs.Seen.{FilesRefuse, IsDecidedSo, answering, reading}
 use Rattle.ae_exec.specs.Stopping.{stop_of_dirs}
 use Rattle.ae_exec.proofs.Endings.{ends_for}
 use Rattle.ae_exec.proofs.Ended.{dirs_err}
-use Rattle.ae_exec.proofs.OwnDirs.{dirs_ends, dirs_touch, early-so, early-still, no-disk-fault, leaves-runs, leaves-still}
+use Rattle.ae_exec.proofs.OwnDirs.{dirs_ends, dirs_touch, early-so, early-still, no-disk-fault, leaves-runs, leaves-still, site-stops}
 use Rattle.ae_exec.proofs.Following.{same_answer}
 use Rattle.ae_exec.proofs.RunAnswers.{accepted-configured, accepted-with}
 use Rattle.ae_exec.proofs.RanSo.{all-kept, lost-later, ran-both, refused-so, unrun-answer}
@@ -144,16 +144,25 @@ returns-in_err-plan-clause-directories g c = λ seen. leaves-still c.args.comman
 pub returns-in_err-runs-clause-directories : goal.returns-in_err-runs-clause-directories
 returns-in_err-runs-clause-directories g c = λ seen.
     dirs_err c.args.command.now (g.S.Site.state c.args.site.now) (g.S.Site.state c.make_runs-made.new.site) _ (stop_of_dirs c.in_err-runs.field-0.0) (err_is _ _ c.from_residual-in_err-runs.ensures.1)
-    (leaves-runs c.args.command.now (g.S.Site.state c.args.site.now) (g.S.Site.state c.make_runs-made.new.site) _ c.requires.runs (dirs_touch c.in_err-runs.field-0.0) (subst (λ (st : SiteState). MakesByteRuns st (g.S.Site.state c.make_runs-made.new.site)) (c.see.ensures.site_same seen) (c.make_runs-made.ensures.bytes seen)))
+    (leaves-runs c.args.command.now c.in_ok-plan.plan.changes (g.S.Site.state c.args.site.now) (g.S.Site.state c.make_runs-made.new.site) _ c.requires.runs (dirs_touch c.in_err-runs.field-0.0)
+    (subst (λ (st : SiteState). MakesByteRuns st (g.S.Site.state c.make_runs-made.new.site)) (c.see.ensures.site_same seen) (c.make_runs-made.ensures.bytes seen)) c.in_ok-plan.ensures.own
+    (λ other same. subst (λ (st : SiteState). ChangesThese c.in_ok-plan.plan.changes st (g.S.Site.state c.make_runs-made.new.site)) (c.see.ensures.site_same seen)
+    (c.in_err-runs.ensures.unrun seen (site-stops c.in_err-runs.field-0.0 other) (same ∙ sym (ap (λ (st : SiteState). st.runs) (c.see.ensures.site_same seen))))))
 
 pub returns-in_err-planned-clause-directories : goal.returns-in_err-planned-clause-directories
 returns-in_err-planned-clause-directories g c = λ seen.
     dirs_err c.args.command.now (g.S.Site.state c.args.site.now) (g.S.Site.state c.make_runs-made.new.site) _ stop.Memory (err_is _ _ c.from_residual-in_err-planned.ensures.1)
-    (leaves-runs c.args.command.now (g.S.Site.state c.args.site.now) (g.S.Site.state c.make_runs-made.new.site) _ c.requires.runs (λ none. none) (subst (λ (st : SiteState). MakesByteRuns st (g.S.Site.state c.make_runs-made.new.site)) (c.see.ensures.site_same seen) (c.make_runs-made.ensures.bytes seen)))
+    (leaves-runs c.args.command.now c.in_ok-plan.plan.changes (g.S.Site.state c.args.site.now) (g.S.Site.state c.make_runs-made.new.site) _ c.requires.runs (λ none. none)
+    (subst (λ (st : SiteState). MakesByteRuns st (g.S.Site.state c.make_runs-made.new.site)) (c.see.ensures.site_same seen) (c.make_runs-made.ensures.bytes seen)) c.in_ok-plan.ensures.own
+    (λ other same. subst (λ (st : SiteState). ChangesThese c.in_ok-plan.plan.changes st (g.S.Site.state c.make_runs-made.new.site)) (c.see.ensures.site_same seen)
+    (c.in_ok-runs.ensures.unrun seen (ok_is_no_err _ _) (same ∙ sym (ap (λ (st : SiteState). st.runs) (c.see.ensures.site_same seen))))))
 
 pub returns-clause-directories : goal.returns-clause-directories
 returns-clause-directories g c = λ seen.
-    leaves-runs c.args.command.now (g.S.Site.state c.args.site.now) (g.S.Site.state c.make_runs-made.new.site) _ c.requires.runs (λ none. none) (subst (λ (st : SiteState). MakesByteRuns st (g.S.Site.state c.make_runs-made.new.site)) (c.see.ensures.site_same seen) (c.make_runs-made.ensures.bytes seen))
+    leaves-runs c.args.command.now c.in_ok-plan.plan.changes (g.S.Site.state c.args.site.now) (g.S.Site.state c.make_runs-made.new.site) _ c.requires.runs (λ none. none)
+    (subst (λ (st : SiteState). MakesByteRuns st (g.S.Site.state c.make_runs-made.new.site)) (c.see.ensures.site_same seen) (c.make_runs-made.ensures.bytes seen)) c.in_ok-plan.ensures.own
+    (λ other same. subst (λ (st : SiteState). ChangesThese c.in_ok-plan.plan.changes st (g.S.Site.state c.make_runs-made.new.site)) (c.see.ensures.site_same seen)
+    (c.in_ok-runs.ensures.unrun seen (ok_is_no_err _ _) (same ∙ sym (ap (λ (st : SiteState). st.runs) (c.see.ensures.site_same seen)))))
 
 pub plan_accepted-planned-requires-clause-accepted : goal.plan_accepted-planned-requires-clause-accepted
 plan_accepted-planned-requires-clause-accepted g c =
