@@ -11,7 +11,7 @@ use Rattle.ae_vault.specs.Pieces.{pack}
 use Rattle.ae_types.specs.declared.change.Change.{Change}
 use Rattle.ae_types.specs.Observation.{Observation}
 use Rattle.ae_bundle.specs.declared.bundle.Bundle.{Bundle}
-use Rattle.ae_dist.specs.declared.acts.Act.{Act}
+use Rattle.ae_lines.specs.declared.act.Act.{Act}
 use Rattle.ae_dist.specs.declared.error.DistError.{DistError}
 use Rattle.ae_dist.specs.declared.error.DistError.TheVariants.{Refused, Damaged, DiskFault, Memory}
 use Rattle.ae_dist.specs.declared.rows.Row.{Row}

@@ -25,7 +25,7 @@ use Rattle.ae_store.specs.Records.{Show}
 use Rattle.ae_history.specs.Packed.{AreOf, bytes_at}
 use Rattle.ae_bundle.specs.declared.bundle.Bundle.{Bundle}
 use Rattle.ae_bundle.specs.declared.bundle.BundleFile.{BundleFile}
-use Rattle.ae_dist.specs.declared.acts.Act.{Act}
+use Rattle.ae_lines.specs.declared.act.Act.{Act}
 use Rattle.ae_dist.specs.declared.sending.Head.{Head}
 use Rattle.ae_dist.specs.declared.rows.Row.{Row}
 use Rattle.ae_dist.specs.declared.error.DistError.{DistError}

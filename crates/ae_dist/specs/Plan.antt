@@ -23,8 +23,8 @@ use Rattle.ae_words.specs.declared.table.Function.TheVariants as function
 use Rattle.ae_bundle.specs.declared.bundle.Bundle.{Bundle}
 use Rattle.ae_bundle.specs.declared.bundle.BundleFile.{BundleFile}
 use Rattle.ae_dist.specs.Sending.{refuses_project}
-use Rattle.ae_dist.specs.declared.acts.Act.{Act}
-use Rattle.ae_dist.specs.declared.acts.Act.TheVariants.{Run, Put}
+use Rattle.ae_lines.specs.declared.act.Act.{Act}
+use Rattle.ae_lines.specs.declared.act.Act.TheVariants.{Run, Put}
 
 -- ---- the change that is made
 

@@ -13,13 +13,14 @@ ghost use Rattle.ae_dist.specs.Answers.{Answers, IsPlanned, Plans, RefusesPlan, 
 ghost use Rattle.ae_dist.specs.Plan.{adding, addition, attributes_of, attributes_path, attributes_text, begin, command, is_there, is_unused, new_change, on_path, plan_of, put, removal};
 
 use crate::opening::open_project;
-use crate::{Act, ActList, DistError};
+use crate::{ActList, DistError};
 use ae_base::limits::MOST_CHANGES;
 use ae_base::{
     Action, ChangeNo, Path, PathList, ProjectName, Refusal, Text, Usage, UserList, Want, Which,
 };
 use ae_bundle::{Bundle, BundleFile};
 use ae_files::file_in_tree;
+use ae_lines::Act;
 use ae_outside::{Dir, Disk};
 use ae_text::{Field, FieldList, Tree, print_tree};
 use ae_types::{State, has_number};

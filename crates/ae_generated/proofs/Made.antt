@@ -16,7 +16,7 @@ use Rattle.ae_reader.proofs.CutLemmas.{NoEnd, lines_first}
 use Rattle.ae_words.proofs.FirstBad.{one_command}
 use Rattle.ae_words.specs.declared.command.Command.{Command}
 use Rattle.ae_words.specs.declared.table.Function.TheVariants as function
-use Rattle.ae_generated.specs.Script.{AreLines, IsScript}
+use Rattle.ae_lines.specs.Script.{AreLines, IsScript}
 
 -- a line of the generator: plain bytes and a line end, not many, that say something which is no test
 pub record IsMade (line : List ℕ) : Type 0 where

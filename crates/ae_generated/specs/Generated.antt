@@ -6,7 +6,7 @@ use Rattle.ae_lines.specs.declared.line.Line.TheVariants.{Do}
 use Rattle.ae_reader.specs.Cut.{lines_of, content_of}
 use Rattle.ae_words.specs.declared.command.Command.{Command}
 use Rattle.ae_words.specs.declared.table.Function.TheVariants as function
-use Rattle.ae_generated.specs.Script.{IsScript}
+use Rattle.ae_lines.specs.Script.{IsScript}
 
 -- the generator takes so many changes, each of so many files
 pub record IsSize (changes files : ℕ) : Type 0 where

@@ -1,124 +1,104 @@
--- How the lines end, from what its calls answered.
-use Rattle.std.specs.Prelude.{◌≡◌, ◌⊎◌, ◌+◌, ◌≤◌, ℕ, true, false, Bool, List, [], ◌∷◌, ◌++◌}
-use Rattle.std.proofs.Common.{inl, inr, refl, sym, ap, subst, ◌∙◌, arith, append-nil}
+-- How a script ends, from what its calls answered.
+use Rattle.std.specs.Prelude.{◌≡◌, ◌+◌, ℕ, true, List, [], ◌∷◌, ◌++◌, length}
+use Rattle.std.proofs.Common.{inl, inr, refl, sym, ap, subst, ◌∙◌}
 use Rattle.ae_base.specs.declared.outcome.Outcome.{Outcome}
-use Rattle.ae_base.specs.declared.outcome.Outcome.TheVariants.{Done, RunFailed, Refused, BadWords, BadScript, DiskFault, SiteFault, SinkFault, SourceFault, Damaged, Memory}
-use Rattle.ae_outside.specs.Causes.{HasRisen}
-use Rattle.ae_outside.specs.Site.{SiteState}
-use Rattle.ae_outside.specs.State.{DiskState, Continues}
-use Rattle.ae_reader.specs.Cut.{lines_of}
+use Rattle.ae_base.specs.declared.outcome.Outcome.TheVariants.{Done, BadScript, SourceFault, Memory}
 use Rattle.ae_lines.specs.Line.{IsLine}
-use Rattle.ae_reader.specs.Reader.{IsNext, IsTooLong, IsPart}
 use Rattle.ae_lines.specs.declared.line.Line.{Line}
+use Rattle.ae_reader.specs.Reader.{IsNext, IsPart}
 use Rattle.ae_telling.specs.Messages.{bad_line_text, input_fault_text, memory_text, message}
-use Rattle.ae_telling.specs.Telling.{goes_on, sink_use, IsSaid, IsTold, IsToldOrMemory, unless_told}
-use Rattle.ae_script.specs.Along.{is_fault}
-use Rattle.ae_script.specs.Ends.{IsBad, ScriptEnds, read, bad_line, source, memory, stopped, cut, ScriptDone}
-use Rattle.ae_script.specs.Manner.{leads_on}
-use Rattle.ae_script.specs.Script.{Point, point, stop}
-use Rattle.ae_script.specs.Step.{StepDone, IsStoppedBy}
-use Rattle.ae_script.specs.Uses.{disk_use, site_use, source_use}
-use Rattle.ae_script.specs.declared.manner.Manner.{Manner}
-use Rattle.ae_script.proofs.Following.{Logs, go_more, leads_goes}
-use Rattle.ae_script.proofs.SoFar.{SoFar, ends_behind, ends_with_line, fault_untold}
+use Rattle.ae_telling.specs.Telling.{IsTold, IsToldOrMemory, sink_use}
+use Rattle.ae_acts.specs.Lines.{AreDone, Did, Does, LinesEnd, Stand, lines_said}
+use Rattle.ae_acts.specs.Manner.{leads_on}
+use Rattle.ae_acts.specs.Step.{IsStoppedBy}
+use Rattle.ae_acts.specs.Uses.{Disks, Sites, source_use}
+use Rattle.ae_acts.specs.declared.manner.Manner.{Manner}
+use Rattle.ae_acts.proofs.Lines as lines
+use Rattle.ae_acts.proofs.Lines.{ends_after, ends_by, ends_silent, leads_more, length_more, more_so_far, none_so_far, runs_more}
+use Rattle.ae_acts.proofs.Logged.{follows}
+use Rattle.ae_script.specs.Ends.{HasBadNext, HasReadTo, ScriptDone, ScriptEnds, bad_line, memory, read, source}
+use Rattle.ae_script.proofs.Reading.{read_more, read_none}
 
--- ---- counts
+module _ (d : Disks) (s : Sites) (manner : Manner) where
+  -- The lines so far, and those of the input that they are.
+  pub record SoFar (from to : Stand d s) (script : List ℕ) (at count : ℕ) (rest : List ℕ) (source_told told : Type 0) (old taken : List ℕ) : Type 0 where
+    pub so : lines.SoFar d s manner from to told old taken
+    pub counted : length so.done ≡ count
+    pub read : source_told → HasReadTo script (lines_said d s so.done) at rest
 
-pub risen_on : (a b c : ℕ) → b ≤ c → HasRisen a b → HasRisen a c
-risen_on a b c later rose = omega (arith, later, rose)
+  pub none_yet : (from : Stand d s) (script rest : List ℕ) (at : ℕ) (source_told told : Type 0) (old : List ℕ) → at ≡ 0 → rest ≡ script → SoFar from from script at 0 rest source_told told old old
+  none_yet from script rest at source_told told old begun whole = record { so = none_so_far d s manner from told old; counted = refl; read = λ fed. read_none script rest at begun whole }
 
--- ---- a line that isn't understood
+  module _ (from to : Stand d s) (script : List ℕ) (at count : ℕ) (rest : List ℕ) (source_told told : Type 0) (old taken : List ℕ) (so : SoFar from to script at count rest source_told told old taken) where
+    -- ---- an end after them
 
-pub record BadHere (at : ℕ) (rest : List ℕ) : Type 0 where
-  pub line : List ℕ
-  pub more : List (List ℕ)
-  pub is_next : lines_of rest ≡ line ∷ more
-  pub bad : IsBad at line
+    module _ (left : List ℕ) (taken_new : List ℕ) (source_rose now_rose rose : Type 0) (on : now_rose → rose) (result : Outcome) where
+      abbrev pub Ended : Type 0
+      Ended = ScriptDone d s manner from to.disk to.site (source_use source_told script left source_rose) (sink_use told old taken_new rose) result
 
-pub too_long : (at : ℕ) (rest : List ℕ) → IsTooLong at rest → BadHere at rest
-too_long at rest long = record { line = long.line; more = long.more; is_next = long.cut; bad = λ says good. long.long good.within }
+      abbrev Ends : Outcome → List ℕ → Type 0
+      Ends = ScriptEnds (length so.so.done) at rest (source_use source_told script left source_rose)
 
-pub not_said : (at at_new : ℕ) (rest rest_new text : List ℕ) → IsNext at at_new rest rest_new text → ((line : Line) → IsLine text line → ⊥) → BadHere at rest
-not_said at at_new rest rest_new text next none =
-    record { line = next.line; more = lines_of rest_new; is_next = next.cut; bad = λ says good. none says (subst (λ (t : List ℕ). IsLine t says) (sym next.content) good.said) }
+      ended : LinesEnd d s manner so.so.done (sink_use told old taken_new rose) Ends result → Ended
+      ended ends = record {
+        done = so.so.done;
+        at = at;
+        rest = rest;
+        read = so.read;
+        runs = so.so.runs;
+        disk_is = ap (λ (p : Stand d s). p.disk) so.so.leads;
+        site_is = ap (λ (p : Stand d s). p.site) so.so.leads;
+        ends = ends;
+        logs = λ seen shown. follows d s manner seen shown from so.so.done _ _ _ _ (ap (λ (p : Stand d s). p.disk) so.so.leads) so.so.runs ends;
+      }
 
--- ---- the ends after the lines
+      ended_by : (meant : Outcome) (text : List ℕ) → Ends meant text → IsTold meant text (sink_use told taken taken_new now_rose) result → Ended
+      ended_by meant text is last = ended (ends_after d s manner from to told old taken so.so Ends taken_new now_rose rose meant result text on is last)
 
-module _ (manner : Manner) (from : Point) (script : List ℕ) (base disk : DiskState) (held : Logs) (at count : ℕ) (rest : List ℕ) (who : List ℕ) (now : ℕ) (site_from site : SiteState)
-    (taken taken_mid taken_new : List ℕ) (told disk_told site_told source_told disk_rose site_rose source_rose now_rose sink_rose : Type 0) (left : List ℕ) (result : Outcome) (on : now_rose → sink_rose)
-    (so : SoFar manner from script base disk held at count rest who now site taken taken_mid told disk_rose site_rose) where
-  abbrev pub Ended : Type 0
-  Ended = ScriptDone manner from held (disk_use disk_told base disk disk_rose) (site_use site_told site_from site site_rose) (source_use source_told script left source_rose) (sink_use told taken taken_new sink_rose) result
+      pub memory_behind : IsTold Memory (message Memory) (sink_use told taken taken_new now_rose) result → Ended
+      memory_behind last = ended_by Memory memory_text memory last
 
-  abbrev pub Last : Outcome → List ℕ → Type 0
-  Last meant text = IsTold meant text (sink_use told taken_mid taken_new now_rose) result
+      pub source_behind : source_rose → (source_told → IsPart rest left) → IsTold SourceFault (message SourceFault) (sink_use told taken taken_new now_rose) result → Ended
+      source_behind risen part last = ended_by SourceFault input_fault_text (source risen part) last
 
-  how_last : (meant : Outcome) (text : List ℕ) → Last meant text → (result ≡ meant) ⊎ ((result ≡ unless_told meant) × sink_rose)
-  how_last meant text last = elim last.how [ inl is ↦ inl is | inr untold ↦ inr (untold.0, on untold.1) ]
+      pub bad_behind : (source_told → HasBadNext at rest) → IsToldOrMemory (BadScript (count + 1)) (sink_use told taken taken_new now_rose) result → Ended
+      bad_behind bad (inr last) = memory_behind last
+      bad_behind bad (inl last) = ended_by (BadScript (count + 1)) (bad_line_text (count + 1)) (subst (λ (n : ℕ). Ends (BadScript (n + 1)) (bad_line_text (n + 1))) so.counted (bad_line bad)) last
 
-  fault_last : (meant : Outcome) (text : List ℕ) → Last meant text → is_fault result ≡ is_fault meant
-  fault_last meant text last = elim last.how [ inl is ↦ ap is_fault is | inr untold ↦ ap is_fault untold.0 ∙ fault_untold meant ]
+    pub read_behind : (left : List ℕ) (source_rose rose : Type 0) → (source_told → rest ≡ []) → ScriptDone d s manner from to.disk to.site (source_use source_told script left source_rose) (sink_use told old taken rose) Done
+    read_behind left source_rose rose none = ended left taken source_rose rose rose (λ risen. risen) Done (ends_silent d s manner from to told old taken so.so _ rose (read none))
 
-  ended_last : (meant : Outcome) (text : List ℕ) → is_fault meant ≡ false → ScriptEnds manner so.done at rest left source_rose sink_rose meant text → Last meant text → Ended
-  ended_last meant text calm ends last =
-      ends_behind manner from script base disk held at count rest who now site_from site taken taken_mid taken_new told disk_told site_told source_told disk_rose site_rose source_rose now_rose sink_rose left text result meant so ends
-      (how_last meant text last) (fault_last meant text last ∙ calm) on last.said
+    -- ---- one line more
 
-  pub memory_behind : Last Memory (message Memory) → Ended
-  memory_behind last = ended_last Memory memory_text refl (memory so.go) last
+    module _ (one : Did d s) (does : Does d s manner to one) (at_new : ℕ) (rest_new text taken_new : List ℕ) (next : source_told → IsNext at at_new rest rest_new text) (is : source_told → IsLine text one.line) where
+      read_one : (ones : List (Did d s)) → ones ≡ so.so.done ++ one ∷ [] → source_told → HasReadTo script (lines_said d s ones) at_new rest_new
+      read_one ones same fed =
+          subst (λ (says : List Line). HasReadTo script says at_new rest_new) (sym (lines.lines_more d s so.so.done one) ∙ ap (lines_said d s) (sym same))
+          (read_more script rest rest_new text at at_new (lines_said d s so.so.done) one.line (so.read fed) (next fed) (is fed))
 
-  pub source_behind : source_rose → IsPart rest left → Last SourceFault (message SourceFault) → Ended
-  source_behind rose part last = ended_last SourceFault input_fault_text refl (source so.go rose part) last
+      pub one_more : leads_on manner one.outcome ≡ true → (told → taken_new ≡ taken ++ one.text) → SoFar from one.to script at_new (count + 1) rest_new source_told told old taken_new
+      one_more leads all = record {
+        so = more_so_far d s manner from to told old taken so.so one does taken_new leads all;
+        counted = length_more so.so.done one ∙ ap (λ (n : ℕ). n + 1) so.counted;
+        read = read_one (so.so.done ++ one ∷ []) refl;
+      }
 
-  pub bad_behind : BadHere at rest → IsToldOrMemory (BadScript (count + 1)) (sink_use told taken_mid taken_new now_rose) result → Ended
-  bad_behind bad (inr last) = memory_behind last
-  bad_behind bad (inl last) = ended_last (BadScript (count + 1)) (bad_line_text (count + 1)) refl
-      (subst (λ (n : ℕ). ScriptEnds manner so.done at rest left source_rose sink_rose (BadScript (n + 1)) (bad_line_text (n + 1))) so.counted (bad_line so.go bad.line bad.more bad.is_next bad.bad)) last
+      pub one_ends : (left : List ℕ) (source_rose now_rose rose : Type 0) (result : Outcome) → (now_rose → rose) → IsStoppedBy manner one.outcome one.text (sink_use told taken taken_new now_rose) result
+          → ScriptDone d s manner from one.to.disk one.to.site (source_use source_told script left source_rose) (sink_use told old taken_new rose) result
+      one_ends left source_rose now_rose rose result on stopped = record {
+        done = so.so.done ++ one ∷ [];
+        at = at_new;
+        rest = rest_new;
+        read = read_one (so.so.done ++ one ∷ []) refl;
+        runs = runs_all;
+        disk_is = ap (λ (p : Stand d s). p.disk) (leads_more d s manner from to told old taken so.so one does);
+        site_is = ap (λ (p : Stand d s). p.site) (leads_more d s manner from to told old taken so.so one does);
+        ends = ends_now;
+        logs = λ seen shown. follows d s manner seen shown from (so.so.done ++ one ∷ []) _ _ _ _ (ap (λ (p : Stand d s). p.disk) (leads_more d s manner from to told old taken so.so one does)) runs_all ends_now;
+      }
+        where
+          runs_all : AreDone d s manner from (so.so.done ++ one ∷ [])
+          runs_all = runs_more d s manner from to told old taken so.so one does
 
-  pub read_behind : result ≡ Done → rest ≡ [] → taken_new ≡ taken_mid → Ended
-  read_behind is none same = ended_last Done [] refl (read so.go none) (record {
-    how = inl is;
-    said = λ tells. subst (λ (o : Outcome). IsSaid [] o taken_mid taken_new now_rose) (sym is) (same ∙ sym (append-nil taken_mid));
-  })
-
--- ---- a line that ends them
-
-goes_untold : (o : Outcome) → goes_on o ≡ true → unless_told o ≡ SinkFault
-goes_untold Done goes = refl
-goes_untold RunFailed goes = refl
-goes_untold (Refused refusal) goes = refl
-goes_untold (BadWords place) goes = refl
-goes_untold (BadScript line) goes = refl
-goes_untold SinkFault goes = refl
-goes_untold DiskFault goes = absurd (let both : false ≡ true = goes in cc)
-goes_untold SiteFault goes = absurd (let both : false ≡ true = goes in cc)
-goes_untold SourceFault goes = absurd (let both : false ≡ true = goes in cc)
-goes_untold (Damaged file) goes = absurd (let both : false ≡ true = goes in cc)
-goes_untold Memory goes = absurd (let both : false ≡ true = goes in cc)
-
-module _ (manner : Manner) (from : Point) (script : List ℕ) (base mid disk : DiskState) (held : Logs) (at count : ℕ) (rest : List ℕ) (who : List ℕ) (now : ℕ) (site site_new : SiteState)
-    (taken taken_mid : List ℕ) (told disk_told site_told disk_rose site_rose disk_now site_now disk_later site_later : Type 0)
-    (disk_on : disk_rose → disk_later) (site_on : site_rose → site_later) (disk_too : disk_now → disk_later) (site_too : site_now → site_later)
-    (so : SoFar manner from script base mid held at count rest who now site taken taken_mid told disk_rose site_rose)
-    (time : Continues mid disk) (early : base.moment ≤ mid.moment) where
-  pub line_ends : (site_from : SiteState) (left : List ℕ) (source_told source_rose now_rose sink_rose : Type 0) (at_new : ℕ) (rest_new text : List ℕ) (says : Line) (who_new : List ℕ) (now_new : ℕ) (outcome result : Outcome) (written taken_new : List ℕ)
-      → IsNext at at_new rest rest_new text → IsLine text says
-      → StepDone manner (point who now (stop from so.done).log site) says so.later (disk_use disk_told mid disk disk_now) (site_use site_told site site_new site_now) who_new now_new outcome written
-      → (now_rose → sink_rose) → IsStoppedBy manner outcome written (sink_use told taken_mid taken_new now_rose) result
-      → ScriptDone manner from held (disk_use disk_told base disk disk_later) (site_use site_told site_from site_new site_later) (source_use source_told script left source_rose) (sink_use told taken taken_new sink_rose) result
-  line_ends site_from left source_told source_rose now_rose sink_rose at_new rest_new text says who_new now_new outcome result written taken_new next is step on stop_by =
-      elim stop_by.how [
-        | inl ended ↦ finish step.done.outcome (stopped so.done step.done refl so.go (ap (leads_on manner) step.is_outcome ∙ ended.0)) (inl (ended.1 ∙ sym step.is_outcome)) (ap is_fault ended.1)
-        | inr untold ↦ by_leads (leads_on manner outcome) refl untold.0 (on untold.1)
-      ]
-    where
-      finish : (meant : Outcome) → ScriptEnds manner (so.done ++ step.done ∷ []) at_new rest_new left source_rose sink_rose meant [] → (result ≡ meant) ⊎ ((result ≡ unless_told meant) × sink_rose) → is_fault result ≡ is_fault outcome
-          → ScriptDone manner from held (disk_use disk_told base disk disk_later) (site_use site_told site_from site_new site_later) (source_use source_told script left source_rose) (sink_use told taken taken_new sink_rose) result
-      finish meant ends how fault =
-          ends_with_line manner from script base mid disk held at count rest who now site site_new taken taken_mid told disk_told site_told disk_rose site_rose disk_now site_now disk_later site_later disk_on site_on disk_too site_too so time early
-          site_from left source_told source_rose now_rose sink_rose at_new rest_new text says who_new now_new outcome result meant written taken_new next is step ends how fault on stop_by.said
-
-      by_leads : (b : Bool) → leads_on manner outcome ≡ b → result ≡ unless_told outcome → sink_rose
-          → ScriptDone manner from held (disk_use disk_told base disk disk_later) (site_use site_told site_from site_new site_later) (source_use source_told script left source_rose) (sink_use told taken taken_new sink_rose) result
-      by_leads true leads untold rose = finish SinkFault (cut (go_more manner so.done step.done so.go (ap (leads_on manner) step.is_outcome ∙ leads)) rose) (inl (untold ∙ goes_untold outcome (leads_goes manner outcome leads))) (ap is_fault untold ∙ fault_untold outcome)
-      by_leads false ends untold rose = finish step.done.outcome (stopped so.done step.done refl so.go (ap (leads_on manner) step.is_outcome ∙ ends)) (inr (untold ∙ ap unless_told (sym step.is_outcome), rose)) (ap is_fault untold ∙ fault_untold outcome)
+          ends_now : LinesEnd d s manner (so.so.done ++ one ∷ []) (sink_use told old taken_new rose) (ScriptEnds (length (so.so.done ++ one ∷ [])) at_new rest_new (source_use source_told script left source_rose)) result
+          ends_now = ends_by d s manner from to told old taken so.so one does _ taken_new now_rose rose result on stopped

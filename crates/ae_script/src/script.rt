@@ -1,19 +1,14 @@
 // A script, from its first line to its end.
-ghost use Rattle.std.specs.Prelude.{◌≡◌, ◌≤◌, ◌⊎◌, List, true, false};
-ghost use Rattle.ae_base.specs.declared.outcome.Outcome.TheVariants.{BadWords, Memory};
-ghost use Rattle.ae_outside.specs.Causes.{HasRisen};
-ghost use Rattle.ae_log.specs.Log.{Log};
-ghost use Rattle.ae_exec.specs.Holding.{HoldsLegal};
-ghost use Rattle.ae_telling.specs.Telling.{IsToldOrMemory, sink_use};
-ghost use Rattle.ae_script.specs.Causes.{IsCaused};
-ghost use Rattle.ae_script.specs.Ends.{IsScript, ScriptDone};
-ghost use Rattle.ae_script.specs.Script.{point};
-ghost use Rattle.ae_script.specs.Step.{KeepsDisk, may_give};
-ghost use Rattle.ae_script.specs.Uses.{disk_use, site_use, source_use};
-ghost use Rattle.ae_script.specs.declared.manner.Manner.TheVariants.{Script};
+ghost use Rattle.std.specs.Prelude.{◌≡◌, ◌≤◌, true, false};
+ghost use Rattle.ae_base.specs.declared.outcome.Outcome.TheVariants.{BadWords};
+ghost use Rattle.ae_telling.specs.Telling.{IsToldOrMemory};
+ghost use Rattle.ae_acts.specs.Lines.{stand};
+ghost use Rattle.ae_acts.specs.Step.{may_give};
+ghost use Rattle.ae_acts.specs.Uses.{disks, read_from, sites, streams, written_from};
+ghost use Rattle.ae_acts.specs.declared.manner.Manner.TheVariants.{Script};
+ghost use Rattle.ae_script.specs.Ends.{ScriptDone};
 
-use crate::doing::{Standing, do_line, tell_line};
-use crate::manner::Manner;
+use ae_acts::{Manner, Standing, do_line, tell_line};
 use ae_base::limits::LAST_MOMENT;
 use ae_base::{Outcome, User};
 use ae_lines::read_line;
@@ -33,22 +28,13 @@ pub fn do_lines<D: Disk, S: Site, I: Source, O: Sink>(
     input: &mut I,
     out: &mut O,
 ) -> Outcome
-    // Where the disk holds legal logs, each line is one step from where the one before it led.
-    ensures done { D.tells → S.tells → I.tells →
-        (held : List Log) (log : Log) → HoldsLegal (D.state disk.old) held log →
-        ScriptDone manner (point standing.who standing.now log (S.state site.old)) held
-        (disk_use D.tells (D.state disk.old) (D.state disk.new) (HasRisen (D.faults disk.old) (D.faults disk.new)))
-        (site_use S.tells (S.state site.old) (S.state site.new) (HasRisen (S.faults site.old) (S.faults site.new)))
-        (source_use I.tells (I.left input.old) (I.left input.new) (HasRisen (I.faults input.old) (I.faults input.new)))
-        (sink_use O.tells (O.taken out.old) (O.taken out.new) (HasRisen (O.faults out.old) (O.faults out.new))) result }
-    // A fault has its cause, whether or not anything is told.
-    ensures causes { IsCaused (HasRisen (D.faults disk.old) (D.faults disk.new))
-        (HasRisen (S.faults site.old) (S.faults site.new)) (HasRisen (I.faults input.old) (I.faults input.new))
-        (HasRisen (O.faults out.old) (O.faults out.new)) result }
-    // What is left on the disk, whatever it held.
-    ensures disk { D.tells → KeepsDisk (D.state disk.old) (D.state disk.new) }
-    ensures disk_faults { D.faults disk.old ≤ D.faults disk.new }
-    ensures site_faults { S.faults site.old ≤ S.faults site.new }
+    // Each line that was done goes on from where the one before it led, whatever the disk holds, and the lines are those of the
+    // input. What is written of each was taken whole before the next one began. Where the disk holds legal logs, they are steps
+    // of the log machine.
+    ensures done { let d = disks D.tells D.state D.faults in let s = sites S.tells S.state S.faults in
+        ScriptDone d s manner (stand d s standing.who standing.now disk.old site.old) disk.new site.new
+        (read_from (streams I.tells I.left I.faults) input.old input.new)
+        (written_from (streams O.tells O.taken O.faults) out.old out.new) result }
     ensures input_faults { I.faults input.old ≤ I.faults input.new }
     ensures out_faults { O.faults out.old ≤ O.faults out.new }
 {
@@ -91,35 +77,16 @@ pub fn run_script<D: Disk, S: Site, I: Source, O: Sink>(
     input: &mut I,
     out: &mut O,
 ) -> Outcome
-    // Where the disk holds legal logs, each line is one step from where the one before it led; the output, the log and the
-    // directories are those of the steps.
-    ensures done { may_give who.now now ≡ true → D.tells → S.tells → I.tells →
-        (held : List Log) (log : Log) → HoldsLegal (D.state disk.old) held log →
-        ScriptDone Script (point who.now now log (S.state site.old)) held
-        (disk_use D.tells (D.state disk.old) (D.state disk.new) (HasRisen (D.faults disk.old) (D.faults disk.new)))
-        (site_use S.tells (S.state site.old) (S.state site.new) (HasRisen (S.faults site.old) (S.faults site.new)))
-        (source_use I.tells (I.left input.old) (I.left input.new) (HasRisen (I.faults input.old) (I.faults input.new)))
-        (sink_use O.tells (O.taken out.old) (O.taken out.new) (HasRisen (O.faults out.old) (O.faults out.new))) result }
-    // A fault has its cause, whether or not anything is told.
-    ensures causes { IsCaused (HasRisen (D.faults disk.old) (D.faults disk.new))
-        (HasRisen (S.faults site.old) (S.faults site.new)) (HasRisen (I.faults input.old) (I.faults input.new))
-        (HasRisen (O.faults out.old) (O.faults out.new)) result }
-    // A script in the grammar is read to its end and done where no count rises, unless memory runs out.
-    ensures complete { may_give who.now now ≡ true → D.tells → S.tells → I.tells →
-        (held : List Log) (log : Log) → HoldsLegal (D.state disk.old) held log → IsScript (I.left input.old) →
-        (HasRisen (D.faults disk.old) (D.faults disk.new) → ⊥) →
-        (HasRisen (S.faults site.old) (S.faults site.new) → ⊥) →
-        (HasRisen (I.faults input.old) (I.faults input.new) → ⊥) →
-        (HasRisen (O.faults out.old) (O.faults out.new) → ⊥) →
-        (result ≡ Outcome.Done) ⊎ (result ≡ Outcome.Memory) }
+    // The lines of the input are done as `do_lines` says.
+    ensures done { may_give who.now now ≡ true →
+        let d = disks D.tells D.state D.faults in let s = sites S.tells S.state S.faults in
+        ScriptDone d s Script (stand d s who.now now disk.old site.old) disk.new site.new
+        (read_from (streams I.tells I.left I.faults) input.old input.new)
+        (written_from (streams O.tells O.taken O.faults) out.old out.new) result }
     // A user that is none, or a moment that is too late: nothing is called but the sink.
     ensures nobody { may_give who.now now ≡ false → (disk.new ≡ disk.old) × (site.new ≡ site.old) ×
         (input.new ≡ input.old) × IsToldOrMemory (BadWords 0)
-        (sink_use O.tells (O.taken out.old) (O.taken out.new) (HasRisen (O.faults out.old) (O.faults out.new))) result }
-    // What is left on the disk, whatever it held.
-    ensures disk { D.tells → KeepsDisk (D.state disk.old) (D.state disk.new) }
-    ensures disk_faults { D.faults disk.old ≤ D.faults disk.new }
-    ensures site_faults { S.faults site.old ≤ S.faults site.new }
+        (written_from (streams O.tells O.taken O.faults) out.old out.new) result }
     ensures input_faults { I.faults input.old ≤ I.faults input.new }
     ensures out_faults { O.faults out.old ≤ O.faults out.new }
 {

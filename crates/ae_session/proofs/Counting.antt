@@ -8,7 +8,8 @@ use Rattle.ae_lines.specs.declared.line.Line.{Line}
 use Rattle.ae_lines.specs.declared.line.Line.TheVariants.{Do}
 use Rattle.ae_words.specs.declared.command.Command.{Command}
 use Rattle.ae_words.proofs.FirstBad.{one_command}
-use Rattle.ae_script.specs.Ends.{IsBad, AreLines, HasRead}
+use Rattle.ae_lines.specs.Script.{IsBad, AreLines}
+use Rattle.ae_script.specs.Ends.{HasRead}
 use Rattle.ae_session.specs.Summary.{HasBuilds, IsCounted, builds, builds_in}
 
 -- a text says one line

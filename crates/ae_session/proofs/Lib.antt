@@ -1,12 +1,11 @@
-pub mod Alone
 pub mod Asking
 pub mod Calling
+pub mod Causes
 pub mod Counting
 pub mod Making
 pub mod Projects
 pub mod Repeating
 pub mod RunsMade
 pub mod Sizes
-pub mod Still
 pub mod Summed
 pub mod Summing

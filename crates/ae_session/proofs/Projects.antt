@@ -1,142 +1,201 @@
 -- A made-up project: all that the generator did.
-use Rattle.std.specs.Prelude.{◌++◌}
-use Rattle.std.proofs.Common.{◌≡◌, ◌∙◌, inl, inr, ℕ, true, false, List, [], append-nil, refl, sym, ap, subst}
+use Rattle.std.specs.Prelude.{◌≡◌, ◌≤◌, ◌⊎◌, ℕ, true, false, List, [], ◌∷◌, ◌++◌, length, map, Option}
+use Rattle.std.proofs.Common.{inl, inr, refl, sym, ap, subst, ◌∙◌, arith, le_refl, append-nil}
 use Rattle.ae_base.specs.declared.outcome.Outcome.{Outcome}
-use Rattle.ae_base.specs.declared.outcome.Outcome.TheVariants.{Done, DiskFault, Memory}
-use Rattle.ae_outside.specs.Site.{SiteState}
-use Rattle.ae_outside.specs.State.{DiskState, reads}
+use Rattle.ae_base.specs.declared.outcome.Outcome.TheVariants.{Done}
+use Rattle.ae_outside.specs.Causes.{HasRisen}
+use Rattle.ae_outside.specs.State.{reads}
+use Rattle.ae_outside.specs.Time.{continues_then}
+use Rattle.ae_outside.proofs.Rising.{risen_later}
 use Rattle.ae_log.specs.Log.{Log}
 use Rattle.ae_log.specs.Observed.{observation}
-use Rattle.ae_exec.specs.Holding.{HoldsLegal}
 use Rattle.ae_exec.specs.Performs.{LeavesDisk}
-use Rattle.ae_exec.specs.Stands.{StandsForLog}
 use Rattle.ae_generator.specs.Lines.{generated_text}
+use Rattle.ae_exec.specs.Stands.{StandsForLog}
+use Rattle.ae_types.specs.Observation.{Observation}
+use Rattle.ae_exec.specs.Holding.{HoldsLegal}
 use Rattle.ae_telling.specs.Messages.{message}
-use Rattle.ae_telling.specs.Telling.{IsSaid, IsTold, SinkUse, sink_use}
-use Rattle.ae_script.specs.Ends.{HasRead, ScriptDone, size}
-use Rattle.ae_script.specs.Manner.{is_done}
-use Rattle.ae_script.specs.Script.{Point, point, stop, transcript}
-use Rattle.ae_script.specs.Uses.{disk_use, site_use, source_use}
-use Rattle.ae_script.specs.declared.manner.Manner.TheVariants.{Generator}
-use Rattle.ae_script.proofs.Runs.{runs_on, said_more}
-use Rattle.ae_session.specs.Called.{LinesDone, ProjectDone, lines_said, stops, tells, fails, unmade}
+use Rattle.ae_telling.specs.Telling.{IsTold, SinkUse, sink_use, unless_told}
+use Rattle.ae_acts.specs.Causes.{IsCaused}
+use Rattle.ae_acts.specs.Follows.{AreStepsOf, FollowLogs, IsLogged}
+use Rattle.ae_acts.specs.Lines.{AllLead, AreDone, Did, LinesEnd, Stand, by_end, by_line, last_stand, lines_said, transcript}
+use Rattle.ae_acts.specs.Manner.{is_done, leads_on}
+use Rattle.ae_outside.specs.Site.{SiteState}
+use Rattle.ae_lines.specs.declared.line.Line.{Line}
+use Rattle.ae_acts.specs.Steps.{AllLeadOn, LineDone, Point, point, stop}
+use Rattle.ae_acts.specs.Uses.{Disks, Sites, Streams, written_from}
+use Rattle.ae_acts.specs.declared.manner.Manner.TheVariants.{Generator}
+use Rattle.ae_acts.proofs.Caused.{caused_on, disk_later, site_later}
+use Rattle.ae_acts.proofs.Lines.{stopped_then, told_then}
+use Rattle.ae_acts.specs.Step.{IsStoppedBy}
+use Rattle.ae_acts.specs.declared.manner.Manner.{Manner}
+use Rattle.ae_acts.proofs.Logged.{follows_all}
+use Rattle.ae_acts.proofs.Telling.{done_is, meant_done}
+use Rattle.ae_script.specs.Ends.{HasReadTo, ScriptDone, ScriptEnds, read, bad_line, source, memory}
+use Rattle.ae_session.specs.Called.{ProjectDone, ProjectsCountRuns, lines_made, stops, stored, tells, unmade}
+use Rattle.ae_session.specs.Calls.{TakesNothing}
+use Rattle.ae_session.specs.Summary.{HasBuilds, MakesRuns, SummaryTold, builds}
 use Rattle.ae_session.specs.Summary as summary
-use Rattle.ae_session.specs.Summary.{FailsToRead, HasBuilds, SummaryTold, told, untold, builds, summary_text}
-use Rattle.ae_session.proofs.Alone.{reads_either}
-use Rattle.ae_session.proofs.Making.{AllDone, done_is, ends_done, ends_unread, loaded_along, loaded_holds, meant_done, transcript_is_empty}
+use Rattle.ae_session.proofs.Making.{loaded_along, loaded_holds}
 use Rattle.ae_session.proofs.RunsMade.{runs_made}
-use Rattle.ae_session.proofs.Still.{still_done}
 
--- ---- there was no memory for the script
+-- a line that ends the lines isn't done
+pub never_by_line : (o : Outcome) (rose : Type 0) → ((leads_on Generator o ≡ false) × (Done ≡ o)) ⊎ ((Done ≡ unless_told o) × rose) → ⊥
+never_by_line o rose (inl ended) = let both : true ≡ false = ap is_done ended.1 ∙ ended.0 in absurd (cc both)
+never_by_line o rose (inr untold) = let here : o ≡ Done = meant_done o Done rose refl (inr untold) in let lost : Done ≡ unless_told Done = untold.0 ∙ ap unless_told here in let both : true ≡ false = ap is_done lost in absurd (cc both)
 
-pub project_unmade : (start changes files : ℕ) (who : List ℕ) (now : ℕ) (log : Log) (held : List Log) (disk : DiskState) (site : SiteState) (disk_told site_told disk_rose site_rose out_told out_rose : Type 0) (taken : List ℕ) (err : SinkUse) (result : Outcome)
-    → HoldsLegal disk held log → IsTold Memory (message Memory) err result
-    → ProjectDone start changes files (point who now log site) held (disk_use disk_told disk disk disk_rose) (site_use site_told site site site_rose) (sink_use out_told taken taken out_rose) err result
-project_unmade start changes files who now log held disk site disk_told site_told disk_rose site_rose out_told out_rose taken err result holds last = record {
-  done = [];
-  meant = Memory;
-  text = message Memory;
-  to_out = false;
-  is = unmade;
-  did = still_done Generator who now log site held disk disk_told site_told disk_rose site_rose result holds;
-  told = last;
-  other = λ shown. refl;
-}
+pub risen_on : (a b c : ℕ) → b ≤ c → HasRisen a b → HasRisen a c
+risen_on a b c later rose = omega (arith, later, rose)
 
--- ---- its lines were done, up to the first that isn't
+module _ (d : Disks) (s : Sites) where
+  -- all of them lead on, where the script ends so
+  pub all_lead : (done : List (Did d s)) (sink : SinkUse) (After : Outcome → List ℕ → Type 0) → LinesEnd d s Generator done sink After Done → AllLead d s Generator done
+  all_lead done sink After (by_end meant text lead after told) = lead
+  all_lead done sink After (by_line before last is lead ends) = absurd (never_by_line last.outcome sink.rose ends.how)
 
-module _ (start changes files : ℕ) (from : Point) (held : List Log) (base mid : DiskState) (site site_new : SiteState) (script left first second : List ℕ) (disk_told site_told source_told err_told lines_rose site_rose source_rose err_lines : Type 0) (ended : Outcome)
-    (same : script ≡ generated_text start changes files) (never : source_rose → ⊥)
-    (did : ScriptDone Generator from held (disk_use disk_told base mid lines_rose) (site_use site_told site site_new site_rose) (source_use source_told script left source_rose) (sink_use err_told first second err_lines) ended) where
-  pub project_stops : (out_told out_rose : Type 0) (taken : List ℕ) → is_done ended ≡ false
-      → ProjectDone start changes files from held (disk_use disk_told base mid lines_rose) (site_use site_told site site_new site_rose) (sink_use out_told taken taken out_rose) (sink_use err_told first second err_lines) ended
-  project_stops out_told out_rose taken other = record {
-    done = did.done;
-    meant = did.meant;
-    text = did.text;
-    to_out = false;
-    is = stops did.done did.meant did.text did.lines did.rest left (subst (λ (t : List ℕ). HasRead t did.lines (lines_said did.done) did.rest) same did.read)
-        (ends_unread did.done (size did.lines) did.rest left source_rose err_lines did.meant did.text never did.ends) other;
-    did = record { runs = did.runs; directories = did.directories; refined = did.refined; holds = did.holds; reads = reads_either ended did.reads did.among };
-    told = record { how = did.told; said = did.said };
-    other = λ shown. refl;
+  lead_steps : (done : List (Did d s)) (steps : List LineDone) → AreStepsOf d s done steps → AllLead d s Generator done → AllLeadOn Generator steps
+  lead_steps [] [] are lead = tt
+  lead_steps [] (x ∷ steps) are lead = absurd are
+  lead_steps (x ∷ done) [] are lead = absurd are
+  lead_steps (x ∷ done) (y ∷ steps) are lead = (ap (leads_on Generator) are.0.outcome ∙ lead.0, lead_steps done steps are.1 lead.1)
+
+  loaded : (from : Stand d s) (done : List (Did d s)) (mid disk : d.Disk) (held : List Log) (log : Log) → AllLead d s Generator done → LeavesDisk (d.state mid) (d.state disk) (Unit {0}) → IsLogged d s Generator from done mid held log
+      → IsLogged d s Generator from done disk held log
+  loaded from done mid disk held log lead leaves so = record {
+    steps = so.steps;
+    are = so.are;
+    runs = so.runs;
+    time = continues_then (d.state from.disk) (d.state mid) (d.state disk) so.time leaves.time;
+    refined = loaded_along (d.state from.disk) (d.state mid) (d.state disk) held log so.steps leaves (lead_steps done so.steps so.are lead) so.refined;
+    holds = loaded_holds (d.state from.disk) (d.state mid) (d.state disk) held log so.steps leaves so.holds;
+    reads = so.reads;
   }
 
-  -- all of them were done
-  module _ (all_done : is_done ended ≡ true) where
-    meant : did.meant ≡ Done
-    meant = meant_done did.meant ended err_lines all_done did.told
+  module _ (start changes files : ℕ) (from : Stand d s) (disk : d.Disk) (site : s.Site) (out err : SinkUse) (result : Outcome) where
+    pub made_runs : (made : ProjectDone d s start changes files from disk site out err result) → AreDone d s Generator from (lines_made d s made)
+    made_runs (unmade only) = tt
+    made_runs (stops left did other silent) = did.runs
+    made_runs (tells mid left taken did sums) = did.runs
 
-    all : AllDone did.done did.rest did.text
-    all = ends_done did.done (size did.lines) did.rest left source_rose err_lines did.meant did.text meant did.ends
+    pub made_logs : d.told → s.told → (made : ProjectDone d s start changes files from disk site out err result) → FollowLogs d s Generator from (lines_made d s made) disk
+    made_logs seen shown (unmade only) = follows_all d s Generator seen shown from [] disk (sym only.disk_is) tt tt
+    made_logs seen shown (stops left did other silent) = did.logs seen shown
+    made_logs seen shown (tells mid left taken did sums) = λ held log was. loaded from did.done mid disk held log (all_lead did.done _ _ did.ends) (sums.leaves seen) (did.logs seen shown held log was)
 
-    read_all : HasRead script did.lines (lines_said did.done) []
-    read_all = subst (λ (r : List ℕ). HasRead script did.lines (lines_said did.done) r) all.read did.read
+    pub made_disk : (made : ProjectDone d s start changes files from disk site out err result) → d.faults from.disk ≤ d.faults disk
+    made_disk (unmade only) = subst (λ (x : d.Disk). d.faults from.disk ≤ d.faults x) (sym only.disk_is) (le_refl (d.faults from.disk))
+    made_disk (stops left did other silent) = subst (λ (x : d.Disk). d.faults from.disk ≤ d.faults x) did.disk_is (disk_later d s Generator from did.done did.runs)
+    made_disk (tells mid left taken did sums) =
+        let first : d.faults from.disk ≤ d.faults mid = subst (λ (x : d.Disk). d.faults from.disk ≤ d.faults x) did.disk_is (disk_later d s Generator from did.done did.runs) in
+        let then : d.faults mid ≤ d.faults disk = sums.later in
+        omega (arith, first, then)
 
-    read_made : HasRead (generated_text start changes files) did.lines (lines_said did.done) []
-    read_made = subst (λ (t : List ℕ). HasRead t did.lines (lines_said did.done) []) same read_all
+    pub made_site : (made : ProjectDone d s start changes files from disk site out err result) → s.faults from.site ≤ s.faults site
+    made_site (unmade only) = subst (λ (x : s.Site). s.faults from.site ≤ s.faults x) (sym only.site_is) (le_refl (s.faults from.site))
+    made_site (stops left did other silent) = subst (λ (x : s.Site). s.faults from.site ≤ s.faults x) did.site_is (site_later d s Generator from did.done did.runs)
+    made_site (tells mid left taken did sums) = subst (λ (x : s.Site). s.faults from.site ≤ s.faults x) did.site_is (site_later d s Generator from did.done did.runs)
 
-    silent : transcript did.done ≡ []
-    silent = transcript_is_empty lines_rose site_rose from did.done did.runs all.lead
+-- ---- counts that rose earlier
 
-    pub read_last : did.holds.read ≡ (stop from did.done).log
-    read_last = did.reads (λ is. let both : Done ≡ DiskFault = sym (done_is ended all_done) ∙ is in cc both)
+summary_on : (runs : ℕ) (stands : Option Observation) (disk_rose : Type 0) (out : SinkUse) (told : Type 0) (old new : List ℕ) (rose later : Type 0) (result : Outcome) → (rose → later)
+    → SummaryTold runs stands disk_rose out (sink_use told old new rose) result → SummaryTold runs stands disk_rose out (sink_use told old new later) result
+summary_on runs stands disk_rose out told old new rose later result on (summary.told text is how quiet) = summary.told text is how quiet
+summary_on runs stands disk_rose out told old new rose later result on (summary.untold why fails how quiet) =
+    summary.untold why fails (subst (λ (b : List ℕ). IsTold why (message why) (sink_use told b new later) result) (append-nil old)
+    (told_then told old old new [] rose later (λ tells. sym (append-nil old)) on why result (message why) how)) quiet
 
-    pub stands_last : StandsForLog (reads mid) (stop from did.done).log
-    stands_last = subst (λ (l : Log). StandsForLog (reads mid) l) read_last did.holds.holds.holds.stands
+pub ends_on : (d : Disks) (s : Sites) (manner : Manner) (done : List (Did d s)) (told : Type 0) (old new : List ℕ) (rose later : Type 0) → (rose → later) → (After : Outcome → List ℕ → Type 0) (result : Outcome)
+    → LinesEnd d s manner done (sink_use told old new rose) After result → LinesEnd d s manner done (sink_use told old new later) After result
+ends_on d s manner done told old new rose later on After result (by_end meant text lead after is) =
+    by_end meant text lead after (subst (λ (b : List ℕ). IsTold meant text (sink_use told b new later) result) (append-nil (old ++ transcript d s done))
+    (told_then told (old ++ transcript d s done) (old ++ transcript d s done) new [] rose later (λ tells. sym (append-nil (old ++ transcript d s done))) on meant result text is))
+ends_on d s manner done told old new rose later on After result (by_line before last is lead ends) =
+    by_line before last is lead (subst (λ (b : List ℕ). IsStoppedBy manner last.outcome last.text (sink_use told b new later) result) (append-nil (old ++ transcript d s before))
+    (stopped_then told (old ++ transcript d s before) (old ++ transcript d s before) new [] rose later (λ tells. sym (append-nil (old ++ transcript d s before))) on manner last.outcome result last.text ends))
 
-    -- nothing was written
-    unwritten : err_told → second ≡ first ++ transcript did.done
-    unwritten shown =
-        let whole : second ≡ first ++ (transcript did.done ++ did.text) = subst (λ (o : Outcome). IsSaid (transcript did.done ++ did.text) o first second err_lines) (done_is ended all_done) (did.said shown) in
-        whole ∙ ap (λ (t : List ℕ). first ++ t) (ap (λ (t : List ℕ). transcript did.done ++ t) all.silent ∙ append-nil (transcript did.done))
+-- ---- the runs that it counts
 
-    nothing : err_told → second ≡ first
-    nothing shown = unwritten shown ∙ ap (λ (t : List ℕ). first ++ t) silent ∙ append-nil first
+module _ (d : Disks) (s : Sites) where
+  said_same : (done : List (Did d s)) (steps : List LineDone) → AreStepsOf d s done steps → map (λ (x : LineDone). x.line) steps ≡ lines_said d s done
+  said_same [] [] are = refl
+  said_same [] (y ∷ steps) are = absurd are
+  said_same (x ∷ done) [] are = absurd are
+  said_same (x ∷ done) (y ∷ steps) are = ap (λ (l : Line). l ∷ map (λ (x : LineDone). x.line) steps) are.0.line ∙ ap (λ (ls : List Line). x.line ∷ ls) (said_same done steps are.1)
 
-    module _ (disk : DiskState) (third : List ℕ) (disk_now disk_rose err_now err_rose : Type 0) (on_lines : lines_rose → disk_rose) (on_now : disk_now → disk_rose) (on_err : err_now → err_rose) (runs : ℕ) (out : SinkUse) (result : Outcome)
-        (counted : HasBuilds script runs) (leaves : LeavesDisk mid disk (Unit {0})) where
-      abbrev pub Made : Type 0
-      Made = ProjectDone start changes files from held (disk_use disk_told base disk disk_rose) (site_use site_told site site_new site_rose) out (sink_use err_told first third err_rose) result
+  last_site : (from : Stand d s) (start : Point) (done : List (Did d s)) (steps : List LineDone) → start.site ≡ s.state from.site → AreStepsOf d s done steps → (stop start steps).site ≡ s.state (last_stand d s from done).site
+  last_site from start [] [] is are = is
+  last_site from start [] (y ∷ steps) is are = absurd are
+  last_site from start (x ∷ done) [] is are = absurd are
+  last_site from start (x ∷ done) (y ∷ steps) is are = last_site x.to y.to done steps (ap (λ (p : Point). p.site) are.0.to) are.1
 
-      followed : LinesDone Generator from held (disk_use disk_told base disk disk_rose) (site_use site_told site site_new site_rose) did.done result
-      followed = record {
-        runs = runs_on Generator lines_rose site_rose disk_rose site_rose on_lines (λ rose. rose) from did.done did.runs;
-        directories = did.directories;
-        refined = loaded_along base mid disk held from.log did.done leaves all.lead did.refined;
-        holds = loaded_holds base mid disk held from.log did.done leaves did.holds;
-        reads = inl read_last;
-      }
+  counted : (start changes files : ℕ) (from : Stand d s) (disk : d.Disk) (site : s.Site) (out err : SinkUse) (result : Outcome) (made : ProjectDone d s start changes files from disk site out err result) → d.told → s.told
+      → (held : List Log) (log : Log) → HoldsLegal (d.state from.disk) held log → AllLead d s Generator (lines_made d s made) → MakesRuns (s.state from.site) (s.state (last_stand d s from (lines_made d s made)).site) (lines_said d s (lines_made d s made))
+  counted start changes files from disk site out err result made seen shown held log was lead =
+      subst (λ (ls : List Line). MakesRuns (s.state from.site) (s.state (last_stand d s from (lines_made d s made)).site) ls) (said_same (lines_made d s made) so.steps so.are)
+      (subst (λ (t : SiteState). MakesRuns (s.state from.site) t (map (λ (x : LineDone). x.line) so.steps)) (last_site from (point from.who from.now log (s.state from.site)) (lines_made d s made) so.steps refl so.are)
+      (runs_made (point from.who from.now log (s.state from.site)) so.steps so.runs (lead_steps d s (lines_made d s made) so.steps so.are lead)))
+    where
+      so : IsLogged d s Generator from (lines_made d s made) (last_stand d s from (lines_made d s made)).disk held log
+      so = follows_all d s Generator seen shown from (lines_made d s made) (last_stand d s from (lines_made d s made)).disk refl (made_runs d s start changes files from disk site out err result made) lead held log was
 
-      count : runs ≡ builds (lines_said did.done)
-      count = counted did.lines (lines_said did.done) read_all
+  pub counts : (o e : Streams) → ProjectsCountRuns d s o e
+  counts o e start changes files from disk site out out_new err err_new result made = counted start changes files from disk site (written_from o out out_new) (written_from e err err_new) result made
 
-      fails_on : (why : Outcome) → FailsToRead disk_now (observation (stop from did.done).log) why → FailsToRead disk_rose (observation (stop from did.done).log) why
-      fails_on _ (summary.disk_fault rose) = summary.disk_fault (on_now rose)
-      fails_on _ summary.memory = summary.memory
-      fails_on _ (summary.no_project none) = summary.no_project none
+-- ---- what the generator's parts did
 
-      pub project_tells : SummaryTold runs (observation (stop from did.done).log) disk_now out (sink_use err_told second third err_now) result → Made
-      project_tells (told text is how quiet) = record {
-        done = did.done;
-        meant = Done;
-        text = summary_text is.0 (builds (lines_said did.done));
-        to_out = true;
-        is = tells did.done did.lines is.0 read_made all.lead is.1 (runs_made lines_rose site_rose from did.done did.runs all.lead);
-        did = followed;
-        told = subst (λ (t : List ℕ). IsTold Done t out result) (is.2 ∙ ap (summary_text is.0) count ∙ ap (λ (t : List ℕ). t ++ summary_text is.0 (builds (lines_said did.done))) (sym silent)) how;
-        other = λ shown. quiet shown ∙ nothing shown;
-      }
-      project_tells (untold why broken how quiet) = record {
-        done = did.done;
-        meant = why;
-        text = message why;
-        to_out = false;
-        is = fails did.done did.lines why read_made all.lead (fails_on why broken);
-        did = followed;
-        told = record {
-          how = elim how.how [ inl is ↦ inl is | inr lost ↦ inr (lost.0, on_err lost.1) ];
-          said = λ shown. said_more result first second third (transcript did.done) (message why) err_now err_rose (unwritten shown) on_err (how.said shown);
-        };
-        other = quiet;
+module _ (d : Disks) (s : Sites) (start changes files : ℕ) (from : Stand d s) (site : s.Site) where
+  pub project_stops : (disk : d.Disk) (script left : List ℕ) (out err : SinkUse) (result : Outcome) → script ≡ generated_text start changes files → ScriptDone d s Generator from disk site (stored script left) err result → is_done result ≡ false → TakesNothing out
+      → ProjectDone d s start changes files from disk site out err result
+  project_stops disk script left out err result same did other quiet = stops left (subst (λ (t : List ℕ). ScriptDone d s Generator from disk site (stored t left) err result) same did) other quiet
+
+  -- the script was read to its end
+  read_all : (mid : d.Disk) (script left : List ℕ) (err : SinkUse) (did : ScriptDone d s Generator from mid site (stored script left) err Done) → HasReadTo script (lines_said d s did.done) did.at []
+  read_all mid script left err did = subst (λ (r : List ℕ). HasReadTo script (lines_said d s did.done) did.at r) (go did.ends) (did.read tt)
+    where
+      after : (meant : Outcome) (text : List ℕ) → meant ≡ Done → ScriptEnds (length did.done) did.at did.rest (stored script left) meant text → did.rest ≡ []
+      after _ _ is (read none) = none tt
+      after _ _ is (bad_line bad) = absurd (let both : false ≡ true = ap is_done is in cc)
+      after _ _ is (source risen part) = absurd (let both : false ≡ true = ap is_done is in cc)
+      after _ _ is memory = absurd (let both : false ≡ true = ap is_done is in cc)
+
+      go : LinesEnd d s Generator did.done err (ScriptEnds (length did.done) did.at did.rest (stored script left)) Done → did.rest ≡ []
+      go (by_end meant text lead is told) = after meant text (meant_done meant Done err.rose refl told.how) is
+      go (by_line before last is lead ends) = absurd (never_by_line last.outcome err.rose ends.how)
+
+  pub project_tells : (mid disk : d.Disk) (script left : List ℕ) (out : SinkUse) (err_told : Type 0) (first second third : List ℕ) (c0 c1 c2 : ℕ) (ended result : Outcome) → script ≡ generated_text start changes files
+      → ScriptDone d s Generator from mid site (stored script left) (sink_use err_told first second (HasRisen c0 c1)) ended → is_done ended ≡ true
+      → (runs : ℕ) → HasBuilds script runs → c0 ≤ c1 → c1 ≤ c2 → d.faults mid ≤ d.faults disk → (d.told → LeavesDisk (d.state mid) (d.state disk) (Unit {0}))
+      → IsCaused (HasRisen (d.faults mid) (d.faults disk)) ⊥ ⊥ (out.rose ⊎ HasRisen c1 c2) result
+      → (d.told → (log : Log) → StandsForLog (reads (d.state mid)) log → SummaryTold runs (observation log) (HasRisen (d.faults mid) (d.faults disk)) out (sink_use err_told second third (HasRisen c1 c2)) result)
+      → ProjectDone d s start changes files from disk site out (sink_use err_told first third (HasRisen c0 c2)) result
+  project_tells mid disk script left out err_told first second third c0 c1 c2 ended result same did all_done runs counted first_on then_on disk_on leaves causes sums =
+      tells mid left second whole (record {
+        later = disk_on;
+        leaves = leaves;
+        causes = caused_on _ ⊥ ⊥ _ _ ⊥ ⊥ _ (λ rose. rose) (λ none. none) (λ none. none) (λ rose. elim rose [ inl o ↦ inl o | inr e ↦ inr (risen_later c0 c1 c2 first_on e) ]) result causes;
+        told = λ seen log stands. summary_on _ _ _ out err_told second third _ _ result (risen_later c0 c1 c2 first_on)
+            (subst (λ (n : ℕ). SummaryTold n (observation log) (HasRisen (d.faults mid) (d.faults disk)) out (sink_use err_told second third (HasRisen c1 c2)) result) count (sums seen log stands));
+      })
+    where
+      so : ScriptDone d s Generator from mid site (stored script left) (sink_use err_told first second (HasRisen c0 c1)) Done
+      so = subst (λ (o : Outcome). ScriptDone d s Generator from mid site (stored script left) (sink_use err_told first second (HasRisen c0 c1)) o) (done_is ended all_done) did
+
+      there : ScriptDone d s Generator from mid site (stored (generated_text start changes files) left) (sink_use err_told first second (HasRisen c0 c1)) Done
+      there = subst (λ (t : List ℕ). ScriptDone d s Generator from mid site (stored t left) (sink_use err_told first second (HasRisen c0 c1)) Done) same so
+
+      count : runs ≡ builds (lines_said d s there.done)
+      count = let all = read_all mid (generated_text start changes files) left (sink_use err_told first second (HasRisen c0 c1)) there in
+          (subst (λ (t : List ℕ). HasBuilds t runs) same counted) all.lines (lines_said d s there.done) all.read
+
+      whole : ScriptDone d s Generator from mid site (stored (generated_text start changes files) left) (sink_use err_told first second (HasRisen c0 c2)) Done
+      whole = record {
+        done = there.done;
+        at = there.at;
+        rest = there.rest;
+        read = there.read;
+        runs = there.runs;
+        disk_is = there.disk_is;
+        site_is = there.site_is;
+        ends = ends_on d s Generator there.done err_told first second _ _ (risen_on c0 c1 c2 then_on) _ Done there.ends;
+        logs = there.logs;
       }

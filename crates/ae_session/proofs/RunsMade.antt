@@ -1,6 +1,6 @@
 -- The runs that lines made: one for each build that is done.
 use Rattle.std.specs.Prelude.{◌≢◌, replicate}
-use Rattle.std.proofs.Common.{◌≡◌, ◌≤◌, ◌+◌, ◌∙◌, ℕ, Bool, true, false, List, [], ◌∷◌, Option, Some, None, Result, length, refl, sym, ap, subst, arith}
+use Rattle.std.proofs.Common.{◌≡◌, ◌≤◌, ◌+◌, ◌∙◌, ℕ, Bool, true, false, List, [], ◌∷◌, Option, Some, None, Result, length, map, refl, sym, ap, subst, arith}
 use Rattle.std.proofs.lemmas.List.{length-append}
 use Rattle.ae_base.specs.declared.outcome.Outcome.{Outcome}
 use Rattle.ae_base.specs.declared.outcome.Outcome.TheVariants.{Done}
@@ -25,10 +25,10 @@ use Rattle.ae_machine.specs.Fits.{makes_runs, runs_asked, tracked_in}
 use Rattle.ae_machine.specs.Real.{AreMade, IsLeft, command_for, dir_of_runs}
 use Rattle.ae_machine.specs.Verdict.{is_new_project}
 use Rattle.ae_exec.specs.Step.{outcome_of_answer}
-use Rattle.ae_script.specs.Manner.{is_done}
-use Rattle.ae_script.specs.Script.{Point, LineDone, CommandEnds, answered, disk_fault, site_fault, memory, EditEnds, edited, edit_fault, edit_memory, DoesCommand, DoesLine, Runs, AllLeadOn, stop, called_from}
-use Rattle.ae_script.specs.declared.manner.Manner.TheVariants.{Generator}
-use Rattle.ae_session.specs.Called.{lines_said}
+use Rattle.ae_acts.specs.Manner.{is_done}
+use Rattle.ae_acts.specs.Steps.{Point, LineDone, CommandEnds, answered, disk_fault, site_fault, memory, EditEnds, edited, edit_fault, edit_memory, DoesCommand, DoesLine, Runs, AllLeadOn, stop, called_from}
+use Rattle.ae_acts.specs.declared.manner.Manner.TheVariants.{Generator}
+use Rattle.ae_acts.proofs.Telling.{done_is}
 use Rattle.ae_session.specs.Summary.{MakesRuns, builds_by, builds_in, is_test, tests_by}
 
 -- ---- functions
@@ -152,45 +152,44 @@ module _ (called : Called) (is_build : called.command.function ≡ function.Buil
 
 -- ---- a line
 
-answer_done : (log : Log) (called : Called) (disk_rose site_rose : Type 0) (o : Outcome) (next : Log) (said : List ℕ) → CommandEnds log called disk_rose site_rose o next said → is_done o ≡ true → is_done (outcome_of_answer (answer_after log called)) ≡ true
-answer_done log called disk_rose site_rose _ _ _ answered done = done
-answer_done log called disk_rose site_rose _ _ _ (disk_fault rose) done = absurd (let both : false ≡ true = done in cc)
-answer_done log called disk_rose site_rose _ _ _ (site_fault rose) done = absurd (let both : false ≡ true = done in cc)
-answer_done log called disk_rose site_rose _ _ _ memory done = absurd (let both : false ≡ true = done in cc)
+answer_done : (log : Log) (called : Called) (o : Outcome) (next : Log) (said : List ℕ) → CommandEnds log called o next said → is_done o ≡ true → is_done (outcome_of_answer (answer_after log called)) ≡ true
+answer_done log called _ _ _ answered done = done
+answer_done log called _ _ _ disk_fault done = absurd (let both : false ≡ true = done in cc)
+answer_done log called _ _ _ site_fault done = absurd (let both : false ≡ true = done in cc)
+answer_done log called _ _ _ memory done = absurd (let both : false ≡ true = done in cc)
 
-edit_runs : (dir : Dir) (path : List ℕ) (bytes : Option (List ℕ)) (rose : Type 0) (old new : SiteState) (o : Outcome) (text : List ℕ) → EditEnds dir path bytes rose old new o text → is_done o ≡ true → new.runs ≡ old.runs
-edit_runs dir path bytes rose old new _ _ (edited is) done = is.only.runs
-edit_runs dir path bytes rose old new _ _ (edit_fault risen only) done = only.runs
-edit_runs dir path bytes rose old new _ _ (edit_memory same) done = ap (λ (s : SiteState). s.runs) same
+edit_runs : (dir : Dir) (path : List ℕ) (bytes : Option (List ℕ)) (old new : SiteState) (o : Outcome) (text : List ℕ) → EditEnds dir path bytes old new o text → is_done o ≡ true → new.runs ≡ old.runs
+edit_runs dir path bytes old new _ _ (edited is) done = is.only.runs
+edit_runs dir path bytes old new _ _ (edit_fault only) done = only.runs
+edit_runs dir path bytes old new _ _ (edit_memory same) done = ap (λ (s : SiteState). s.runs) same
 
-module _ (disk_rose site_rose : Type 0) where
-  command_runs : (from : Point) (command : Command) (d : LineDone) → DoesCommand Generator disk_rose site_rose from command d → is_done d.outcome ≡ true → tests_by command.function ≡ false
-      → length d.to.site.runs ≡ length from.site.runs + builds_by command.function
-  command_runs from command d does done other = go (makes_runs command.function) refl
-    where
-      is : d.outcome ≡ Done
-      is = Rattle.ae_session.proofs.Making.done_is d.outcome done
+command_runs : (from : Point) (command : Command) (d : LineDone) → DoesCommand Generator from command d → is_done d.outcome ≡ true → tests_by command.function ≡ false
+    → length d.to.site.runs ≡ length from.site.runs + builds_by command.function
+command_runs from command d does done other = go (makes_runs command.function) refl
+  where
+    is : d.outcome ≡ Done
+    is = done_is d.outcome done
 
-      go : (b : Bool) → makes_runs command.function ≡ b → length d.to.site.runs ≡ length from.site.runs + builds_by command.function
-      go false quiet = ap length (does.directories.own.runs quiet) ∙ (let none = build_none command.function quiet in omega (arith, none))
-      go true makes =
-          let build = only_builds command.function makes other in
-          let one : builds_by command.function ≡ 1 = ap builds_by build in
-          left_one (called_from from command d.to) build (observation from.log) (version_bytes from.log) (answer_done from.log (called_from from command d.to) disk_rose site_rose d.outcome d.to.log does.said does.ends done)
-          (does.left (subst Rattle.ae_exec.specs.Directories.IsDone (sym is) tt)) ∙ ap (λ (n : ℕ). length from.site.runs + n) (sym one)
+    go : (b : Bool) → makes_runs command.function ≡ b → length d.to.site.runs ≡ length from.site.runs + builds_by command.function
+    go false quiet = ap length (does.directories.own.runs quiet) ∙ (let none = build_none command.function quiet in omega (arith, none))
+    go true makes =
+        let build = only_builds command.function makes other in
+        let one : builds_by command.function ≡ 1 = ap builds_by build in
+        left_one (called_from from command d.to) build (observation from.log) (version_bytes from.log) (answer_done from.log (called_from from command d.to) d.outcome d.to.log does.said does.ends done)
+        (does.left (subst Rattle.ae_exec.specs.Directories.IsDone (sym is) tt)) ∙ ap (λ (n : ℕ). length from.site.runs + n) (sym one)
 
-  line_runs : (line : Line) (from : Point) (d : LineDone) → DoesLine Generator disk_rose site_rose line from d → is_done d.outcome ≡ true → is_test line ≡ false → length d.to.site.runs ≡ length from.site.runs + builds_in line
-  line_runs Nothing from d does done other = ap (λ (p : Point). length p.site.runs) does.to ∙ omega arith
-  line_runs (As user) from d does done other = ap (λ (p : Point). length p.site.runs) does.to ∙ omega arith
-  line_runs (At moment) from d does done other = ap (λ (p : Point). length p.site.runs) does.to ∙ omega arith
-  line_runs (Do command) from d does done other = command_runs from command d does done other
-  line_runs (Put dir path text) from d does done other = ap length (edit_runs dir path (Some text) site_rose from.site d.to.site d.outcome d.text does.ends done) ∙ omega arith
-  line_runs (Fill dir path count byte) from d does done other = ap length (edit_runs dir path (Some (replicate count byte)) site_rose from.site d.to.site d.outcome d.text does.ends done) ∙ omega arith
-  line_runs (Remove dir path) from d does done other = ap length (edit_runs dir path None site_rose from.site d.to.site d.outcome d.text does.ends done) ∙ omega arith
+line_runs : (line : Line) (from : Point) (d : LineDone) → DoesLine Generator line from d → is_done d.outcome ≡ true → is_test line ≡ false → length d.to.site.runs ≡ length from.site.runs + builds_in line
+line_runs Nothing from d does done other = ap (λ (p : Point). length p.site.runs) does.to ∙ omega arith
+line_runs (As user) from d does done other = ap (λ (p : Point). length p.site.runs) does.to ∙ omega arith
+line_runs (At moment) from d does done other = ap (λ (p : Point). length p.site.runs) does.to ∙ omega arith
+line_runs (Do command) from d does done other = command_runs from command d does done other
+line_runs (Put dir path text) from d does done other = ap length (edit_runs dir path (Some text) from.site d.to.site d.outcome d.text does.ends done) ∙ omega arith
+line_runs (Fill dir path count byte) from d does done other = ap length (edit_runs dir path (Some (replicate count byte)) from.site d.to.site d.outcome d.text does.ends done) ∙ omega arith
+line_runs (Remove dir path) from d does done other = ap length (edit_runs dir path None from.site d.to.site d.outcome d.text does.ends done) ∙ omega arith
 
-  pub runs_made : (from : Point) (done : List LineDone) → Runs Generator disk_rose site_rose from done → AllLeadOn Generator done → MakesRuns from (stop from done) (lines_said done)
-  runs_made from [] runs all none = omega arith
-  runs_made from (d ∷ more) runs all none =
-      let one = line_runs d.line from d runs.0 all.0 none.0 in
-      let others = runs_made d.to more runs.1 all.1 none.1 in
-      omega (arith, one, others)
+pub runs_made : (from : Point) (done : List LineDone) → Runs Generator from done → AllLeadOn Generator done → MakesRuns from.site (stop from done).site (map (λ (x : LineDone). x.line) done)
+runs_made from [] runs all none = omega arith
+runs_made from (d ∷ more) runs all none =
+    let one = line_runs d.line from d runs.0 all.0 none.0 in
+    let others = runs_made d.to more runs.1 all.1 none.1 in
+    omega (arith, one, others)

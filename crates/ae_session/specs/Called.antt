@@ -1,28 +1,34 @@
 -- A call: the lines that it does, and what is then so. A command alone is the list of one line, a script has those of the input,
 -- and the generator those of the script that it makes.
-use Rattle.std.specs.Prelude.{◌≡◌, ◌⊎◌, ◌++◌, ℕ, List, [], ◌∷◌, Bool, true, false, Some, map, Contains}
+use Rattle.std.specs.Prelude.{◌≡◌, ◌≤◌, ◌⊎◌, ℕ, List, [], ◌∷◌, false}
 use Rattle.ae_base.specs.declared.outcome.Outcome.{Outcome}
-use Rattle.ae_base.specs.declared.outcome.Outcome.TheVariants.{Done, DiskFault, Memory}
-use Rattle.ae_lines.specs.declared.line.Line.{Line}
-use Rattle.ae_lines.specs.declared.line.Line.TheVariants.{Do}
-use Rattle.ae_types.specs.Observation.{Observation}
+use Rattle.ae_base.specs.declared.outcome.Outcome.TheVariants.{Done, Memory}
+use Rattle.ae_outside.specs.Causes.{HasRisen}
+use Rattle.ae_outside.specs.State.{reads}
 use Rattle.ae_log.specs.Log.{Log}
 use Rattle.ae_log.specs.Observed.{observation}
+use Rattle.ae_lines.specs.declared.line.Line.TheVariants.{Do}
 use Rattle.ae_words.specs.declared.command.Command.{Command}
+use Rattle.ae_machine.specs.Called.{called}
+use Rattle.ae_exec.specs.Holding.{HoldsLegal}
+use Rattle.ae_exec.specs.Performs.{Completes, LeavesDisk}
 use Rattle.ae_exec.specs.Said.{is_listing}
-use Rattle.ae_telling.specs.Messages.{memory_text, message}
-use Rattle.ae_telling.specs.Telling.{SinkUse, IsTold}
+use Rattle.ae_exec.specs.Stands.{StandsForLog}
+use Rattle.ae_telling.specs.Messages.{memory_text}
+use Rattle.ae_telling.specs.Telling.{SinkUse, IsTold, sink_use}
 use Rattle.ae_generator.specs.Lines.{generated_text}
-use Rattle.ae_script.specs.Ends.{HasRead, IsScript, ScriptEnds, size}
-use Rattle.ae_script.specs.Manner.{is_done}
-use Rattle.ae_script.specs.Refined.{HoldsAfter, RefinedAlong}
-use Rattle.ae_script.specs.Script.{Point, point, LineDone, Runs, AllLeadOn, stop, transcript}
-use Rattle.ae_script.specs.Uses.{DiskUse, SiteUse, SourceUse}
-use Rattle.ae_script.specs.declared.manner.Manner.{Manner}
-use Rattle.ae_script.specs.declared.manner.Manner.TheVariants.{Alone, Script, Generator}
+use Rattle.ae_acts.specs.Follows.{FollowLogs}
+use Rattle.ae_acts.specs.Causes.{IsCaused}
+use Rattle.ae_acts.specs.Lines.{AllLead, AreDone, Did, Does, Stand, last_stand, lines_said, stand}
+use Rattle.ae_acts.specs.Manner.{is_done}
+use Rattle.ae_acts.specs.Step.{KeepsDisk}
+use Rattle.ae_acts.specs.Uses.{Disks, Sites, SourceUse, Streams, read_from, source_use, written_from}
+use Rattle.ae_acts.specs.declared.manner.Manner.{Manner}
+use Rattle.ae_acts.specs.declared.manner.Manner.TheVariants.{Plan, Script, Generator}
+use Rattle.ae_script.specs.Ends.{ScriptDone}
 use Rattle.ae_session.specs.Calls.{told_to, silent, TakesNothing}
-use Rattle.ae_session.specs.Request.{AsksFor, AsksForScript, AsksForGenerate}
-use Rattle.ae_session.specs.Summary.{FailsToRead, MakesRuns, builds, summary_text}
+use Rattle.ae_session.specs.Request.{AsksFor, AsksForScript, AsksForGenerate, BadAt}
+use Rattle.ae_session.specs.Summary.{MakesRuns, SummaryTold, builds}
 
 -- its words, who gives it, and when
 pub record Asked : Type 0 where
@@ -33,107 +39,118 @@ pub record Asked : Type 0 where
 abbrev pub asked : List (List ℕ) → List ℕ → ℕ → Asked
 asked words who now = record { words = words; who = who; now = now }
 
--- what is handed to it
-pub record World : Type 1 where
-  pub disk : DiskUse
-  pub site : SiteUse
-  pub input : SourceUse
-  pub out : SinkUse
-  pub err : SinkUse
+-- it isn't bad at any place
+abbrev pub IsGoodCall : Asked → Type 0
+IsGoodCall asked = (place : ℕ) → BadAt asked.words asked.who asked.now place → ⊥
 
-abbrev pub world : DiskUse → SiteUse → SourceUse → (out err : SinkUse) → World
-world disk site input out err = record { disk = disk; site = site; input = input; out = out; err = err }
+-- bytes that are there already, as a source
+abbrev pub stored : List ℕ → List ℕ → SourceUse
+stored all left = source_use (Unit {0}) all left (HasRisen 0 0)
 
--- ---- the lines that it does
+module _ (d : Disks) (s : Sites) where
+  -- there was no memory for it: nothing is called but the sink of messages
+  pub record OnlyTold (from : Stand d s) (disk : d.Disk) (site : s.Site) (out err : SinkUse) (result : Outcome) : Type 0 where
+    pub disk_is : disk ≡ from.disk
+    pub site_is : site ≡ from.site
+    pub told : IsTold Memory memory_text err result
+    pub other : TakesNothing out
 
--- what the lines say that were done
-abbrev pub lines_said : List LineDone → List Line
-lines_said done = map (λ (d : LineDone). d.line) done
+  -- ---- a command alone
 
--- The generator does the lines of the script that it makes, and this is how it ends after them: the outcome, what is written of it,
--- and whether to `out`.
-pub data IsMade (start changes files : ℕ) (from : Point) (disk_rose err_rose : Type 0) (outcome : Outcome) : List LineDone → Outcome → List ℕ → (to_out : Bool) → Type 0 where
-  -- at the first that isn't done
-  stops : (done : List LineDone) (meant : Outcome) (text : List ℕ) (lines : List (List ℕ)) (rest left : List ℕ) → HasRead (generated_text start changes files) lines (lines_said done) rest
-      → ScriptEnds Generator done (size lines) rest left ⊥ err_rose meant text → is_done outcome ≡ false → IsMade start changes files from disk_rose err_rose outcome done meant text false
-  -- once all are done it tells what it made, and as its runs the builds among the lines, each of which made one
-  tells : (done : List LineDone) (lines : List (List ℕ)) (o : Observation) → HasRead (generated_text start changes files) lines (lines_said done) []
-      → AllLeadOn Generator done → observation (stop from done).log ≡ Some o → MakesRuns from (stop from done) (lines_said done)
-      → IsMade start changes files from disk_rose err_rose outcome done Done (summary_text o (builds (lines_said done))) true
-  -- or can't read it
-  fails : (done : List LineDone) (lines : List (List ℕ)) (why : Outcome) → HasRead (generated_text start changes files) lines (lines_said done) []
-      → AllLeadOn Generator done → FailsToRead disk_rose (observation (stop from done).log) why → IsMade start changes files from disk_rose err_rose outcome done why (message why) false
-  -- there was no memory for the script
-  unmade : IsMade start changes files from disk_rose err_rose outcome [] Memory memory_text false
+  -- it is the one line, done as the act of a plan; a listing is told to `out`, and all else to `err`
+  pub record CommandCalled (command : Command) (from : Stand d s) (disk : d.Disk) (site : s.Site) (out err : SinkUse) (result : Outcome) : Type 0 where
+    pub line : Did d s
+    pub says : line.line ≡ Do command
+    pub does : Does d s Plan from line
+    pub disk_is : line.to.disk ≡ disk
+    pub site_is : line.to.site ≡ site
+    pub told : IsTold line.outcome line.text (told_to (is_listing command.function line.outcome) out err) result
+    pub other : TakesNothing (silent (is_listing command.function line.outcome) out err)
 
--- The lines that a call does are those that it asks for, and this is how it ends after them: the outcome, what is written of it, and
--- whether to `out`. They begin at this point.
-pub data IsAsked (asked : Asked) (from : Point) (world : World) (outcome : Outcome) : Manner → List LineDone → Outcome → List ℕ → (to_out : Bool) → Type 0 where
-  -- a command is the one line, and the call ends as it does; a listing is told to `out`
-  command : (command : Command) (line : LineDone) → AsksFor asked.words asked.who asked.now command → line.line ≡ Do command
-      → IsAsked asked from world outcome Alone (line ∷ []) line.outcome [] (is_listing command.function line.outcome)
-  -- a script's lines are those of the input
-  script : (done : List LineDone) (meant : Outcome) (text : List ℕ) (lines : List (List ℕ)) (rest : List ℕ) → AsksForScript asked.words asked.who asked.now
-      → HasRead world.input.before lines (lines_said done) rest → ScriptEnds Script done (size lines) rest world.input.after world.input.rose world.out.rose meant text
-      → IsAsked asked from world outcome Script done meant text true
-  -- and the generator's those of the script that it makes
-  project : (start changes files : ℕ) (done : List LineDone) (meant : Outcome) (text : List ℕ) (to_out : Bool) → AsksForGenerate asked.words asked.who asked.now start changes files
-      → IsMade start changes files from world.disk.rose world.err.rose outcome done meant text to_out → IsAsked asked from world outcome Generator done meant text to_out
-  -- there was no memory for the words
-  wanting : IsAsked asked from world outcome Alone [] Memory memory_text false
+  -- ---- the generator
 
--- ---- what is then so
+  -- Once all lines are done the disk is read, and nothing written there but what a recovery writes; the summary is told to `out`, or to
+  -- `err` why there is none.
+  pub record SummaryMade (runs : ℕ) (mid disk : d.Disk) (out err : SinkUse) (result : Outcome) : Type 0 where
+    pub later : d.faults mid ≤ d.faults disk
+    pub leaves : d.told → LeavesDisk (d.state mid) (d.state disk) (Unit {0})
+    pub causes : IsCaused (HasRisen (d.faults mid) (d.faults disk)) ⊥ ⊥ (out.rose ⊎ err.rose) result
+    pub told : d.told → (log : Log) → StandsForLog (reads (d.state mid)) log → SummaryTold runs (observation log) (HasRisen (d.faults mid) (d.faults disk)) out err result
 
--- What lines did that were done from this point on, where the disk held one of these logs and read that of the point.
-pub record LinesDone (manner : Manner) (from : Point) (held : List Log) (disk : DiskUse) (site : SiteUse) (done : List LineDone) (outcome : Outcome) : Type 0 where
-  -- each is one step of the log machine from where the one before it led
-  pub runs : Runs manner disk.rose site.rose from done
-  -- the directories are those after the last line
-  pub directories : (stop from done).site ≡ site.after
-  -- wherever the call is stopped, what is left stands for the log after some of the lines, in their order
-  pub refined : RefinedAlong disk.before disk.after held from.log done
-  -- and what the disk holds now: it reads the log after the last line, or where it failed one that it may hold
-  pub holds : HoldsAfter disk.after held from.log done
-  pub reads : (holds.read ≡ (stop from done).log) ⊎ ((outcome ≡ DiskFault) × Contains holds.logs holds.read)
+  -- It does the lines of the script that it makes, up to the first that isn't done; or all, and then tells what it made.
+  pub data ProjectDone (start changes files : ℕ) (from : Stand d s) (disk : d.Disk) (site : s.Site) (out err : SinkUse) (result : Outcome) : Type 0 where
+    -- there was no memory for the script
+    unmade : OnlyTold from disk site out err result → ProjectDone start changes files from disk site out err result
+    stops : (left : List ℕ) → ScriptDone d s Generator from disk site (stored (generated_text start changes files) left) err result → is_done result ≡ false → TakesNothing out
+        → ProjectDone start changes files from disk site out err result
+    tells : (mid : d.Disk) (left taken : List ℕ) → (did : ScriptDone d s Generator from mid site (stored (generated_text start changes files) left) (sink_use err.told err.before taken err.rose) Done)
+        → SummaryMade (builds (lines_said d s did.done)) mid disk out (sink_use err.told taken err.after err.rose) result → ProjectDone start changes files from disk site out err result
 
--- What a call did that asks for something.
-pub record CallDone (asked : Asked) (held : List Log) (log : Log) (world : World) (outcome : Outcome) : Type 0 where
-  -- the lines are those that it asks for
-  pub manner : Manner
-  pub done : List LineDone
-  pub meant : Outcome
-  pub text : List ℕ
-  pub to_out : Bool
-  pub is : IsAsked asked (point asked.who asked.now log world.site.before) world outcome manner done meant text to_out
-  -- the log, the disk and the directories follow them
-  pub did : LinesDone manner (point asked.who asked.now log world.site.before) held world.disk world.site done outcome
-  -- the output is what is written of them and of the end, or the first part of it where the sink failed; the other sink takes nothing
-  pub told : IsTold meant (transcript done ++ text) (told_to to_out world.out world.err) outcome
-  pub other : TakesNothing (silent to_out world.out world.err)
+  -- the lines that it did
+  abbrev pub lines_made : {start changes files : ℕ} {from : Stand d s} {disk : d.Disk} {site : s.Site} {out err : SinkUse} {result : Outcome} → ProjectDone start changes files from disk site out err result → List (Did d s)
+  lines_made (unmade only) = []
+  lines_made (stops left did other silent) = did.done
+  lines_made (tells mid left taken did summary) = did.done
 
--- what the line of a command alone did
-pub record OneDone (command : Command) (from : Point) (held : List Log) (disk : DiskUse) (site : SiteUse) (out err : SinkUse) (outcome : Outcome) : Type 0 where
-  pub line : LineDone
-  pub is_line : line.line ≡ Do command
-  pub did : LinesDone Alone from held disk site (line ∷ []) outcome
-  pub told : IsTold line.outcome line.text (told_to (is_listing command.function line.outcome) out err) outcome
-  pub other : TakesNothing (silent (is_listing command.function line.outcome) out err)
+  -- ---- any call
 
--- what the generator did
-pub record ProjectDone (start changes files : ℕ) (from : Point) (held : List Log) (disk : DiskUse) (site : SiteUse) (out err : SinkUse) (outcome : Outcome) : Type 0 where
-  pub done : List LineDone
-  pub meant : Outcome
-  pub text : List ℕ
-  pub to_out : Bool
-  pub is : IsMade start changes files from disk.rose err.rose outcome done meant text to_out
-  pub did : LinesDone Generator from held disk site done outcome
-  pub told : IsTold meant (transcript done ++ text) (told_to to_out out err) outcome
-  pub other : TakesNothing (silent to_out out err)
+  -- The lines that a call does are those that it asks for, in this manner, and it ends so.
+  pub data IsAsked (asked : Asked) (from : Stand d s) (disk : d.Disk) (site : s.Site) (input : SourceUse) (out err : SinkUse) (result : Outcome) : Manner → List (Did d s) → Type 0 where
+    command : (command : Command) → AsksFor asked.words asked.who asked.now command → (one : CommandCalled command from disk site out err result) → IsAsked asked from disk site input out err result Plan (one.line ∷ [])
+    script : AsksForScript asked.words asked.who asked.now → (did : ScriptDone d s Script from disk site input out result) → TakesNothing err → IsAsked asked from disk site input out err result Script did.done
+    project : (start changes files : ℕ) → AsksForGenerate asked.words asked.who asked.now start changes files → (made : ProjectDone start changes files from disk site out err result)
+        → IsAsked asked from disk site input out err result Generator (lines_made made)
+    wanting : OnlyTold from disk site out err result → IsAsked asked from disk site input out err result Plan []
 
--- ---- where nothing outside fails
+  -- What a call did that asks for something, from this stand on, whatever the disk holds.
+  pub record CallDone (asked : Asked) (from : Stand d s) (disk : d.Disk) (site : s.Site) (input : SourceUse) (out err : SinkUse) (result : Outcome) : Type 0 where
+    -- it does the lines that it asks for, each from where the one before it led, and tells what they write
+    pub manner : Manner
+    pub done : List (Did d s)
+    pub is : IsAsked asked from disk site input out err result manner done
+    pub runs : AreDone d s manner from done
+    -- Where the disk holds legal logs each is a step of the log machine; a stop at any moment leaves what stands for the log after
+    -- some of them, in their order; and each baseline was built, tested and reviewed as required.
+    pub logs : d.told → s.told → FollowLogs d s manner from done disk
+    -- no count falls
+    pub disk_later : d.faults from.disk ≤ d.faults disk
+    pub site_later : s.faults from.site ≤ s.faults site
 
--- a script each of whose lines is understood is read to its end, where no count rises and memory doesn't run out
-abbrev pub ReadsToEnd : Asked → World → Outcome → Type 0
-ReadsToEnd asked world outcome =
-    AsksForScript asked.words asked.who asked.now → IsScript world.input.before → (world.disk.rose → ⊥) → (world.site.rose → ⊥) → (world.input.rose → ⊥) → (world.out.rose → ⊥) → (world.err.rose → ⊥)
-    → (outcome ≡ Done) ⊎ (outcome ≡ Memory)
+  module _ (i o e : Streams) where
+    -- A call from this disk and these directories, with this input and these sinks, to those.
+    abbrev pub Calls : Asked → d.Disk → s.Site → i.Stream → o.Stream → e.Stream → d.Disk → s.Site → i.Stream → o.Stream → e.Stream → Outcome → Type 0
+    Calls asked disk site input out err disk_new site_new input_new out_new err_new result =
+        CallDone asked (stand d s asked.who asked.now disk site) disk_new site_new (read_from i input input_new) (written_from o out out_new) (written_from e err err_new) result
+
+    -- ---- laws
+
+    -- a fault comes only where the count rose of what failed
+    abbrev pub CallsAreCaused : Type 0
+    CallsAreCaused =
+        (asked : Asked) (from : Stand d s) (disk : d.Disk) (site : s.Site) (input input_new : i.Stream) (out out_new : o.Stream) (err err_new : e.Stream) (result : Outcome)
+        → CallDone asked from disk site (read_from i input input_new) (written_from o out out_new) (written_from e err err_new) result
+        → IsCaused (HasRisen (d.faults from.disk) (d.faults disk)) (HasRisen (s.faults from.site) (s.faults site)) (HasRisen (i.faults input) (i.faults input_new))
+        (HasRisen (o.faults out) (o.faults out_new) ⊎ HasRisen (e.faults err) (e.faults err_new)) result
+
+    -- whatever the disk held, time goes on there, it stays settled, and no files but the store's own are changed
+    abbrev pub CallsKeepDisks : Type 0
+    CallsKeepDisks =
+        (asked : Asked) (from : Stand d s) (disk : d.Disk) (site : s.Site) (input input_new : i.Stream) (out out_new : o.Stream) (err err_new : e.Stream) (result : Outcome)
+        → CallDone asked from disk site (read_from i input input_new) (written_from o out out_new) (written_from e err err_new) result → d.told → KeepsDisk (d.state from.disk) (d.state disk)
+
+  module _ (o e : Streams) where
+    -- where no count rises, a command alone ends as the verdict on it says, unless memory runs out
+    abbrev pub CommandsEndWhole : Type 0
+    CommandsEndWhole =
+        (command : Command) (from : Stand d s) (disk : d.Disk) (site : s.Site) (out out_new : o.Stream) (err err_new : e.Stream) (result : Outcome)
+        → CommandCalled command from disk site (written_from o out out_new) (written_from e err err_new) result → d.told → s.told
+        → (HasRisen (d.faults from.disk) (d.faults disk) → ⊥) → (HasRisen (s.faults from.site) (s.faults site) → ⊥) → (HasRisen (o.faults out) (o.faults out_new) → ⊥) → (HasRisen (e.faults err) (e.faults err_new) → ⊥)
+        → Completes (d.state from.disk) (called command from.who from.now (s.state from.site) (s.state site)) result
+
+    -- the generator's summary counts as runs the builds among its lines: where all lines were done, and none is a test, each made one
+    abbrev pub ProjectsCountRuns : Type 0
+    ProjectsCountRuns =
+        (start changes files : ℕ) (from : Stand d s) (disk : d.Disk) (site : s.Site) (out out_new : o.Stream) (err err_new : e.Stream) (result : Outcome)
+        (made : ProjectDone start changes files from disk site (written_from o out out_new) (written_from e err err_new) result) → d.told → s.told
+        → (held : List Log) (log : Log) → HoldsLegal (d.state from.disk) held log → AllLead d s Generator (lines_made made)
+        → MakesRuns (s.state from.site) (s.state (last_stand d s from (lines_made made)).site) (lines_said d s (lines_made made))

@@ -1,7 +1,7 @@
 // The builds of a script.
 ghost use Rattle.std.specs.Prelude.{◌≡◌, ◌<◌, ◌≤◌, ◌++◌, ◌∷◌, ℕ, List, IfOk, IfSome, IfNone, OnSome};
 ghost use Rattle.ae_reader.specs.Cut.{lines_of, most_bytes};
-ghost use Rattle.ae_script.specs.Ends.{IsBad};
+ghost use Rattle.ae_lines.specs.Script.{IsBad};
 ghost use Rattle.ae_session.specs.Summary.{HasBuilds, IsCounted, builds_in};
 
 use crate::stored::Stored;

@@ -1,21 +1,19 @@
 // The generator: a script is made, and its lines are done.
-ghost use Rattle.std.specs.Prelude.{◌≡◌, ◌≤◌, ◌⊎◌, ◌∷◌, [], List, IfOk, IfErr};
+ghost use Rattle.std.specs.Prelude.{◌≡◌, ◌≤◌, ◌⊎◌, ◌∷◌, [], IfOk, IfErr};
 ghost use Rattle.ae_outside.specs.Causes.{HasRisen};
 ghost use Rattle.ae_outside.specs.State.{reads};
 ghost use Rattle.ae_log.specs.Log.{Log};
 ghost use Rattle.ae_log.specs.Observed.{observation};
 ghost use Rattle.ae_words.specs.Formed.{IsFormed};
 ghost use Rattle.ae_words.specs.declared.table.Function.TheVariants as function;
-ghost use Rattle.ae_exec.specs.Holding.{HoldsLegal};
 ghost use Rattle.ae_exec.specs.Performs.{LeavesDisk};
 ghost use Rattle.ae_exec.specs.Stands.{StandsForLog};
 ghost use Rattle.ae_generator.specs.Lines.{generated_text};
-ghost use Rattle.ae_telling.specs.Telling.{IsOfCommand, sink_use};
-ghost use Rattle.ae_script.specs.Causes.{IsCaused};
-ghost use Rattle.ae_script.specs.Manner.{is_done};
-ghost use Rattle.ae_script.specs.Script.{point};
-ghost use Rattle.ae_script.specs.Step.{KeepsDisk};
-ghost use Rattle.ae_script.specs.Uses.{disk_use, site_use};
+ghost use Rattle.ae_telling.specs.Telling.{IsOfCommand};
+ghost use Rattle.ae_acts.specs.Causes.{IsCaused};
+ghost use Rattle.ae_acts.specs.Lines.{stand};
+ghost use Rattle.ae_acts.specs.Manner.{is_done};
+ghost use Rattle.ae_acts.specs.Uses.{disks, sites, streams, written_from};
 ghost use Rattle.ae_session.specs.Called.{ProjectDone};
 ghost use Rattle.ae_base.specs.declared.outcome.Outcome.TheVariants.{Memory};
 ghost use Rattle.ae_session.specs.Summary.{FailsToRead, HasBuilds, IsSummary, SummaryTold, summary_text};
@@ -23,11 +21,12 @@ ghost use Rattle.ae_session.specs.Summary.{FailsToRead, HasBuilds, IsSummary, Su
 use crate::builds::count_builds;
 use crate::stored::Stored;
 use crate::summary::summary;
+use ae_acts::{Manner, Standing};
 use ae_base::{Outcome, Refusal, Text};
 use ae_exec::load_project;
 use ae_generator::generated;
 use ae_outside::{Disk, Sink, Site};
-use ae_script::{Manner, Standing, do_lines};
+use ae_script::do_lines;
 use ae_telling::{tell_memory, told_command};
 use ae_types::State;
 use ae_words::Command;
@@ -107,8 +106,8 @@ fn tell_summary<D: Disk, O: Sink, E: Sink>(
     err: &mut E,
 ) -> Outcome
     ensures told { D.tells → (log : Log) → StandsForLog (reads (D.state disk.old)) log → SummaryTold runs (observation log) (HasRisen (D.faults disk.old) (D.faults disk.new))
-        (sink_use O.tells (O.taken out.old) (O.taken out.new) (HasRisen (O.faults out.old) (O.faults out.new)))
-        (sink_use E.tells (E.taken err.old) (E.taken err.new) (HasRisen (E.faults err.old) (E.faults err.new))) result }
+        (written_from (streams O.tells O.taken O.faults) out.old out.new)
+        (written_from (streams E.tells E.taken E.faults) err.old err.new) result }
     ensures causes { IsCaused (HasRisen (D.faults disk.old) (D.faults disk.new)) ⊥ ⊥ (HasRisen (O.faults out.old) (O.faults out.new) ⊎ HasRisen (E.faults err.old) (E.faults err.new)) result }
     ensures disk { D.tells → LeavesDisk (D.state disk.old) (D.state disk.new) (Unit {0}) }
     ensures disk_faults { D.faults disk.old ≤ D.faults disk.new }
@@ -141,16 +140,10 @@ pub(crate) fn generate<D: Disk, S: Site, O: Sink, E: Sink>(
     out: &mut O,
     err: &mut E,
 ) -> Outcome
-    ensures done { D.tells → S.tells → (held : List Log) (log : Log) → HoldsLegal (D.state disk.old) held log →
-        ProjectDone size.start size.changes size.files (point standing.who standing.now log (S.state site.old)) held
-        (disk_use D.tells (D.state disk.old) (D.state disk.new) (HasRisen (D.faults disk.old) (D.faults disk.new)))
-        (site_use S.tells (S.state site.old) (S.state site.new) (HasRisen (S.faults site.old) (S.faults site.new)))
-        (sink_use O.tells (O.taken out.old) (O.taken out.new) (HasRisen (O.faults out.old) (O.faults out.new)))
-        (sink_use E.tells (E.taken err.old) (E.taken err.new) (HasRisen (E.faults err.old) (E.faults err.new))) result }
-    ensures causes { IsCaused (HasRisen (D.faults disk.old) (D.faults disk.new)) (HasRisen (S.faults site.old) (S.faults site.new)) ⊥ (HasRisen (O.faults out.old) (O.faults out.new) ⊎ HasRisen (E.faults err.old) (E.faults err.new)) result }
-    ensures disk { D.tells → KeepsDisk (D.state disk.old) (D.state disk.new) }
-    ensures disk_faults { D.faults disk.old ≤ D.faults disk.new }
-    ensures site_faults { S.faults site.old ≤ S.faults site.new }
+    ensures done { let d = disks D.tells D.state D.faults in let s = sites S.tells S.state S.faults in
+        ProjectDone d s size.start size.changes size.files (stand d s standing.who standing.now disk.old site.old) disk.new site.new
+        (written_from (streams O.tells O.taken O.faults) out.old out.new)
+        (written_from (streams E.tells E.taken E.faults) err.old err.new) result }
     ensures out_faults { O.faults out.old ≤ O.faults out.new }
     ensures err_faults { E.faults err.old ≤ E.faults err.new }
 {

@@ -4,7 +4,7 @@ use Rattle.ae_base.specs.declared.want.Want.TheVariants as want
 use Rattle.ae_outside.specs.Causes.{HasRisen}
 use Rattle.ae_outside.specs.State.{reads}
 use Rattle.ae_types.specs.Observation.{Observation}
-use Rattle.ae_dist.specs.declared.acts.Act.{Act}
+use Rattle.ae_lines.specs.declared.act.Act.{Act}
 use Rattle.ae_dist.specs.Answers.{IsDamagedAt, IsOpened, IsRefusedAt, Plans, RefusesPlan, project}
 use Rattle.ae_dist.proofs.Answering.{failed_as}
 use Rattle.ae_dist.proofs.Outcomes.{planned}

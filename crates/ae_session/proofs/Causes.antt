@@ -1,0 +1,117 @@
+-- What is so of all calls.
+use Rattle.std.specs.Prelude.{◌≡◌, ◌≤◌, ◌⊎◌, ℕ, Bool, true, false, List}
+use Rattle.std.proofs.Common.{inl, inr, sym, subst, arith}
+use Rattle.ae_base.specs.declared.outcome.Outcome.{Outcome}
+use Rattle.ae_base.specs.declared.outcome.Outcome.TheVariants.{Memory}
+use Rattle.ae_outside.specs.Causes.{HasRisen}
+use Rattle.ae_outside.proofs.Rising.{risen_later}
+use Rattle.ae_telling.specs.Telling.{SinkUse}
+use Rattle.ae_lines.specs.declared.line.Line.{Line}
+use Rattle.ae_lines.specs.declared.line.Line.TheVariants.{Do}
+use Rattle.ae_words.specs.declared.command.Command.{Command}
+use Rattle.ae_machine.specs.Called.{called}
+use Rattle.ae_exec.specs.Performs.{Completes}
+use Rattle.ae_exec.specs.Said.{is_listing}
+use Rattle.ae_exec.proofs.Completing.{completes}
+use Rattle.ae_acts.specs.Causes.{IsCaused}
+use Rattle.ae_acts.specs.Lines.{Did, DoesLine, Stand}
+use Rattle.ae_acts.specs.Step.{KeepsDisk}
+use Rattle.ae_acts.specs.Uses.{Disks, Sites, SourceUse, Streams, read_from, written_from}
+use Rattle.ae_acts.specs.declared.manner.Manner.{Manner}
+use Rattle.ae_acts.specs.declared.manner.Manner.TheVariants.{Plan, Generator}
+use Rattle.ae_acts.proofs.Caused.{caused_did, caused_on, caused_told, disk_later}
+use Rattle.ae_acts.proofs.Keeping.{does_keep, keeps_by, keeps_still, keeps_then, lines_keep}
+use Rattle.ae_script.proofs.Completed as script
+use Rattle.ae_session.specs.Called.{Asked, CallDone, CallsAreCaused, CallsKeepDisks, CommandCalled, CommandsEndWhole, IsAsked, OnlyTold, ProjectDone, command, lines_made, project, stops, tells, unmade, wanting}
+use Rattle.ae_session.specs.Called as asking
+use Rattle.ae_session.specs.Calls.{told_to}
+
+rose_either : (b : Bool) (out err : SinkUse) → (told_to b out err).rose → out.rose ⊎ err.rose
+rose_either true out err rose = inl rose
+rose_either false out err rose = inr rose
+
+module _ (d : Disks) (s : Sites) where
+  module _ (from : Stand d s) (disk : d.Disk) (site : s.Site) (input_rose : Type 0) (out err : SinkUse) (result : Outcome) where
+    abbrev Caused : Type 0
+    Caused = IsCaused (HasRisen (d.faults from.disk) (d.faults disk)) (HasRisen (s.faults from.site) (s.faults site)) input_rose (out.rose ⊎ err.rose) result
+
+    caused_only : OnlyTold d s from disk site out err result → Caused
+    caused_only only = caused_told _ _ input_rose (out.rose ⊎ err.rose) Memory result tt (elim only.told.how [ inl is ↦ inl is | inr untold ↦ inr (untold.0, inr untold.1) ])
+
+    caused_command : (c : Command) → CommandCalled d s c from disk site out err result → Caused
+    caused_command c one =
+        caused_told _ _ input_rose (out.rose ⊎ err.rose) one.line.outcome result
+        (subst (λ (x : d.Disk). IsCaused (HasRisen (d.faults from.disk) (d.faults x)) (HasRisen (s.faults from.site) (s.faults site)) input_rose (out.rose ⊎ err.rose) one.line.outcome) one.disk_is
+        (subst (λ (x : s.Site). IsCaused (HasRisen (d.faults from.disk) (d.faults one.line.to.disk)) (HasRisen (s.faults from.site) (s.faults x)) input_rose (out.rose ⊎ err.rose) one.line.outcome) one.site_is
+        (caused_on _ _ ⊥ ⊥ _ _ input_rose (out.rose ⊎ err.rose) (λ rose. rose) (λ rose. rose) (λ none. absurd none) (λ none. absurd none) one.line.outcome (caused_did d s Plan from one.line one.does))))
+        (elim one.told.how [ inl is ↦ inl is | inr untold ↦ inr (untold.0, rose_either (is_listing c.function one.line.outcome) out err untold.1) ])
+
+    no_rise : HasRisen 0 0 → ⊥
+    no_rise rose = omega (arith, rose)
+
+    caused_project : (start changes files : ℕ) → ProjectDone d s start changes files from disk site out err result → Caused
+    caused_project start changes files (unmade only) = caused_only only
+    caused_project start changes files (stops left did other quiet) =
+        caused_on _ _ (HasRisen 0 0) err.rose _ _ input_rose (out.rose ⊎ err.rose) (λ rose. rose) (λ rose. rose) (λ rose. absurd (no_rise rose)) (λ rose. inr rose) result (script.caused_script d s Generator from disk site _ err result did)
+    caused_project start changes files (tells mid left taken did summary) =
+        caused_on _ ⊥ ⊥ _ _ _ input_rose (out.rose ⊎ err.rose) (risen_later (d.faults from.disk) (d.faults mid) (d.faults disk) first) (λ none. absurd none) (λ none. absurd none)
+        (λ risen. risen) result summary.causes
+      where
+        first : d.faults from.disk ≤ d.faults mid
+        first = subst (λ (x : d.Disk). d.faults from.disk ≤ d.faults x) did.disk_is (disk_later d s Generator from did.done did.runs)
+
+  asked_caused : (asked : Asked) (from : Stand d s) (disk : d.Disk) (site : s.Site) (input : SourceUse) (out err : SinkUse) (result : Outcome) (manner : Manner) (done : List (Did d s)) → IsAsked d s asked from disk site input out err result manner done
+      → IsCaused (HasRisen (d.faults from.disk) (d.faults disk)) (HasRisen (s.faults from.site) (s.faults site)) input.rose (out.rose ⊎ err.rose) result
+  asked_caused asked from disk site input out err result _ _ (command c asks one) = caused_command from disk site input.rose out err result c one
+  asked_caused asked from disk site input out err result _ _ (asking.script asks did quiet) =
+      caused_on _ _ input.rose out.rose _ _ input.rose (out.rose ⊎ err.rose) (λ rose. rose) (λ rose. rose) (λ rose. rose) (λ rose. inl rose) result (script.caused_script d s _ from disk site input out result did)
+  asked_caused asked from disk site input out err result _ _ (project start changes files asks made) = caused_project from disk site input.rose out err result start changes files made
+  asked_caused asked from disk site input out err result _ _ (wanting only) = caused_only from disk site input.rose out err result only
+
+  pub caused : (i o e : Streams) → CallsAreCaused d s i o e
+  caused i o e asked from disk site input input_new out out_new err err_new result call =
+      asked_caused asked from disk site (read_from i input input_new) (written_from o out out_new) (written_from e err err_new) result call.manner call.done call.is
+
+  -- ---- the disk
+
+  keeps_made : (seen : d.told) (from : Stand d s) (disk : d.Disk) (site : s.Site) (out err : SinkUse) (result : Outcome) (start changes files : ℕ) → ProjectDone d s start changes files from disk site out err result → KeepsDisk (d.state from.disk) (d.state disk)
+  keeps_made seen from disk site out err result start changes files (unmade only) = subst (λ (x : d.Disk). KeepsDisk (d.state from.disk) (d.state x)) (sym only.disk_is) (keeps_still (d.state from.disk))
+  keeps_made seen from disk site out err result start changes files (stops left did other quiet) = subst (λ (x : d.Disk). KeepsDisk (d.state from.disk) (d.state x)) did.disk_is (lines_keep d s Generator seen from did.done did.runs)
+  keeps_made seen from disk site out err result start changes files (tells mid left taken did summary) =
+      keeps_then (d.state from.disk) (d.state mid) (d.state disk) (subst (λ (x : d.Disk). KeepsDisk (d.state from.disk) (d.state x)) did.disk_is (lines_keep d s Generator seen from did.done did.runs))
+      (keeps_by (d.state mid) (d.state disk) (Unit {0}) (summary.leaves seen))
+
+  asked_keeps : (seen : d.told) (asked : Asked) (from : Stand d s) (disk : d.Disk) (site : s.Site) (input : SourceUse) (out err : SinkUse) (result : Outcome) (manner : Manner) (done : List (Did d s)) → IsAsked d s asked from disk site input out err result manner done
+      → KeepsDisk (d.state from.disk) (d.state disk)
+  asked_keeps seen asked from disk site input out err result _ _ (command c asks one) = subst (λ (x : d.Disk). KeepsDisk (d.state from.disk) (d.state x)) one.disk_is (does_keep d s Plan seen from one.line one.does)
+  asked_keeps seen asked from disk site input out err result _ _ (asking.script asks did quiet) = subst (λ (x : d.Disk). KeepsDisk (d.state from.disk) (d.state x)) did.disk_is (lines_keep d s _ seen from did.done did.runs)
+  asked_keeps seen asked from disk site input out err result _ _ (project start changes files asks made) = keeps_made seen from disk site out err result start changes files made
+  asked_keeps seen asked from disk site input out err result _ _ (wanting only) = subst (λ (x : d.Disk). KeepsDisk (d.state from.disk) (d.state x)) (sym only.disk_is) (keeps_still (d.state from.disk))
+
+  pub kept : (i o e : Streams) → CallsKeepDisks d s i o e
+  kept i o e asked from disk site input input_new out out_new err err_new result call seen =
+      asked_keeps seen asked from disk site (read_from i input input_new) (written_from o out out_new) (written_from e err err_new) result call.manner call.done call.is
+
+  -- ---- where no count rises
+
+  line_whole : (c : Command) (from : Stand d s) (line : Did d s) → DoesLine d s Plan (Do c) from line → d.told → s.told → (HasRisen (d.faults from.disk) (d.faults line.to.disk) → ⊥) → (HasRisen (s.faults from.site) (s.faults line.to.site) → ⊥)
+      → Completes (d.state from.disk) (called c from.who from.now (s.state from.site) (s.state line.to.site)) line.outcome
+  line_whole c from line does seen shown no_disk no_site = completes (d.state from.disk) (called c from.who from.now (s.state from.site) (s.state line.to.site)) _ _ line.outcome (does.is.given shown).formed does.is.ends (does.is.performs seen shown).ends no_disk no_site
+
+  ends_whole : (c : Command) (from : Stand d s) (disk : d.Disk) (site : s.Site) (out err : SinkUse) (result : Outcome) → CommandCalled d s c from disk site out err result → d.told → s.told
+      → (HasRisen (d.faults from.disk) (d.faults disk) → ⊥) → (HasRisen (s.faults from.site) (s.faults site) → ⊥) → (out.rose → ⊥) → (err.rose → ⊥) → Completes (d.state from.disk) (called c from.who from.now (s.state from.site) (s.state site)) result
+  ends_whole c from disk site out err result one seen shown no_disk no_site no_out no_err =
+      subst (λ (o : Outcome). Completes (d.state from.disk) (called c from.who from.now (s.state from.site) (s.state site)) o) meant
+      (subst (λ (x : s.Site). Completes (d.state from.disk) (called c from.who from.now (s.state from.site) (s.state x)) one.line.outcome) one.site_is
+      (line_whole c from one.line (subst (λ (l : Line). DoesLine d s Plan l from one.line) one.says one.does.does) seen shown
+      (λ rose. no_disk (subst (λ (x : d.Disk). HasRisen (d.faults from.disk) (d.faults x)) one.disk_is rose)) (λ rose. no_site (subst (λ (x : s.Site). HasRisen (s.faults from.site) (s.faults x)) one.site_is rose))))
+    where
+      quiet : out.rose ⊎ err.rose → ⊥
+      quiet (inl rose) = no_out rose
+      quiet (inr rose) = no_err rose
+
+      meant : one.line.outcome ≡ result
+      meant = elim one.told.how [ inl same ↦ sym same | inr untold ↦ absurd (quiet (rose_either (is_listing c.function one.line.outcome) out err untold.1)) ]
+
+  pub whole : (o e : Streams) → CommandsEndWhole d s o e
+  whole o e c from disk site out out_new err err_new result one = ends_whole c from disk site (written_from o out out_new) (written_from e err err_new) result one
