@@ -3,49 +3,65 @@ ghost use Rattle.std.specs.Prelude.{⊤};
 ghost use Rattle.ae_outside.specs.Causes.{Counted, HasCause};
 ghost use Rattle.ae_outside.specs.Untold.{untold_disk};
 
+use crate::lock::Patience;
 use crate::store::Store;
+use crate::trouble::Trouble;
 use ae_outside::{Disk, Failed, ReadError};
 use std::alloc::Global;
 use std::fs::File;
 use std::io;
 use std::io::ErrorKind;
-use std::rt::Files;
+use std::rt::{Clock, Files};
 
-/// The files of the store. A call fails where another process holds the lock, and the next asks for it again. It tells
-/// nothing of what the files hold.
+/// The files of the store. A call fails where another process holds the lock until the patience ends, and the next asks for it
+/// again. It tells nothing of what the files hold.
 #[derive(Drop)]
 pub struct RealDisk<'a, R> {
     store: Store<'a, R>,
     faults: u64,
+    trouble: Option<Trouble>,
 }
 
-impl<'a, R: Files<File = File> + Alloc + Clone + Drop> RealDisk<'a, R> {
+impl<'a, R: Files<File = File> + Alloc + Clock + Clone + Drop + Eprint> RealDisk<'a, R> {
     /// A disk that hasn't looked for the store yet.
-    pub fn new(rt: &'a R, alloc: Global) -> RealDisk<'a, R> {
+    pub fn new(rt: &'a R, alloc: Global, patience: Patience) -> RealDisk<'a, R> {
         RealDisk {
-            store: Store::new(rt, alloc),
+            store: Store::new(rt, alloc, patience),
             faults: 0,
+            trouble: None,
         }
     }
 
-    fn count(&mut self) -> Failed
+    /// Why the last call failed that did.
+    pub fn trouble(&self) -> Option<&Trouble> {
+        self.trouble.as_ref()
+    }
+
+    fn count(&mut self, call: &'static str, name: &str, error: io::Error) -> Failed
         ensures { Counted self.old.faults self.new.faults ⊤ }
     {
         self.faults = self.faults.saturating_add(1);
+        let place = self.store.place_of_fault(name).ok();
+        self.trouble = Some(Trouble::new(call, place, error));
         Failed
     }
 
-    fn counted<T>(&mut self, outcome: io::Result<T>) -> Result<T, Failed>
+    fn counted<T>(
+        &mut self,
+        call: &'static str,
+        name: &str,
+        outcome: io::Result<T>,
+    ) -> Result<T, Failed>
         ensures { HasCause self.old.faults self.new.faults result }
     {
         match outcome {
             Ok(value) => Ok(value),
-            Err(_) => Err(self.count()),
+            Err(e) => Err(self.count(call, name, e)),
         }
     }
 }
 
-impl<'a, R: Files<File = File> + Alloc + Clone + Drop> Disk for RealDisk<'a, R> {
+impl<'a, R: Files<File = File> + Alloc + Clock + Clone + Drop + Eprint> Disk for RealDisk<'a, R> {
     ghost tells = { ⊥ };
 
     ghost state = { λ _. untold_disk };
@@ -54,7 +70,7 @@ impl<'a, R: Files<File = File> + Alloc + Clone + Drop> Disk for RealDisk<'a, R> 
 
     fn size(&mut self, name: &str) -> Result<u64, Failed> {
         let size = self.store.size(name);
-        self.counted(size)
+        self.counted("size", name, size)
     }
 
     fn read_at(
@@ -67,8 +83,8 @@ impl<'a, R: Files<File = File> + Alloc + Clone + Drop> Disk for RealDisk<'a, R> 
         match self.store.read_at(alloc, name, at, len) {
             Ok(bytes) => Ok(bytes),
             Err(e) if e.kind() == ErrorKind::OutOfMemory => Err(ReadError::Memory),
-            Err(_) => {
-                self.count();
+            Err(e) => {
+                self.count("read", name, e);
                 Err(ReadError::Failed)
             }
         }
@@ -76,16 +92,16 @@ impl<'a, R: Files<File = File> + Alloc + Clone + Drop> Disk for RealDisk<'a, R> 
 
     fn write_at(&mut self, name: &str, at: u64, bytes: &[u8]) -> Result<(), Failed> {
         let written = self.store.write_at(name, at, bytes);
-        self.counted(written)
+        self.counted("write", name, written)
     }
 
     fn cut(&mut self, name: &str, len: u64) -> Result<(), Failed> {
         let cut = self.store.cut(name, len);
-        self.counted(cut)
+        self.counted("cut", name, cut)
     }
 
     fn sync(&mut self, name: &str) -> Result<(), Failed> {
         let synced = self.store.sync(name);
-        self.counted(synced)
+        self.counted("sync", name, synced)
     }
 }

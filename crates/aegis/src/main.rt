@@ -4,20 +4,25 @@
 mod descriptors;
 mod disk;
 mod help;
+mod kept;
 mod lock;
+mod modes;
 mod places;
+mod run_log;
 mod site;
 mod store;
 mod streams;
+mod trouble;
 mod who;
 
 use ae_session::aegis;
 use disk::RealDisk;
 use help::Question;
 use site::RealSite;
-use std::io::{ErrorKind, Write};
+use std::io::{ErrorKind, IsTerminal, Write};
 use std::process::ExitCode;
 use streams::{Reading, Writing};
+use trouble::Trouble;
 
 // The words aren't understood.
 const BAD_WORDS: u8 = 2;
@@ -32,6 +37,13 @@ const NO_MEMORY: u8 = 8;
 fn starved(rt: &HostRuntime) -> ExitCode {
     rt.stderr().write_all(b"aegis: out of memory\n").ok();
     ExitCode::from(NO_MEMORY)
+}
+
+// Says of a device why its last call failed that did, where one did.
+fn tell(rt: &impl Eprint, device: &str, trouble: Option<&Trouble>) {
+    if let Some(trouble) = trouble {
+        rt.eprintln(format_args!("aegis: {device}: {trouble}")).ok();
+    }
 }
 
 fn main(rt: HostRuntime) -> ExitCode {
@@ -55,16 +67,29 @@ fn main(rt: HostRuntime) -> ExitCode {
     let Ok(who) = who::user(&rt) else {
         return starved(&rt);
     };
+    let patience = who::patience(&rt, rt.stderr().is_terminal());
+    let mut disk = RealDisk::new(&rt, rt.alloc(), patience);
+    let mut site = RealSite::new(&rt, rt.alloc());
+    let mut input = Reading::new(rt.stdin());
+    let mut output = Writing::new(rt.stdout());
+    let mut errors = Writing::new(rt.stderr());
     let outcome = aegis(
         rt.alloc(),
         words.as_slice(),
         who.as_str(),
         who::moment(&rt),
-        &mut RealDisk::new(&rt, rt.alloc()),
-        &mut RealSite::new(&rt, rt.alloc()),
-        &mut Reading::new(rt.stdin()),
-        &mut Writing::new(rt.stdout()),
-        &mut Writing::new(rt.stderr()),
+        &mut disk,
+        &mut site,
+        &mut input,
+        &mut output,
+        &mut errors,
     );
+    if who::is_traced(&rt) {
+        tell(&rt, "disk", disk.trouble());
+        tell(&rt, "directory", site.trouble());
+        tell(&rt, "input", input.trouble());
+        tell(&rt, "output", output.trouble());
+        tell(&rt, "error", errors.trouble());
+    }
     ExitCode::from(outcome.status())
 }

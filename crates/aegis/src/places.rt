@@ -1,6 +1,8 @@
 // What stands at a path. Each part of it is looked at before what it holds, so that no symbolic link is followed.
+use crate::modes::share_folder;
 use std::fs::File;
 use std::io::ErrorKind;
+use std::os::unix::fs::MetadataExt;
 use std::rt::Files;
 use std::{fs, io};
 
@@ -18,7 +20,8 @@ pub enum Found {
     Other,
 }
 
-fn entry_at(files: &impl Files, place: &str) -> io::Result<Found> {
+/// What stands at a place, whatever the folders on the way are.
+pub fn entry_at(files: &impl Files, place: &str) -> io::Result<Found> {
     let there = match fs::symlink_metadata(files, place) {
         Ok(there) => there,
         Err(e) if e.kind() == ErrorKind::NotFound => return Ok(Found::Absent),
@@ -93,11 +96,22 @@ pub fn is_empty_folder<R: Files + Alloc + Clone + Drop>(
     }
 }
 
+/// Whether the file that is open here is the one of that name.
+pub fn has_name(files: &impl Files, file: &File, place: &str) -> io::Result<bool> {
+    let held = file.metadata()?;
+    match fs::symlink_metadata(files, place) {
+        Ok(there) => Ok(there.dev() == held.dev() && there.ino() == held.ino()),
+        Err(e) if e.kind() == ErrorKind::NotFound => Ok(false),
+        Err(e) => Err(e),
+    }
+}
+
 /// Makes a folder. One that is there stays as it is. Making it follows no link.
-pub fn make_folder(files: &impl Files, place: &str) -> io::Result<()> {
+pub fn make_folder(files: &impl Files<File = File>, place: &str) -> io::Result<()> {
     match fs::create_dir(files, place) {
-        Err(e) if e.kind() != ErrorKind::AlreadyExists => return Err(e),
-        _ => {}
+        Ok(()) => share_folder(files, place)?,
+        Err(e) if e.kind() == ErrorKind::AlreadyExists => {}
+        Err(e) => return Err(e),
     }
     match entry_at(files, place)? {
         Found::Folder => Ok(()),
@@ -106,7 +120,7 @@ pub fn make_folder(files: &impl Files, place: &str) -> io::Result<()> {
 }
 
 /// Makes a folder, and those on the way to it. It fails where a link or a file stands in the place of one.
-pub fn make_folders(files: &impl Files, place: &str) -> io::Result<()> {
+pub fn make_folders(files: &impl Files<File = File>, place: &str) -> io::Result<()> {
     for end in 1..place.len() {
         if let Some(folder) = folder_on_the_way(place, end) {
             make_folder(files, folder)?;
@@ -116,7 +130,7 @@ pub fn make_folders(files: &impl Files, place: &str) -> io::Result<()> {
 }
 
 /// Makes the folders on the way to a file, where they aren't there. It fails where something else stands in the place of one.
-pub fn make_folders_to(files: &impl Files, place: &str) -> io::Result<()> {
+pub fn make_folders_to(files: &impl Files<File = File>, place: &str) -> io::Result<()> {
     let Some((folder, _)) = place.rsplit_once('/') else {
         return Ok(());
     };
@@ -142,7 +156,11 @@ pub fn remove_empty_folders(files: &impl Files, top: &str, place: &str) -> io::R
     Ok(())
 }
 
-/// Makes a folder's entries outlast a stop.
+/// Makes a folder's entries outlast a stop. A file system that takes no such call of a folder, and says that it is invalid, keeps
+/// entries in order by itself, as other stores take it to do.
 pub fn sync_folder(files: &impl Files<File = File>, place: &str) -> io::Result<()> {
-    File::open(files, place)?.sync_all()
+    match File::open(files, place)?.sync_all() {
+        Err(e) if e.kind() == ErrorKind::InvalidInput => Ok(()),
+        synced => synced,
+    }
 }

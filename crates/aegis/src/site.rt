@@ -5,19 +5,27 @@ ghost use Rattle.ae_outside.specs.Site.{IsAtMost};
 ghost use Rattle.ae_outside.specs.Untold.{untold_site};
 ghost use Rattle.aegis.specs.Runs.{HasNoEnd, IsExitOf, IsShell};
 
+use crate::kept::{keep_file, keep_folder, put_away};
+use crate::modes::share_file;
 use crate::places::{
-    Found, look, make_folders, make_folders_to, refused, remove_empty_folders, size_in_folder,
-    size_of_file,
+    Found, has_name, is_empty_folder, look, make_folders, make_folders_to, refused,
+    remove_empty_folders, size_in_folder, size_of_file,
 };
+use crate::run_log;
+use crate::trouble::Trouble;
 use ae_base::{Path, Text};
 use ae_outside::{Content, Dir, Exit, Failed, Site, SiteError};
 use std::alloc::{AllocError, Global};
 use std::fs::{File, OpenOptions};
-use std::io::{ErrorKind, Read};
+use std::io::{ErrorKind, Read, Write};
+use std::os::unix::fs::OpenOptionsExt;
 use std::os::unix::process::ExitStatusExt;
 use std::process::{Command, ExitStatus, Processes, Stdio};
-use std::rt::Files;
+use std::rt::{Clock, Files};
 use std::{fs, io};
+
+// How a file begins that the system hands to the program that it names.
+const PROGRAM: &[u8] = b"#!";
 
 /// Directories below `aegis.d`, and the current folder. It tells nothing of what they hold.
 #[derive(Drop)]
@@ -25,6 +33,7 @@ pub struct RealSite<'a, R> {
     rt: &'a R,
     alloc: Global,
     faults: u64,
+    trouble: Option<Trouble>,
 }
 
 fn folder_of(alloc: Global, dir: Dir) -> Result<String, AllocError> {
@@ -85,30 +94,48 @@ fn shell_for(alloc: Global, folder: &str, command: &str) -> Result<Command, Allo
     Ok(shell)
 }
 
-impl<'a, R: Files<File = File> + Alloc + Processes> RealSite<'a, R> {
+impl<'a, R: Files<File = File> + Alloc + Clock + Clone + Drop + Processes> RealSite<'a, R> {
     /// The directories of the project in the current folder.
     pub fn new(rt: &'a R, alloc: Global) -> RealSite<'a, R> {
         RealSite {
             rt,
             alloc,
             faults: 0,
+            trouble: None,
         }
     }
 
-    fn count(&mut self) -> Failed
+    /// Why the last call failed that did.
+    pub fn trouble(&self) -> Option<&Trouble> {
+        self.trouble.as_ref()
+    }
+
+    fn count(&mut self, call: &'static str, place: Option<String>, error: io::Error) -> Failed
         ensures { Counted self.old.faults self.new.faults ⊤ }
     {
         self.faults = self.faults.saturating_add(1);
+        self.trouble = Some(Trouble::new(call, place, error));
         Failed
     }
 
-    fn counted<T>(&mut self, outcome: io::Result<T>) -> Result<T, Failed>
+    fn counted<T>(
+        &mut self,
+        call: &'static str,
+        place: Option<String>,
+        outcome: io::Result<T>,
+    ) -> Result<T, Failed>
         ensures { HasCause self.old.faults self.new.faults result }
     {
         match outcome {
             Ok(value) => Ok(value),
-            Err(_) => Err(self.count()),
+            Err(e) => Err(self.count(call, place, e)),
         }
+    }
+
+    // A file of a directory, as a fault is told.
+    fn place_of_file(&self, dir: Dir, path: &Path) -> Option<String> {
+        let folder = folder_of(self.alloc, dir).ok()?;
+        place_in(self.alloc, folder.as_str(), path).ok()
     }
 
     // One byte more than the limit shows that there is more, and room for one more than there is shows the end of the file.
@@ -131,6 +158,8 @@ impl<'a, R: Files<File = File> + Alloc + Processes> RealSite<'a, R> {
         Ok(Content::Bytes(Text::of(bytes)))
     }
 
+    // A file that holds the bytes already stays untouched, with its time of change. Any other is taken away and made anew, so that
+    // nothing is written through another name of it.
     fn try_write(&self, dir: Dir, path: &Path, bytes: &[u8]) -> io::Result<()> {
         if dir == Dir::Here && is_own(path) {
             return Err(refused());
@@ -138,26 +167,52 @@ impl<'a, R: Files<File = File> + Alloc + Processes> RealSite<'a, R> {
         let folder = folder_of(self.alloc, dir)?;
         let place = place_in(self.alloc, folder.as_str(), path)?;
         make_folders_to(self.rt, place.as_str())?;
-        match size_in_folder(self.rt, place.as_str())? {
-            Some(size) if size == bytes.len() as u64 => self.rewrite(place.as_str(), bytes),
-            _ => fs::write(self.rt, place, bytes),
+        if let Some(size) = size_in_folder(self.rt, place.as_str())? {
+            if size == bytes.len() as u64 && self.holds(place.as_str(), bytes) {
+                return Ok(());
+            }
+            self.take_away(dir, folder.as_str(), place.as_str(), size)?;
         }
+        self.make_file(place.as_str(), bytes)
     }
 
-    // Writes a file of this length. One that holds the bytes already stays untouched, with its time of change.
-    fn rewrite(&self, place: &str, bytes: &[u8]) -> io::Result<()> {
-        match self.holds(place, bytes) {
-            Ok(true) => Ok(()),
-            _ => fs::write(self.rt, place, bytes),
-        }
+    // A file that can't be read doesn't hold them, as far as is known.
+    fn holds(&self, place: &str, bytes: &[u8]) -> bool {
+        matches!(self.read_whole(place, bytes.len()), Ok(found) if found.as_slice() == bytes)
     }
 
-    fn holds(&self, place: &str, bytes: &[u8]) -> io::Result<bool> {
+    // The bytes of a file that had so many.
+    fn read_whole(&self, place: &str, len: usize) -> io::Result<Vec<u8>> {
         let mut file = File::open(self.rt, place)?;
         let mut found = Vec::new(self.alloc);
-        found.try_reserve_exact(bytes.len().saturating_add(1))?;
+        found.try_reserve_exact(len.saturating_add(1))?;
         file.read_to_end(&mut found)?;
-        Ok(found.as_slice() == bytes)
+        Ok(found)
+    }
+
+    // Takes a file of that size away. What it holds in a develop directory is somebody's work, which is kept once.
+    fn take_away(&self, dir: Dir, folder: &str, place: &str, size: u64) -> io::Result<()> {
+        match dir {
+            Dir::Develop(_) if size > 0 => keep_file(self.rt, self.alloc, folder, place),
+            _ => fs::remove_file(self.rt, place),
+        }
+    }
+
+    // Makes a file where nothing is. It isn't opened where something has appeared there, and nothing is written to it where it
+    // isn't at its place, since a folder on the way has become a link.
+    fn make_file(&self, place: &str, bytes: &[u8]) -> io::Result<()> {
+        let is_program = bytes.starts_with(PROGRAM);
+        let mut file = OpenOptions::new()
+            .write(true)
+            .create_new(true)
+            .mode(if is_program { 0o777 } else { 0o666 })
+            .open(self.rt, place)?;
+        size_of_file(self.rt, place)?;
+        if !has_name(self.rt, &file, place)? {
+            return Err(refused());
+        }
+        share_file(self.rt, &file, place, is_program)?;
+        file.write_all(bytes)
     }
 
     fn try_remove(&self, dir: Dir, path: &Path) -> io::Result<()> {
@@ -168,7 +223,7 @@ impl<'a, R: Files<File = File> + Alloc + Processes> RealSite<'a, R> {
         let folder = folder_of(self.alloc, dir)?;
         let place = place_in(self.alloc, folder.as_str(), path)?;
         match look(self.rt, place.as_str())? {
-            Found::File(_) => fs::remove_file(self.rt, place.as_str())?,
+            Found::File(size) => self.take_away(dir, folder.as_str(), place.as_str(), size)?,
             Found::Link => return Err(refused()),
             _ => return Ok(()),
         }
@@ -178,41 +233,47 @@ impl<'a, R: Files<File = File> + Alloc + Processes> RealSite<'a, R> {
         remove_empty_folders(self.rt, folder.as_str(), place.as_str())
     }
 
+    // Takes a directory away. What a develop directory holds is kept once.
+    fn empty(&self, dir: Dir, folder: &str) -> io::Result<()> {
+        let is_kept = matches!(dir, Dir::Develop(_))
+            && !matches!(is_empty_folder(self.rt, folder), Ok(true));
+        if is_kept {
+            return keep_folder(self.rt, self.alloc, folder);
+        }
+        put_away(self.rt, self.alloc, folder)
+    }
+
     fn try_clear(&self, dir: Dir) -> io::Result<()> {
         if dir == Dir::Here {
             return Err(refused());
         }
         let folder = folder_of(self.alloc, dir)?;
         match look(self.rt, folder.as_str())? {
-            Found::Folder => fs::remove_dir_all(self.rt, folder.as_str())?,
+            Found::Folder => self.empty(dir, folder.as_str())?,
             Found::Absent => {}
             _ => return Err(refused()),
         }
         make_folders(self.rt, folder.as_str())
     }
 
-    // The file to which a run's output and error are appended. Anything else in its place is an error.
-    fn open_log(&self, folder: &str) -> io::Result<File> {
-        let log = format!(in self.alloc; "{folder}/aegis.log")?;
-        size_of_file(self.rt, log.as_str())?;
-        OpenOptions::new()
-            .append(true)
-            .create(true)
-            .open(self.rt, log)
-    }
-
+    // The log is a help for who reads it: where a heading can't be written, the run is made all the same.
     fn try_run(&self, dir: Dir, command: &str) -> io::Result<Exit> {
         let folder = folder_of(self.alloc, dir)?;
         make_folders(self.rt, folder.as_str())?;
-        let out = self.open_log(folder.as_str())?;
-        let err = out.try_clone()?;
+        let mut log = run_log::open_log(self.rt, self.alloc, folder.as_str())?;
+        run_log::begin(self.rt, self.alloc, &mut log, folder.as_str(), command).ok();
+        let out = log.try_clone()?;
+        let err = log.try_clone()?;
         let mut shell = shell_for(self.alloc, folder.as_str(), command)?;
         shell.stdin(Stdio::null()).stdout(out).stderr(err);
-        exit_of(shell.status(self.rt)?)
+        let exit = exit_of(shell.status(self.rt)?)?;
+        run_log::end(self.alloc, &mut log, exit).ok();
+        Ok(exit)
     }
 }
 
-impl<'a, R: Files<File = File> + Alloc + Processes> Site for RealSite<'a, R> {
+impl<'a, R: Files<File = File> + Alloc + Clock + Clone + Drop + Processes> Site
+    for RealSite<'a, R> {
     ghost tells = { ⊥ };
 
     ghost state = { λ _. untold_site };
@@ -231,8 +292,9 @@ impl<'a, R: Files<File = File> + Alloc + Processes> Site for RealSite<'a, R> {
         match self.try_read(alloc, dir, path, limit) {
             Ok(content) => Ok(content),
             Err(e) if e.kind() == ErrorKind::OutOfMemory => Err(SiteError::Memory),
-            Err(_) => {
-                self.count();
+            Err(e) => {
+                let place = self.place_of_file(dir, path);
+                self.count("read", place, e);
                 Err(SiteError::Failed)
             }
         }
@@ -240,21 +302,25 @@ impl<'a, R: Files<File = File> + Alloc + Processes> Site for RealSite<'a, R> {
 
     fn write(&mut self, dir: Dir, path: &Path, bytes: &[u8]) -> Result<(), Failed> {
         let written = self.try_write(dir, path, bytes);
-        self.counted(written)
+        let place = self.place_of_file(dir, path);
+        self.counted("write", place, written)
     }
 
     fn remove(&mut self, dir: Dir, path: &Path) -> Result<(), Failed> {
         let removed = self.try_remove(dir, path);
-        self.counted(removed)
+        let place = self.place_of_file(dir, path);
+        self.counted("remove", place, removed)
     }
 
     fn clear(&mut self, dir: Dir) -> Result<(), Failed> {
         let cleared = self.try_clear(dir);
-        self.counted(cleared)
+        let place = folder_of(self.alloc, dir).ok();
+        self.counted("clear", place, cleared)
     }
 
     fn run(&mut self, dir: Dir, command: &str) -> Result<Exit, Failed> {
         let exit = self.try_run(dir, command);
-        self.counted(exit)
+        let place = folder_of(self.alloc, dir).ok();
+        self.counted("run", place, exit)
     }
 }

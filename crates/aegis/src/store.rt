@@ -1,14 +1,16 @@
 // The files of the store, below `aegis.d/store`.
 ghost use Rattle.std.specs.Prelude.{◌≤◌, length, IfOk};
 
-use crate::lock::take_lock;
+use crate::lock::{Patience, take_lock};
+use crate::modes::share_file;
 use crate::places::{
-    Found, is_empty_folder, look, make_folder, refused, size_of_file, sync_folder,
+    Found, has_name, is_empty_folder, look, make_folder, refused, size_of_file, sync_folder,
 };
 use std::alloc::{AllocError, Global};
 use std::fs::{File, OpenOptions};
+use std::io::ErrorKind;
 use std::os::unix::fs::FileExt;
-use std::rt::Files;
+use std::rt::{Clock, Files};
 use std::{fs, io};
 
 const ROOT: &str = "aegis.d";
@@ -34,17 +36,19 @@ enum Standing {
 pub struct Store<'a, R> {
     rt: &'a R,
     alloc: Global,
+    patience: Patience,
     standing: Standing,
     // Whether the names of its files outlast a stop.
     has_stable_names: bool,
 }
 
-impl<'a, R: Files<File = File> + Alloc + Clone + Drop> Store<'a, R> {
+impl<'a, R: Files<File = File> + Alloc + Clock + Clone + Drop + Eprint> Store<'a, R> {
     /// A store that hasn't been looked for yet.
-    pub fn new(rt: &'a R, alloc: Global) -> Store<'a, R> {
+    pub fn new(rt: &'a R, alloc: Global, patience: Patience) -> Store<'a, R> {
         Store {
             rt,
             alloc,
+            patience,
             standing: Standing::Unknown,
             has_stable_names: false,
         }
@@ -61,7 +65,7 @@ impl<'a, R: Files<File = File> + Alloc + Clone + Drop> Store<'a, R> {
     fn find(&mut self) -> io::Result<bool> {
         match look(self.rt, STORE)? {
             Found::Folder => {
-                let lock = take_lock(self.rt, LOCK)?;
+                let lock = take_lock(self.rt, LOCK, self.patience)?;
                 if is_empty_folder(self.rt, STORE)? {
                     self.sync_above()?;
                 }
@@ -91,15 +95,34 @@ impl<'a, R: Files<File = File> + Alloc + Clone + Drop> Store<'a, R> {
             return Ok(());
         }
         make_folder(self.rt, ROOT)?;
-        let lock = take_lock(self.rt, LOCK)?;
+        let lock = take_lock(self.rt, LOCK, self.patience)?;
         fs::create_dir(self.rt, STORE)?;
         self.sync_above()?;
         self.standing = Standing::Held(lock);
         Ok(())
     }
 
+    // Whether the lock that is held is still the file of its name. Where it isn't, another process may hold the one that is, so
+    // nothing more may be written.
+    fn keep_lock(&self) -> io::Result<()> {
+        match &self.standing {
+            Standing::Held(lock) if !has_name(self.rt, lock, LOCK)? => {
+                Err(io::Error::from(ErrorKind::NotFound))
+            }
+            _ => Ok(()),
+        }
+    }
+
     fn place(&self, name: &str) -> Result<String, AllocError> {
         format!(in self.alloc; "{STORE}/{name}")
+    }
+
+    /// Where a call for this file fails: at the lock, as long as that isn't held, and then at the file.
+    pub fn place_of_fault(&self, name: &str) -> Result<String, AllocError> {
+        match self.standing {
+            Standing::Unknown => String::from_str(self.alloc, LOCK),
+            _ => self.place(name),
+        }
     }
 
     // The length of a file that is there.
@@ -137,14 +160,17 @@ impl<'a, R: Files<File = File> + Alloc + Clone + Drop> Store<'a, R> {
     /// Puts the bytes at `at`. The store and the file are made where they are absent.
     pub fn write_at(&mut self, name: &str, at: u64, bytes: &[u8]) -> io::Result<()> {
         self.make()?;
-        if self.found(name)?.is_none() {
+        self.keep_lock()?;
+        let is_new = self.found(name)?.is_none();
+        if is_new {
             self.has_stable_names = false;
         }
         let place = self.place(name)?;
         let file = OpenOptions::new()
             .write(true)
-            .create(true)
-            .open(self.rt, place)?;
+            .create_new(is_new)
+            .open(self.rt, place.as_str())?;
+        share_file(self.rt, &file, place.as_str(), false)?;
         file.write_all_at(bytes, at)
     }
 
@@ -152,6 +178,7 @@ impl<'a, R: Files<File = File> + Alloc + Clone + Drop> Store<'a, R> {
     pub fn cut(&mut self, name: &str, len: u64) -> io::Result<()> {
         match self.found(name)? {
             Some(size) if len < size => {
+                self.keep_lock()?;
                 let place = self.place(name)?;
                 let file = OpenOptions::new().write(true).open(self.rt, place)?;
                 file.set_len(len)

@@ -1,20 +1,40 @@
 // A source over a reader, and a sink over a writer.
-ghost use Rattle.std.specs.Prelude.{[]};
+ghost use Rattle.std.specs.Prelude.{[], ⊤};
+ghost use Rattle.ae_outside.specs.Causes.{Counted};
 
+use crate::trouble::Trouble;
 use ae_outside::{Failed, Sink, Source};
-use std::io::{Read, Write};
+use std::io::{Error, ErrorKind, Read, Write};
 
 /// A source over a reader. It tells nothing of the bytes that are left.
 #[derive(Drop)]
 pub struct Reading<R> {
     inner: R,
     faults: u64,
+    trouble: Option<Trouble>,
 }
 
 impl<R: Read> Reading<R> {
     /// The stream over this one.
     pub fn new(inner: R) -> Reading<R> {
-        Reading { inner, faults: 0 }
+        Reading {
+            inner,
+            faults: 0,
+            trouble: None,
+        }
+    }
+
+    /// Why the last call failed that did.
+    pub fn trouble(&self) -> Option<&Trouble> {
+        self.trouble.as_ref()
+    }
+
+    fn count(&mut self, error: Error) -> Failed
+        ensures { Counted self.old.faults self.new.faults ⊤ }
+    {
+        self.faults = self.faults.saturating_add(1);
+        self.trouble = Some(Trouble::new("read", None, error));
+        Failed
     }
 }
 
@@ -28,10 +48,7 @@ impl<R: Read> Source for Reading<R> {
     fn read(&mut self, into: &mut [u8]) -> Result<usize, Failed> {
         match self.inner.read(into) {
             Ok(count) => Ok(count),
-            Err(_) => {
-                self.faults = self.faults.saturating_add(1);
-                Err(Failed)
-            }
+            Err(e) => Err(self.count(e)),
         }
     }
 }
@@ -42,12 +59,30 @@ impl<R: Read> Source for Reading<R> {
 pub struct Writing<W> {
     inner: W,
     faults: u64,
+    trouble: Option<Trouble>,
 }
 
 impl<W: Write> Writing<W> {
     /// The stream over this one.
     pub fn new(inner: W) -> Writing<W> {
-        Writing { inner, faults: 0 }
+        Writing {
+            inner,
+            faults: 0,
+            trouble: None,
+        }
+    }
+
+    /// Why the last call failed that did.
+    pub fn trouble(&self) -> Option<&Trouble> {
+        self.trouble.as_ref()
+    }
+
+    fn count(&mut self, error: Error) -> Failed
+        ensures { Counted self.old.faults self.new.faults ⊤ }
+    {
+        self.faults = self.faults.saturating_add(1);
+        self.trouble = Some(Trouble::new("write", None, error));
+        Failed
     }
 }
 
@@ -61,14 +96,11 @@ impl<W: Write> Sink for Writing<W> {
     fn write(&mut self, bytes: &[u8]) -> Result<usize, Failed> {
         match self.inner.write(bytes) {
             Ok(0) => {
-                self.faults = self.faults.saturating_add(1);
+                self.count(Error::from(ErrorKind::WriteZero));
                 Ok(0)
             }
             Ok(count) => Ok(count),
-            Err(_) => {
-                self.faults = self.faults.saturating_add(1);
-                Err(Failed)
-            }
+            Err(e) => Err(self.count(e)),
         }
     }
 }

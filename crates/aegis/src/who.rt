@@ -2,12 +2,19 @@
 ghost use Rattle.std.specs.Prelude.{◌≤◌};
 ghost use Rattle.ae_base.specs.Limits.{last_moment};
 
+use crate::lock::Patience;
 use ae_base::limits::LAST_MOMENT;
 use std::alloc::AllocError;
 use std::env::VarError;
 use std::rt::{Clock, Env};
 use std::time::{SystemTime, UNIX_EPOCH};
 use std::{env, io};
+
+// So many seconds the lock is waited for where nothing else is said.
+const SECONDS: u32 = 5;
+
+// So many are waited at most.
+const MOST_SECONDS: u32 = 86_400;
 
 /// The words after the program's name. It fails where one isn't UTF-8.
 pub fn words<R: Env + AllocGlobal>(rt: &R) -> io::Result<Vec<String>> {
@@ -39,4 +46,22 @@ pub fn moment(rt: &impl Clock) -> u64
         Ok(past) if past.as_secs() <= LAST_MOMENT => past.as_secs(),
         _ => 0,
     }
+}
+
+/// How long the lock is waited for: so many seconds as the variable AEGIS_WAIT says, at most a day, and 5 where it says none. Who
+/// sees standard error on a terminal is told.
+pub fn patience<R: Env + AllocGlobal>(rt: &R, says: bool) -> Patience {
+    let seconds = match env::var(rt, "AEGIS_WAIT") {
+        Ok(text) => text.parse::<u32>().unwrap_or(SECONDS),
+        Err(_) => SECONDS,
+    };
+    Patience {
+        seconds: seconds.min(MOST_SECONDS),
+        says,
+    }
+}
+
+/// Whether the causes of faults are to be told: the variable AEGIS_TRACE is set.
+pub fn is_traced<R: Env + AllocGlobal>(rt: &R) -> bool {
+    !matches!(env::var(rt, "AEGIS_TRACE"), Err(VarError::NotPresent))
 }
