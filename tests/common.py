@@ -37,7 +37,8 @@ ptrace.restype = ctypes.c_long
 
 
 def environment(who):
-    return {**os.environ, "AEGIS_USER": who}
+    """That of this process, but for who asks. No command waits for the lock, so that a test can hold it."""
+    return {**os.environ, "AEGIS_USER": who, "AEGIS_WAIT": "0"}
 
 
 def run(program, top, who, words, **options):

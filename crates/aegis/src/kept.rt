@@ -42,10 +42,14 @@ pub fn keep_folder<R: Files + Alloc>(files: &R, alloc: Global, folder: &str) -> 
     fs::rename(files, folder, old.as_str())
 }
 
-// Moves a file to another place, and makes the folders on the way to it.
+// Moves a file to another place, and makes the folders on the way to it. Where both are names of one file, the system leaves both.
 fn move_file(files: &impl Files<File = File>, from: &str, to: &str) -> io::Result<()> {
     make_folders_to(files, to)?;
-    fs::rename(files, from, to)
+    fs::rename(files, from, to)?;
+    match entry_at(files, from)? {
+        Found::Absent => Ok(()),
+        _ => fs::remove_file(files, from),
+    }
 }
 
 /// Keeps the file at this path of a directory beside that. Where a file stands in the place of a folder of what was kept, or the

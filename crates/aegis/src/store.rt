@@ -2,7 +2,7 @@
 ghost use Rattle.std.specs.Prelude.{◌≤◌, length, IfOk};
 
 use crate::lock::{Patience, take_lock};
-use crate::modes::share_file;
+use crate::modes::{share_file, share_folder};
 use crate::places::{
     Found, has_name, is_empty_folder, look, make_folder, refused, size_of_file, sync_folder,
 };
@@ -97,6 +97,7 @@ impl<'a, R: Files<File = File> + Alloc + Clock + Clone + Drop + Eprint> Store<'a
         make_folder(self.rt, ROOT)?;
         let lock = take_lock(self.rt, LOCK, self.patience)?;
         fs::create_dir(self.rt, STORE)?;
+        share_folder(self.rt, STORE)?;
         self.sync_above()?;
         self.standing = Standing::Held(lock);
         Ok(())
