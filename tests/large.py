@@ -1,0 +1,78 @@
+"""A project as large as is wanted, whose changes are all integrated: its store, written file by file (docs/FORMATS.md)."""
+import hashlib
+import os
+
+DIGEST = "2d711642b726b04401627ca9fbac32f5c8530fb1903cc4db02258717921a4881"
+WHEN = 1000000000
+# the bytes of a file, those of a unit of pack
+LENGTH, UNIT = 4096, 64
+PEOPLE = 'administrators = ["alice"];\ndevelopers = ["bob"];\nreviewers = ["alice"];\nintegrators = ["alice"];\n'
+STEPS = [
+    ("new_change", "alice"),
+    ("develop_begin", "bob"),
+    ("develop_end", "bob"),
+    ("review_pass", "alice"),
+    ("integrate_begin", "alice"),
+    ("integrate_pass", "alice"),
+]
+
+
+def listed(rows):
+    return "[" + ", ".join(rows) + "]"
+
+
+def project_text(paths, changes):
+    deltas = [f'{{ delta = {d}; change = {d + 9}; when = {WHEN}; who = "alice"; }}' for d in range(1, changes + 1)]
+    numbers = [str(d + 9) for d in range(1, changes + 1)]
+    flags = ["developer_may_review", "developer_may_integrate", "reviewer_may_integrate", "developers_may_create_changes"]
+    settings = "".join(f"{flag} = {'true' if flag.startswith('reviewer') else 'false'};\n" for flag in flags)
+    return (
+        'format = 1;\nstore = packed;\nname = "demo";\ndescription = "";\n'
+        + settings
+        + "develop_end_action = goto_being_reviewed;\ndefault_test_exemption = false;\n"
+        + PEOPLE
+        + f"next_version = {paths + 1};\nchanges = {listed(numbers)};\ndeltas = {listed(deltas)};\n"
+    )
+
+
+def content(number):
+    return f"version {number}\n".encode().ljust(LENGTH, b".")
+
+
+def file_row(path, number, delta):
+    digest = hashlib.sha256(content(number)).hexdigest()
+    at = (number - 1) * LENGTH // UNIT
+    version = f'version = {{ number = {number}; at = {at}; length = {LENGTH}; digest = "{digest}"; }};'
+    return f'{{ path = "{path}"; edit = 1; past = [{{ delta = {delta}; usage = source; {version} }}]; }}'
+
+
+def change_text(number, paths):
+    files = [f'{{ path = "{p}"; action = create; usage = source; origin = 0; version = {{ }}; }}' for p in paths]
+    runs = [
+        f'{{ ground = {ground}; kind = build; path = ""; status = 0; clean = true; subject = "{DIGEST}"; when = {WHEN}; who = "{who}"; }}'
+        for ground, who in [("develop", "bob"), ("integrate", "alice")]
+    ]
+    rows = [f'{{ what = {what}; who = "{who}"; when = {WHEN}; }}' for what, who in STEPS]
+    return (
+        f'number = {number};\nbrief_description = "change {number}";\ndescription = "";\ncause = internal_enhancement;\n'
+        "test_exempt = true;\ntest_baseline_exempt = true;\nregression_test_exempt = true;\nphase = completed;\n"
+        'developer = "bob";\nreviewing = "";\nreviewer = "alice";\nintegrator = "alice";\n'
+        f"files = {listed(files)};\nevidence = {listed(runs)};\nhistory = {listed(rows)};\n"
+    )
+
+
+def write_store(folder, paths, changes):
+    names = [f"source/part{n // 100:03}/file{n:05}.c" for n in range(paths)]
+    each = [names[d * paths // changes : (d + 1) * paths // changes] for d in range(changes)]
+    rows = []
+    for delta, mine in enumerate(each, 1):
+        rows += [file_row(p, len(rows) + i, delta) for i, p in enumerate(mine, 1)]
+    texts = {"project": project_text(paths, changes), "files": f"files = {listed(rows)};\nlocks = [];\n"}
+    for delta, mine in enumerate(each, 1):
+        texts[f"change.{delta + 9}"] = change_text(delta + 9, mine)
+    os.makedirs(folder)
+    for name, text in texts.items():
+        with open(os.path.join(folder, name), "w") as file:
+            file.write(text)
+    with open(os.path.join(folder, "pack"), "wb") as pack:
+        pack.writelines(content(number) for number in range(1, paths + 1))
