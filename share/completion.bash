@@ -1,108 +1,186 @@
-# Completion of aegis for bash: functions, listings, options, the numbers of changes, and paths.
+# Completion of aegis for bash: functions, listings, options, the numbers of changes, and paths; and of the short names of profile.sh.
 #
 #     . /usr/local/share/bash-completion/completions/aegis
 #
-# What may be written is read from `aegis --help`. Numbers and paths are read from the project of the current folder, where it can
-# be read.
+# What may be written is read once from `aegis --help`. Numbers and paths are read from the project of the current folder, or of that
+# around it, where it can be read.
 
-# The lines of the help that begin so: of a function, as `-New_Change -File PATH`, or of a listing.
-_aegis_lines() {
-    aegis --help 2>/dev/null | sed -n "s/^  \($1\)/\1/p"
+# The lines of the help: of the functions, as `-New_Change -File PATH`, and of the listings. They are read once.
+_aegis_functions=()
+_aegis_listings=()
+
+_aegis_read() {
+    local line
+    [ "${#_aegis_functions[@]}" = 0 ] || return
+    while IFS= read -r line; do
+        case $line in
+        '  -'*) _aegis_functions+=("${line:2}") ;;
+        '  '[A-Z]*) _aegis_listings+=("${line:2}") ;;
+        esac
+    done < <(aegis --help 2>/dev/null)
 }
 
-# The names at the front of lines, each in full and by its capitals in lower case.
+# The names at the front of lines, each in full; and by its capitals in lower case, where something of it is written already.
 _aegis_names() {
-    local name
-    while read -r name _; do
-        printf '%s\n' "$name"
-        printf '%s\n' "${name//[^A-Z-]/}" | tr '[:upper:]' '[:lower:]'
+    local line name short
+    for line in "$@"; do
+        name=${line%% *}
+        _aegis_offer "$name"
+        short=${name//[^A-Z-]/}
+        [ -z "${word#-}" ] || _aegis_offer "${short,,}"
     done
+}
+
+# Offers a name where what is written begins it, whatever its case is.
+_aegis_offer() {
+    case ${1,,} in "${word,,}"*) COMPREPLY+=("$1") ;; esac
+}
+
+_aegis_offer_all() {
+    local name
+    while IFS= read -r name; do _aegis_offer "$name"; done
 }
 
 # The line of the function that a word spells in full or by its capitals.
 _aegis_line_of() {
-    local word=${1,,} line
-    word=${word#-}
-    word=-${word#-}
-    while IFS= read -r line; do
-        if printf '%s\n' "$line" | _aegis_names | grep -q -i -x -e "$word"; then
-            printf '%s\n' "$line"
+    local asked=${1,,} entry name short
+    asked=${asked#-}
+    asked=-${asked#-}
+    for entry in "${_aegis_functions[@]}"; do
+        name=${entry%% *}
+        short=${name//[^A-Z-]/}
+        if [ "${name,,}" = "$asked" ] || [ "${short,,}" = "$asked" ]; then
+            line=${entry%%   *}
+            return
         fi
-    done < <(_aegis_lines -)
+    done
 }
 
 # The options of a function's line; -Project goes with each but one.
 _aegis_options() {
-    case $1 in
+    local entry
+    case $line in
     -New_PRoject*) ;;
-    *) printf '%s\n' -Project ;;
+    *) _aegis_names -Project ;;
     esac
-    printf '%s\n' "${1#* }" | grep -o -e '-[A-Za-z_]*'
+    for entry in ${line#* }; do
+        entry=${entry#[}
+        entry=${entry%]}
+        case $entry in -*) _aegis_names "$entry" ;; esac
+    done
 }
 
-# The number that the words before give for -Change.
-_aegis_change() {
+# The number that the words before give for -Change, or that of the develop directory around.
+_aegis_find_change() {
     local at
-    for ((at = 2; at < COMP_CWORD; at++)); do
+    for ((at = 1; at < COMP_CWORD; at++)); do
         case ${COMP_WORDS[at],,} in
-        -c | --c | -change | --change) printf '%s\n' "${COMP_WORDS[at + 1]}" ;;
+        -c | --c | -change | --change)
+            change=${COMP_WORDS[at + 1]}
+            [ "$change" != = ] || change=${COMP_WORDS[at + 2]}
+            return
+            ;;
         esac
     done
+    case $PWD/ in
+    */aegis.d/develop.[0-9]*)
+        change=${PWD#*/aegis.d/develop.}
+        change=${change%%/*}
+        ;;
+    esac
+}
+
+# The folder of the project around.
+_aegis_find_top() {
+    case $PWD/ in
+    */aegis.d/*)
+        top=${PWD%%/aegis.d*}
+        return
+        ;;
+    esac
+    top=$PWD
+    while [ -n "$top" ] && [ ! -d "$top/aegis.d/store" ]; do top=${top%/*}; done
 }
 
 # The numbers of the project's changes.
 _aegis_changes() {
-    sed -n 's/^changes = \[\(.*\)\];$/\1/p' aegis.d/store/project 2>/dev/null | tr -d ','
+    sed -n 's/^changes = \[\(.*\)\];$/\1/p' "$top/aegis.d/store/project" 2>/dev/null | tr -d ',' | tr ' ' '\n'
 }
 
 # The paths of the files that a state file lists, of those rows that go on so.
 _aegis_rows() {
-    sed -n 's/^files = //p' "aegis.d/store/$1" 2>/dev/null | grep -o -e "path = \"[^\"]*\"; $2" | sed 's/^path = "//; s/".*//'
+    sed -n 's/^files = //p' "$top/aegis.d/store/$1" 2>/dev/null | grep -o -e "path = \"[^\"]*\"; $2" | sed 's/^path = "//; s/".*//'
 }
 
 # The files in the directory of a change.
 _aegis_files() {
-    (cd "aegis.d/develop.$1" 2>/dev/null && find . -type f ! -path ./aegis.log | sed 's/^\.\///')
+    (cd "$top/aegis.d/develop.$1" 2>/dev/null && find . -type f ! -path ./aegis.log | sed 's/^\.\///')
 }
 
 # The plain words that a function's line asks for.
 _aegis_plain() {
-    local change
-    change=$(_aegis_change)
-    case $1 in
-    *" LISTING"*) _aegis_lines '[A-Z]' | _aegis_names ;;
-    -CoPy_file_Undo*) _aegis_rows "change.$change" 'action = modify' ;;
-    -ReMove_file_Undo*) _aegis_rows "change.$change" 'action = remove' ;;
-    -New_Test_Undo*) _aegis_rows "change.$change" 'action = create; usage = test' ;;
-    -New_File_Undo*) _aegis_rows "change.$change" 'action = create; usage = [sc]' ;;
-    -CoPy_file* | -ReMove_file*) _aegis_rows files edit ;;
-    -New_File* | -New_Test*) _aegis_files "$change" ;;
+    local change=''
+    _aegis_find_change
+    case $line in
+    *' LISTING'*) _aegis_names "${_aegis_listings[@]}" ;;
+    -CoPy_file_Undo*) _aegis_offer_all < <(_aegis_rows "change.$change" 'action = modify') ;;
+    -ReMove_file_Undo*) _aegis_offer_all < <(_aegis_rows "change.$change" 'action = remove') ;;
+    -New_Test_Undo*) _aegis_offer_all < <(_aegis_rows "change.$change" 'action = create; usage = test') ;;
+    -New_File_Undo*) _aegis_offer_all < <(_aegis_rows "change.$change" 'action = create; usage = [sc]') ;;
+    -CoPy_file* | -ReMove_file*) _aegis_offer_all < <(_aegis_rows files edit) ;;
+    -New_File* | -New_Test*) _aegis_offer_all < <(_aegis_files "$change") ;;
     esac
 }
 
-# What may stand at the place of the cursor, one a line.
-_aegis_offered() {
-    local word=${COMP_WORDS[COMP_CWORD]} line
-    if [ "$COMP_CWORD" = 1 ]; then
-        _aegis_lines - | _aegis_names
-        printf '%s\n' --help --version
-        return
-    fi
-    line=$(_aegis_line_of "${COMP_WORDS[1]}")
-    case ${COMP_WORDS[COMP_CWORD - 1],,} in
-    -c | --c | -change | --change) _aegis_changes ;;
-    -f | --f | -file | --file) compgen -f -- "$word" ;;
+# The words behind a function, whose line is known.
+_aegis_words() {
+    local before=${COMP_WORDS[COMP_CWORD - 1],,} top=''
+    _aegis_find_top
+    # readline cuts words at `=`
+    if [ "$word" = = ]; then word=''; elif [ "$before" = = ]; then before=${COMP_WORDS[COMP_CWORD - 2],,}; fi
+    case $before in
+    -c | --c | -change | --change) _aegis_offer_all < <(_aegis_changes) ;;
+    -f | --f | -file | --file)
+        compopt -o filenames 2>/dev/null
+        mapfile -t COMPREPLY < <(compgen -f -- "$word")
+        ;;
     *)
         case $word in
-        -*) _aegis_options "$line" | _aegis_names ;;
-        *) _aegis_plain "$line" ;;
+        -*) _aegis_options ;;
+        *) _aegis_plain ;;
         esac
         ;;
     esac
 }
 
 _aegis() {
-    mapfile -t COMPREPLY < <(compgen -W "$(_aegis_offered)" -- "${COMP_WORDS[COMP_CWORD]}")
+    local word=${COMP_WORDS[COMP_CWORD]} line=''
+    COMPREPLY=()
+    _aegis_read
+    if [ "$COMP_CWORD" = 1 ]; then
+        _aegis_names "${_aegis_functions[@]}"
+        _aegis_offer --help
+        _aegis_offer --version
+        return
+    fi
+    case ${COMP_WORDS[1],,} in
+    --help) [ "$COMP_CWORD" != 2 ] || _aegis_names "${_aegis_functions[@]}" ;;
+    *)
+        _aegis_line_of "${COMP_WORDS[1]}"
+        [ -z "$line" ] || _aegis_words
+        ;;
+    esac
+}
+
+# The same behind a short name of profile.sh, as aenc.
+_aegis_short() {
+    local word=${COMP_WORDS[COMP_CWORD]} line=''
+    COMPREPLY=()
+    _aegis_read
+    _aegis_line_of "-${COMP_WORDS[0]#ae}"
+    [ -z "$line" ] || _aegis_words
 }
 
 complete -F _aegis aegis
+complete -F _aegis_short aena aera aend aerd aenrv aerrv aeni aeri aenpr aepa aenc aeca aencu aedb aedbu aeb aede aedeu aerb aerbu \
+    aerpass aerpu aerfail aeib aeibu aeipass aeifail aecp aecpu aenf aenfu aent aentu aerm aermu aet ael aescr aegen

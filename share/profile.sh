@@ -2,10 +2,117 @@
 #
 #     . /usr/local/share/aegis/profile.sh
 #
-# The names are made of the functions that `aegis --help` lists: `ae`, and the capitals of the function in lower case.
+# The names are made of the functions that `aegis --help` lists: `ae`, and the capitals of the function in lower case. They do a
+# little more than the program:
+#
+# - They find the project from a folder below it, and the change from its develop directory: in aegis.d/develop.10, `aeb` is
+#   `aegis -b -c 10` in the project's folder.
+# - There, paths are relative to where you stand. Elsewhere a path that begins with aegis.d/develop.N/ is taken without that.
+# - Where a build or a test fails, the end of its log is shown; where a fault came, what aewhy finds.
+# - A listing that has waited in vain for another command is made from a copy of the project's records.
+
+# The folder of the project around the current one: what is below aegis.d belongs to the project around that.
+_ae_top() {
+    case $PWD/ in
+    */aegis.d/*)
+        printf '%s\n' "${PWD%%/aegis.d*}"
+        return
+        ;;
+    esac
+    _ae_at=$PWD
+    while [ -n "$_ae_at" ] && [ ! -d "$_ae_at/aegis.d/store" ]; do _ae_at=${_ae_at%/*}; done
+    printf '%s\n' "${_ae_at:-$PWD}"
+}
+
+# A path, as one who stands at the place $2 of the develop directory means it.
+_ae_path() {
+    case $1 in
+    aegis.d/develop.[0-9]*/*)
+        _ae_rest=${1#aegis.d/develop.}
+        printf '%s\n' "${_ae_rest#*/}"
+        ;;
+    *) printf '%s\n' "${2:+$2/}${1#./}" ;;
+    esac
+}
+
+# A listing, from a copy of the records: that of a run that goes on holds the lock, and changes none of them.
+_ae_list() (
+    copy=$(mktemp -d) || exit 3
+    trap 'rm -rf "$copy"' EXIT
+    mkdir -p "$copy/aegis.d/store" || exit 3
+    for file in aegis.d/store/*; do
+        [ "$file" = aegis.d/store/pack ] || cp "$file" "$copy/aegis.d/store" || exit 3
+    done
+    cd "$copy" && aegis "$@"
+)
+
+# Runs a function, in the project that is around: its short name, its words in the help, and the words that are given.
+_ae() (
+    name=$1 wants=$2 here=$PWD change='' below='' is_given='' before=''
+    shift 2
+    case $name in npr | gen) aegis "-$name" "$@"; exit ;; esac
+    top=$(_ae_top)
+    case $here/ in
+    "$top"/aegis.d/develop.[0-9]*)
+        change=${here#"$top"/aegis.d/develop.}
+        below=${change#"${change%%/*}"}
+        below=${below#/}
+        change=${change%%/*}
+        case $change in *[!0-9]*) change='' ;; esac
+        ;;
+    esac
+    cd "$top" || exit 3
+    left=$#
+    while [ "$left" -gt 0 ]; do
+        word=$1
+        shift
+        left=$((left - 1))
+        case $before in
+        -[fF] | --[fF] | -[fF][iI][lL][eE] | --[fF][iI][lL][eE]) [ "$here" = "$top" ] || word=${here#"$top"/}/$word ;;
+        -[cCpP] | --[cCpP] | -[cC][hH]* | --[cC][hH]* | -[pP][rR]* | --[pP][rR]* | -[dD][eE][lL]* | --[dD][eE][lL]*) ;;
+        *)
+            case $word in
+            -[cC] | --[cC] | -[cC]=* | --[cC]=* | -[cC][hH]* | --[cC][hH]*) is_given=yes ;;
+            -*) ;;
+            *) case $wants in *PATH..*) word=$(_ae_path "$word" "$below") ;; esac ;;
+            esac
+            ;;
+        esac
+        before=$word
+        set -- "$@" "$word"
+    done
+    if [ -z "$is_given" ] && [ -n "$change" ]; then
+        case $wants in
+        *'[-Change N]'*) case ${1-} in [cC]*) set -- "$@" -c "$change" ;; esac ;;
+        *'-Change N'*) set -- "$@" -c "$change" ;;
+        esac
+    fi
+    begun=$(mktemp) || exit 3
+    trap 'rm -f "$begun"' EXIT
+    if [ "$name" = l ]; then
+        AEGIS_WAIT=${AEGIS_WAIT-1} aegis -l "$@" 2>"$begun"
+        status=$?
+        if [ "$status" = 3 ] && ! flock -n aegis.d/lock true 2>/dev/null && _ae_list -l "$@"; then exit 0; fi
+        cat "$begun" >&2
+    else
+        aegis "-$name" "$@"
+        status=$?
+    fi
+    case $name$status in
+    b1 | t1)
+        find aegis.d -maxdepth 2 -name aegis.log -newer "$begun" | head -n 1 | while read -r log; do
+            echo "== the end of $log:"
+            tail -n 20 "$log"
+        done >&2
+        ;;
+    *3 | *4) if command -v aewhy >/dev/null 2>&1; then aewhy >&2; fi ;;
+    esac
+    exit "$status"
+)
+
 if command -v aegis >/dev/null 2>&1; then
-    eval "$(aegis --help |
-        sed -n 's/^  -\([^ ]*\).*/\1/p' |
-        sed 's/[^A-Z]//g' | tr '[:upper:]' '[:lower:]' |
-        sed 's/.*/ae&() { aegis -& "$@"; }/')"
+    eval "$(aegis --help | sed -n 's/^  -\([^ ]*\)\(.*\)/\1 \2/p' | sed "s/   .*//; s/'//g" | while read -r name wants; do
+        name=$(printf '%s\n' "$name" | sed 's/[^A-Z]//g' | tr '[:upper:]' '[:lower:]')
+        printf "ae%s() { _ae %s '%s' \"\$@\"; }\n" "$name" "$name" "$wants"
+    done)"
 fi

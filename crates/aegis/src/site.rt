@@ -36,7 +36,7 @@ pub struct RealSite<'a, R> {
     trouble: Option<Trouble>,
 }
 
-fn folder_of(alloc: Global, dir: Dir) -> Result<String, AllocError> {
+fn folder_of(alloc: Global, dir: &Dir) -> Result<String, AllocError> {
     match dir {
         Dir::Here => String::from_str(alloc, "."),
         Dir::Develop(change) => {
@@ -110,10 +110,26 @@ impl<'a, R: Files<File = File> + Alloc + Clock + Clone + Drop + Processes> RealS
         self.trouble.as_ref()
     }
 
-    fn count(&mut self, call: &'static str, place: Option<String>, error: io::Error) -> Failed
+    // Where a call fails: at a directory, or at a file of it.
+    fn place_of_fault(&self, dir: &Dir, path: Option<&Path>) -> Option<String> {
+        let folder = folder_of(self.alloc, dir).ok()?;
+        match path {
+            Some(path) => place_in(self.alloc, folder.as_str(), path).ok(),
+            None => Some(folder),
+        }
+    }
+
+    fn count(
+        &mut self,
+        call: &'static str,
+        dir: &Dir,
+        path: Option<&Path>,
+        error: io::Error,
+    ) -> Failed
         ensures { Counted self.old.faults self.new.faults ⊤ }
     {
         self.faults = self.faults.saturating_add(1);
+        let place = self.place_of_fault(dir, path);
         self.trouble = Some(Trouble::new(call, place, error));
         Failed
     }
@@ -121,25 +137,20 @@ impl<'a, R: Files<File = File> + Alloc + Clock + Clone + Drop + Processes> RealS
     fn counted<T>(
         &mut self,
         call: &'static str,
-        place: Option<String>,
+        dir: &Dir,
+        path: Option<&Path>,
         outcome: io::Result<T>,
     ) -> Result<T, Failed>
         ensures { HasCause self.old.faults self.new.faults result }
     {
         match outcome {
             Ok(value) => Ok(value),
-            Err(e) => Err(self.count(call, place, e)),
+            Err(e) => Err(self.count(call, dir, path, e)),
         }
     }
 
-    // A file of a directory, as a fault is told.
-    fn place_of_file(&self, dir: Dir, path: &Path) -> Option<String> {
-        let folder = folder_of(self.alloc, dir).ok()?;
-        place_in(self.alloc, folder.as_str(), path).ok()
-    }
-
     // One byte more than the limit shows that there is more, and room for one more than there is shows the end of the file.
-    fn try_read(&self, alloc: Global, dir: Dir, path: &Path, limit: usize) -> io::Result<Content>
+    fn try_read(&self, alloc: Global, dir: &Dir, path: &Path, limit: usize) -> io::Result<Content>
         ensures limit { IfOk result (IsAtMost limit) }
     {
         let folder = folder_of(alloc, dir)?;
@@ -160,8 +171,8 @@ impl<'a, R: Files<File = File> + Alloc + Clock + Clone + Drop + Processes> RealS
 
     // A file that holds the bytes already stays untouched, with its time of change. Any other is taken away and made anew, so that
     // nothing is written through another name of it.
-    fn try_write(&self, dir: Dir, path: &Path, bytes: &[u8]) -> io::Result<()> {
-        if dir == Dir::Here && is_own(path) {
+    fn try_write(&self, dir: &Dir, path: &Path, bytes: &[u8]) -> io::Result<()> {
+        if *dir == Dir::Here && is_own(path) {
             return Err(refused());
         }
         let folder = folder_of(self.alloc, dir)?;
@@ -191,7 +202,7 @@ impl<'a, R: Files<File = File> + Alloc + Clock + Clone + Drop + Processes> RealS
     }
 
     // Takes a file of that size away. What it holds in a develop directory is somebody's work, which is kept once.
-    fn take_away(&self, dir: Dir, folder: &str, place: &str, size: u64) -> io::Result<()> {
+    fn take_away(&self, dir: &Dir, folder: &str, place: &str, size: u64) -> io::Result<()> {
         match dir {
             Dir::Develop(_) if size > 0 => keep_file(self.rt, self.alloc, folder, place),
             _ => fs::remove_file(self.rt, place),
@@ -215,8 +226,8 @@ impl<'a, R: Files<File = File> + Alloc + Clock + Clone + Drop + Processes> RealS
         file.write_all(bytes)
     }
 
-    fn try_remove(&self, dir: Dir, path: &Path) -> io::Result<()> {
-        let is_here = dir == Dir::Here;
+    fn try_remove(&self, dir: &Dir, path: &Path) -> io::Result<()> {
+        let is_here = *dir == Dir::Here;
         if is_here && is_own(path) {
             return Err(refused());
         }
@@ -234,7 +245,7 @@ impl<'a, R: Files<File = File> + Alloc + Clock + Clone + Drop + Processes> RealS
     }
 
     // Takes a directory away. What a develop directory holds is kept once.
-    fn empty(&self, dir: Dir, folder: &str) -> io::Result<()> {
+    fn empty(&self, dir: &Dir, folder: &str) -> io::Result<()> {
         let is_kept = matches!(dir, Dir::Develop(_))
             && !matches!(is_empty_folder(self.rt, folder), Ok(true));
         if is_kept {
@@ -243,8 +254,8 @@ impl<'a, R: Files<File = File> + Alloc + Clock + Clone + Drop + Processes> RealS
         put_away(self.rt, self.alloc, folder)
     }
 
-    fn try_clear(&self, dir: Dir) -> io::Result<()> {
-        if dir == Dir::Here {
+    fn try_clear(&self, dir: &Dir) -> io::Result<()> {
+        if *dir == Dir::Here {
             return Err(refused());
         }
         let folder = folder_of(self.alloc, dir)?;
@@ -257,7 +268,7 @@ impl<'a, R: Files<File = File> + Alloc + Clock + Clone + Drop + Processes> RealS
     }
 
     // The log is a help for who reads it: where a heading can't be written, the run is made all the same.
-    fn try_run(&self, dir: Dir, command: &str) -> io::Result<Exit> {
+    fn try_run(&self, dir: &Dir, command: &str) -> io::Result<Exit> {
         let folder = folder_of(self.alloc, dir)?;
         make_folders(self.rt, folder.as_str())?;
         let mut log = run_log::open_log(self.rt, self.alloc, folder.as_str())?;
@@ -289,38 +300,33 @@ impl<'a, R: Files<File = File> + Alloc + Clock + Clone + Drop + Processes> Site
         path: &Path,
         limit: usize,
     ) -> Result<Content, SiteError> {
-        match self.try_read(alloc, dir, path, limit) {
+        match self.try_read(alloc, &dir, path, limit) {
             Ok(content) => Ok(content),
             Err(e) if e.kind() == ErrorKind::OutOfMemory => Err(SiteError::Memory),
             Err(e) => {
-                let place = self.place_of_file(dir, path);
-                self.count("read", place, e);
+                self.count("read", &dir, Some(path), e);
                 Err(SiteError::Failed)
             }
         }
     }
 
     fn write(&mut self, dir: Dir, path: &Path, bytes: &[u8]) -> Result<(), Failed> {
-        let written = self.try_write(dir, path, bytes);
-        let place = self.place_of_file(dir, path);
-        self.counted("write", place, written)
+        let written = self.try_write(&dir, path, bytes);
+        self.counted("write", &dir, Some(path), written)
     }
 
     fn remove(&mut self, dir: Dir, path: &Path) -> Result<(), Failed> {
-        let removed = self.try_remove(dir, path);
-        let place = self.place_of_file(dir, path);
-        self.counted("remove", place, removed)
+        let removed = self.try_remove(&dir, path);
+        self.counted("remove", &dir, Some(path), removed)
     }
 
     fn clear(&mut self, dir: Dir) -> Result<(), Failed> {
-        let cleared = self.try_clear(dir);
-        let place = folder_of(self.alloc, dir).ok();
-        self.counted("clear", place, cleared)
+        let cleared = self.try_clear(&dir);
+        self.counted("clear", &dir, None, cleared)
     }
 
     fn run(&mut self, dir: Dir, command: &str) -> Result<Exit, Failed> {
-        let exit = self.try_run(dir, command);
-        let place = folder_of(self.alloc, dir).ok();
-        self.counted("run", place, exit)
+        let exit = self.try_run(&dir, command);
+        self.counted("run", &dir, None, exit)
     }
 }
