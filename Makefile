@@ -3,6 +3,7 @@
 #   make                       proves and builds the program; the first time takes tens of minutes
 #   make test                  the test of everything
 #   make install               to PREFIX, which is /usr/local where nothing else is said; DESTDIR stands before it
+#   make install-built         the same, of a program that was built before
 #   make uninstall             takes it away again
 
 PREFIX = /usr/local
@@ -10,6 +11,8 @@ DESTDIR =
 INSTALL = install
 
 PROGRAM = crates/aegis/out/aegis
+SCRIPTS = share/aeexport share/aediff share/aewhy
+PAGES = share/aegis.1 share/aeexport.1 share/aediff.1 share/aewhy.1
 
 bin = $(DESTDIR)$(PREFIX)/bin
 share = $(DESTDIR)$(PREFIX)/share
@@ -26,14 +29,17 @@ install: all install-built
 install-built:
 	$(INSTALL) -d $(bin) $(share)/man/man1 $(share)/man/man5 $(share)/bash-completion/completions $(share)/aegis
 	$(INSTALL) -m 755 $(PROGRAM) $(bin)/aegis
-	$(INSTALL) -m 644 share/aegis.1 $(share)/man/man1/aegis.1
+	$(INSTALL) -m 755 $(SCRIPTS) $(bin)
+	$(INSTALL) -m 644 $(PAGES) $(share)/man/man1
 	$(INSTALL) -m 644 share/aegis.5 $(share)/man/man5/aegis.5
 	$(INSTALL) -m 644 share/completion.bash $(share)/bash-completion/completions/aegis
 	$(INSTALL) -m 644 share/profile.sh $(share)/aegis/profile.sh
+	echo "commit $$(git rev-parse HEAD 2>/dev/null || echo unknown)" >$(share)/aegis/commit
+	chmod 644 $(share)/aegis/commit
 
 uninstall:
-	rm -f $(bin)/aegis $(share)/man/man1/aegis.1 $(share)/man/man5/aegis.5
-	rm -f $(share)/bash-completion/completions/aegis $(share)/aegis/profile.sh
+	rm -f $(bin)/aegis $(SCRIPTS:share/%=$(bin)/%) $(PAGES:share/%=$(share)/man/man1/%) $(share)/man/man5/aegis.5
+	rm -f $(share)/bash-completion/completions/aegis $(share)/aegis/profile.sh $(share)/aegis/commit
 	-rmdir $(share)/aegis
 
 .PHONY: all test install install-built uninstall

@@ -1,58 +1,78 @@
 // What the program says of itself.
 ghost use Rattle.std.specs.Prelude.{◌≡◌, ◌↔◌, IsSome, IsTrue, Some, codes, map, option_map, string_bytes};
 ghost use Rattle.ae_words.specs.Items.{behind_dash};
-ghost use Rattle.aegis.specs.Help.{Asks};
+ghost use Rattle.ae_words.specs.Spelling.{Matches};
+ghost use Rattle.ae_words.specs.Table.{function_pattern};
+ghost use Rattle.aegis.specs.Help.{Asks, AsksAbout, bare};
 
-use ae_words::matches_option;
+use crate::help_of::text_of;
+use ae_words::{Function, matches_option};
 
-const VERSION: &str = "aegis 0.1.0\n";
+const VERSION: &str = "aegis 0.1.0, format 1 of the store\n";
 
 pub(crate) const HELP: &str = "\
 usage: aegis -FUNCTION WORD..
+       aegis -Help [FUNCTION]
 
 A function, a listing and an option are spelled by their patterns: a capital must be typed; of a run of small letters a first
 part may be, or nothing; `_` may be `-` or nothing; case doesn't matter; a second `-` is ignored. So `-npr` is `--New-Project`.
-The functions:
 
-  -New_PRoject NAME [-File PATH]
-  -New_Administrator USER..
-  -Remove_Administrator USER..
-  -New_Developer USER..
-  -Remove_Developer USER..
-  -New_ReViewer USER..
-  -Remove_ReViewer USER..
-  -New_Integrator USER..
-  -Remove_Integrator USER..
-  -Project_Attributes -File PATH
-  -New_Change -File PATH
-  -Change_Attributes -Change N -File PATH
-  -New_Change_Undo -Change N
-  -Develop_Begin -Change N
-  -Develop_Begin_Undo -Change N
-  -Build -Change N
-  -Develop_End -Change N
-  -Develop_End_Undo -Change N
-  -Review_Begin -Change N
-  -Review_Begin_Undo -Change N
-  -Review_PASS -Change N
-  -Review_Pass_Undo -Change N
-  -Review_FAIL -Change N
-  -Integrate_Begin -Change N
-  -Integrate_Begin_Undo -Change N
-  -Integrate_PASS -Change N
-  -Integrate_FAIL -Change N
-  -CoPy_file -Change N PATH.. [-DELta N] [-OverWriting]
-  -CoPy_file_Undo -Change N PATH..
-  -New_File -Change N PATH..
-  -New_File_Undo -Change N PATH..
-  -New_Test -Change N PATH..
-  -New_Test_Undo -Change N PATH..
-  -ReMove_file -Change N PATH..
-  -ReMove_file_Undo -Change N PATH..
-  -Test -Change N [-BaseLine | -REGression]
-  -List LISTING [-Change N]
-  -SCRipt
-  -GENerate START CHANGES FILES
+A change goes this way: -nc, -db, then -cp or -nf for each file *before* it is edited, -nt, -b, -t, -t -bl, -t -reg, -de; somebody
+else gives -rpass, and a third one -ib, -b, -t, -t -bl, -t -reg, -ipass.
+
+The project and its people:
+
+  -New_PRoject NAME [-File PATH]   makes a project in the current folder
+  -New_Administrator USER..   gives users the role
+  -Remove_Administrator USER..   takes it from them
+  -New_Developer USER..   gives users the role
+  -Remove_Developer USER..   takes it from them
+  -New_ReViewer USER..   gives users the role
+  -Remove_ReViewer USER..   takes it from them
+  -New_Integrator USER..   gives users the role
+  -Remove_Integrator USER..   takes it from them
+  -Project_Attributes -File PATH   sets the project's attributes
+
+Changes, their builds and the end of a development:
+
+  -New_Change -File PATH   makes a change
+  -Change_Attributes -Change N -File PATH   sets its attributes
+  -New_Change_Undo -Change N   takes back a change that nobody has begun
+  -Develop_Begin -Change N   begins development, in aegis.d/develop.N
+  -Develop_Begin_Undo -Change N   gives the change back
+  -Build -Change N   runs the build command
+  -Develop_End -Change N   ends development: the files are frozen
+  -Develop_End_Undo -Change N   goes back to development
+
+Reviews and integrations:
+
+  -Review_Begin -Change N   begins a review, where the project asks for it
+  -Review_Begin_Undo -Change N   gives it back
+  -Review_PASS -Change N   passes the change
+  -Review_Pass_Undo -Change N   takes that back
+  -Review_FAIL -Change N   sends it back to its developer
+  -Integrate_Begin -Change N   begins integration, in aegis.d/integrate.D
+  -Integrate_Begin_Undo -Change N   gives it back
+  -Integrate_PASS -Change N   makes it the new baseline
+  -Integrate_FAIL -Change N   sends it back to its developer
+
+The files of a change, and tests:
+
+  -CoPy_file -Change N PATH.. [-DELta N] [-OverWriting]   takes files of the project, to be modified
+  -CoPy_file_Undo -Change N PATH..   takes them out again
+  -New_File -Change N PATH..   adds new files
+  -New_File_Undo -Change N PATH..   takes them out again, and removes them
+  -New_Test -Change N PATH..   adds new tests
+  -New_Test_Undo -Change N PATH..   takes them out again, and removes them
+  -ReMove_file -Change N PATH..   has the change remove files of the project
+  -ReMove_file_Undo -Change N PATH..   has it keep them
+  -Test -Change N [-BaseLine | -REGression]   runs the change's tests, these on the old baseline, or the other tests
+
+Listings, scripts and made-up projects:
+
+  -List LISTING [-Change N]   prints a listing
+  -SCRipt   does the lines of standard input
+  -GENerate START CHANGES FILES   makes a project with a long history, in an empty folder
 
 The listings:
 
@@ -80,12 +100,18 @@ An option's value is the next word, or stands after `=` in the same word. The op
     -BaseLine       the change's tests are run over the baseline
     -REGression     the project's other tests are run
 
-`-Help` and `-Version`, each alone, print this text and the version.
+A PATH is one in the directory of the change: parts of A-Za-z0-9._+- joined by `/`.
+
+`-Help` prints this text, `-Help FUNCTION` says more of one function, and `-Version` prints the version.
 
 The project is the one in the current folder, in `aegis.d`. The files of change 10 are in `aegis.d/develop.10` while it is
-developed, and `aegis.log` there has what its builds and tests write: `tail -f aegis.d/develop.10/aegis.log` follows it.
-The user is the variable AEGIS_USER, else LOGNAME, else nobody. `-SCRipt` does the lines of standard input: `do WORDS` is a
-command, and what is said goes to standard output. Of a command alone a listing goes there, and all else to standard error.
+developed, and `aegis.log` there has what its builds and tests write: `tail -f aegis.d/develop.10/aegis.log` follows it. What a
+command overwrites there is kept once, in `aegis.d/develop.10.old`.
+The user is the variable AEGIS_USER, else LOGNAME, else nobody: 1 to 32 of a-z0-9_.-, the first a letter or `_`. Where it isn't,
+`word 0 is not understood`. `-SCRipt` does the lines of standard input: `do WORDS` is a command, and what is said goes to standard
+output. Of a command alone a listing goes there, and all else to standard error.
+Another command is waited for as many seconds as AEGIS_WAIT says, 5 where it isn't set. With AEGIS_TRACE set the cause of a fault is
+said; `aewhy` looks for it.
 The exit status:
 
     0   it is done
@@ -103,6 +129,8 @@ The exit status:
 #[derive(Clone, Copy, Debug, PartialEq, Eq)]
 pub enum Question {
     Help,
+    /// What this function does.
+    HelpOf(Function),
     Version,
 }
 
@@ -130,11 +158,33 @@ fn asks(pattern: &[u8], words: &[String]) -> bool
     }
 }
 
+// The function that a word names, with a dash or without.
+fn function_of(word: &[u8]) -> Option<Function>
+    ensures { (function : _) → (result ≡ Some function) ↔ Matches (function_pattern function) (bare word.now) }
+{
+    Function::read(name_of(word).unwrap_or(word))
+}
+
+// The function that these words ask about: a word that spells `Help`, and its name.
+fn asked_about(words: &[String]) -> Option<Function>
+    ensures { (function : _) → (result ≡ Some function) ↔ AsksAbout function (map string_bytes words.now) }
+{
+    let [help, word] = words else {
+        return None;
+    };
+    let name = name_of(help.as_bytes())?;
+    if matches_option(b"Help", name) {
+        return function_of(word.as_bytes());
+    }
+    None
+}
+
 impl Question {
     /// What the words ask of the program itself, if they do.
     pub fn read(words: &[String]) -> Option<Question>
         ensures help { (result ≡ Some Question.Help) ↔ Asks (codes "Help") (map string_bytes words.now) }
         ensures version { result ≡ Some Question.Version → Asks (codes "Version") (map string_bytes words.now) }
+        ensures about { (function : _) → (result ≡ Some (Question.HelpOf function)) ↔ AsksAbout function (map string_bytes words.now) }
         ensures answered { Asks (codes "Version") (map string_bytes words.now) → IsSome result }
     {
         if asks(b"Help", words) {
@@ -143,13 +193,14 @@ impl Question {
         if asks(b"Version", words) {
             return Some(Question::Version);
         }
-        None
+        asked_about(words).map(Question::HelpOf)
     }
 
     /// What it prints.
     pub fn answer(self) -> &'static str {
         match self {
             Question::Help => HELP,
+            Question::HelpOf(function) => text_of(function),
             Question::Version => VERSION,
         }
     }

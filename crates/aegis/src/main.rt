@@ -4,6 +4,8 @@
 mod descriptors;
 mod disk;
 mod help;
+mod help_of;
+mod installed;
 mod kept;
 mod lock;
 mod modes;
@@ -19,6 +21,7 @@ use ae_session::aegis;
 use disk::RealDisk;
 use help::Question;
 use site::RealSite;
+use std::io;
 use std::io::{ErrorKind, IsTerminal, Write};
 use std::process::ExitCode;
 use streams::{Reading, Writing};
@@ -37,6 +40,19 @@ const NO_MEMORY: u8 = 8;
 fn starved(rt: &HostRuntime) -> ExitCode {
     rt.stderr().write_all(b"aegis: out of memory\n").ok();
     ExitCode::from(NO_MEMORY)
+}
+
+// Answers what the program is asked of itself.
+fn answer(rt: &HostRuntime, question: Question) -> io::Result<()> {
+    let mut out = rt.stdout();
+    out.write_all(question.answer().as_bytes())?;
+    if question != Question::Version {
+        return Ok(());
+    }
+    match installed::commit(rt) {
+        Ok(commit) => out.write_all(commit.as_bytes()),
+        Err(_) => Ok(()),
+    }
 }
 
 // Says of a device why its last call failed that did, where one did.
@@ -59,7 +75,7 @@ fn main(rt: HostRuntime) -> ExitCode {
         }
     };
     if let Some(question) = Question::read(words.as_slice()) {
-        return match rt.stdout().write_all(question.answer().as_bytes()) {
+        return match answer(&rt, question) {
             Ok(()) => ExitCode::SUCCESS,
             Err(_) => ExitCode::from(NOT_SAID),
         };
