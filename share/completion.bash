@@ -33,7 +33,8 @@ _aegis_names() {
 
 # Offers a name where what is written begins it, whatever its case is.
 _aegis_offer() {
-    case ${1,,} in "${word,,}"*) COMPREPLY+=("$1") ;; esac
+    local written=${word,,}
+    case ${1,,} in "$written"*) COMPREPLY+=("$1") ;; esac
 }
 
 _aegis_offer_all() {
@@ -46,9 +47,12 @@ _aegis_line_of() {
     local asked=${1,,} entry name short
     asked=${asked#-}
     asked=-${asked#-}
+    # `-` and `_` are one
+    asked=-${asked//[-_]/}
     for entry in "${_aegis_functions[@]}"; do
         name=${entry%% *}
         short=${name//[^A-Z-]/}
+        name=-${name//[-_]/}
         if [ "${name,,}" = "$asked" ] || [ "${short,,}" = "$asked" ]; then
             line=${entry%%   *}
             return
