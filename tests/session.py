@@ -161,9 +161,9 @@ class Session:
                 self.complain(f"{name}: {found!r}, and not {wanted!r}")
 
     def compare_directories(self, expected):
-        """The directories hold just these files, by their SHA-256."""
+        """The directories hold just these files, by their SHA-256. What is kept beside them isn't one."""
         files = read_tree(os.path.join(self.top, "aegis.d"), ("aegis.log",))
-        files = {path: text for path, text in files.items() if path != "lock" and not path.startswith("store/")}
+        files = {path: text for path, text in files.items() if path != "lock" and not path.startswith("store/") and ".old/" not in path}
         found = [f"{hashlib.sha256(text).hexdigest()}  {path}" for path, text in files.items()]
         if sorted(found) != sorted(expected.splitlines()):
             self.complain(f"the directories hold {found}, and not {expected.splitlines()}")

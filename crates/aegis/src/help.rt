@@ -1,9 +1,7 @@
 // What the program says of itself.
 ghost use Rattle.std.specs.Prelude.{◌≡◌, ◌↔◌, IsSome, IsTrue, Some, codes, map, option_map, string_bytes};
 ghost use Rattle.ae_words.specs.Items.{behind_dash};
-ghost use Rattle.ae_words.specs.Spelling.{Matches};
-ghost use Rattle.ae_words.specs.Table.{function_pattern};
-ghost use Rattle.aegis.specs.Help.{Asks, AsksAbout, bare};
+ghost use Rattle.aegis.specs.Help.{Asks, AsksAbout, Spells};
 
 use crate::help_of::text_of;
 use ae_words::{Function, matches_option};
@@ -160,9 +158,12 @@ fn asks(pattern: &[u8], words: &[String]) -> bool
 
 // The function that a word names, with a dash or without.
 fn function_of(word: &[u8]) -> Option<Function>
-    ensures { (function : _) → (result ≡ Some function) ↔ Matches (function_pattern function) (bare word.now) }
+    ensures { (function : _) → (result ≡ Some function) ↔ Spells function (behind_dash word.now) word.now }
 {
-    Function::read(name_of(word).unwrap_or(word))
+    match name_of(word) {
+        Some(name) => Function::read(name),
+        None => Function::read(word),
+    }
 }
 
 // The function that these words ask about: a word that spells `Help`, and its name.
@@ -172,11 +173,10 @@ fn asked_about(words: &[String]) -> Option<Function>
     let [help, word] = words else {
         return None;
     };
-    let name = name_of(help.as_bytes())?;
-    if matches_option(b"Help", name) {
-        return function_of(word.as_bytes());
+    match name_of(help.as_bytes()) {
+        Some(name) if matches_option(b"Help", name) => function_of(word.as_bytes()),
+        _ => None,
     }
-    None
 }
 
 impl Question {
@@ -193,7 +193,10 @@ impl Question {
         if asks(b"Version", words) {
             return Some(Question::Version);
         }
-        asked_about(words).map(Question::HelpOf)
+        match asked_about(words) {
+            Some(function) => Some(Question::HelpOf(function)),
+            None => None,
+        }
     }
 
     /// What it prints.
