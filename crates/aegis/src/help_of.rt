@@ -2,8 +2,7 @@
 use ae_words::Function;
 
 // A block for each function, with a `~` between two: how it is written, and what is asked of it and done by it.
-pub(crate) const FUNCTIONS: &str = "\
-  -New_PRoject NAME [-File PATH]
+pub(crate) const FUNCTIONS: &str = "  -New_PRoject NAME [-File PATH]
       Makes a project in the current folder, in aegis.d. You are its first administrator. The file may give its attributes.
 ~  -New_Administrator USER..
       Gives users the role of administrator. An administrator asks.
