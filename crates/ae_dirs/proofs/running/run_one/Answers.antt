@@ -1,4 +1,4 @@
-use Rattle.std.proofs.Common.{refl, sym, ap, ◌∙◌}
+use Rattle.std.proofs.Common.{sym, ap, ◌∙◌}
 use Rattle.ae_base.proofs.Results.{err_is}
 use Rattle.ae_outside.specs.Site.{SiteState}
 use Rattle.ae_dirs.specs.declared.error.DirsError.TheVariants.{SiteFault}
@@ -27,12 +27,6 @@ returns-clause-bytes g c = λ tells.
     made-same (g.S.Site.state c.args.site.now) (g.S.Site.state c.run.new.self) (g.S.Site.state c.read_again.new.site) made (c.read_again.ensures.same tells)
 
 -- ---- where none was made nothing is changed
-
-pub returns-in_err-path-clause-still : goal.returns-in_err-path-clause-still
-returns-in_err-path-clause-still g c = λ tells none same. refl
-
-pub returns-in_err-before-clause-still : goal.returns-in_err-before-clause-still
-returns-in_err-before-clause-still g c = λ tells none same. refl
 
 pub returns-in_err-exit-clause-still : goal.returns-in_err-exit-clause-still
 returns-in_err-exit-clause-still g c = λ tells none same. absurd (none (err_is _ SiteFault c.from_residual-in_err-exit.ensures.1))

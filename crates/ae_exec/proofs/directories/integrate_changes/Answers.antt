@@ -14,6 +14,9 @@ use Rattle.ae_exec.proofs.directories.integrate_changes.Goals as goal
 pub returns-in_err-one_change-clause-stopped : goal.returns-in_err-one_change-clause-stopped
 returns-in_err-one_change-clause-stopped g c = let is : c.from_residual-in_err-one_change.result ≡ Err stop.Memory = err_is _ _ c.from_residual-in_err-one_change.ensures.1 in rw is memory
 
+pub returns-clause-delta : goal.returns-clause-delta
+returns-clause-delta g c = one-of-delta c.args.command.now c.args.state.now (Fill (Integrate c.next_delta.result) c.in_ok-files.files) _ c.in_ok-one_change.ensures (ap Integrate c.next_delta.ensures)
+
 pub returns-clause-own : goal.returns-clause-own
 returns-clause-own g c =
     one-own c.args.command.now (Fill (Integrate c.next_delta.result) c.in_ok-files.files) _ c.in_ok-one_change.ensures (integrate-own c.args.command.now c.next_delta.result c.requires.begin)
@@ -50,6 +53,3 @@ returns-clause-same g c = c.candidate_files.ensures.same
 
 pub returns-clause-later : goal.returns-clause-later
 returns-clause-later g c = c.candidate_files.ensures.later
-
-pub returns-clause-delta : goal.returns-clause-delta
-returns-clause-delta g c = one-of-delta c.args.command.now c.args.state.now (Fill (Integrate c.next_delta.result) c.in_ok-files.files) _ c.in_ok-one_change.ensures (ap Integrate c.next_delta.ensures)
