@@ -1,5 +1,5 @@
 -- The lines that have no numbers in them.
-use Rattle.std.specs.Prelude.{◌≡◌, ◌≤◌, ◌==◌, ℕ, Bool, true, false, [], ◌∷◌, length, codes, Some, if◌then◌else◌}
+use Rattle.std.specs.Prelude.{◌≡◌, ◌≤◌, ◌==◌, ℕ, Bool, true, false, List, [], ◌∷◌, length, codes, Some, if◌then◌else◌}
 use Rattle.std.proofs.Common.{refl, arith}
 use Rattle.ae_generator.specs.Lines.{first_lines, config_lines}
 use Rattle.ae_lines.specs.declared.line.Line.TheVariants.{As, At, Put}
@@ -24,8 +24,9 @@ at_moment = record { content = codes "at 1000000000"; ended = refl; plain = refl
 new_project : IsMade (codes "do -npr gen\n")
 unfolding reads step blank word spells is_whole
 new_project =
-    do_made (codes "do -npr gen\n") (codes "-npr" ∷ codes "gen" ∷ []) (record (bare function.NewProject) { name = Some (codes "gen") }) refl refl (omega arith)
-    (answer_command function.NewProject (codes "-npr") (codes "gen" ∷ []) refl (record (bare function.NewProject) { name = Some (codes "gen") }) refl refl) refl (λ same. cc)
+    let behind : List (List ℕ) = codes "gen" ∷ [] in
+    let c : Command = record (bare function.NewProject) { name = Some (codes "gen") } in
+    do_made (codes "do -npr gen\n") (codes "-npr" ∷ behind) c refl refl (omega arith) (answer_command function.NewProject (codes "-npr") behind refl c refl refl) refl (λ same. cc)
 
 put_attributes : IsMade (codes "put here p.attr \"developer_may_review = true; developer_may_integrate = true; reviewer_may_integrate = true; default_test_exemption = true;\"\n")
 put_attributes = record {
@@ -41,26 +42,30 @@ put_attributes = record {
 attributes : IsMade (codes "do -pa -f p.attr\n")
 unfolding reads step blank word spells is_whole
 attributes =
-    do_made (codes "do -pa -f p.attr\n") (codes "-pa" ∷ codes "-f" ∷ codes "p.attr" ∷ []) (record (bare function.ProjectAttributes) { attributes = Some (codes "p.attr") }) refl refl (omega arith)
-    (answer_command function.ProjectAttributes (codes "-pa") (codes "-f" ∷ codes "p.attr" ∷ []) refl (record (bare function.ProjectAttributes) { attributes = Some (codes "p.attr") }) refl refl) refl (λ same. cc)
+    let behind : List (List ℕ) = codes "-f" ∷ codes "p.attr" ∷ [] in
+    let c : Command = record (bare function.ProjectAttributes) { attributes = Some (codes "p.attr") } in
+    do_made (codes "do -pa -f p.attr\n") (codes "-pa" ∷ behind) c refl refl (omega arith) (answer_command function.ProjectAttributes (codes "-pa") behind refl c refl refl) refl (λ same. cc)
 
 developer : IsMade (codes "do -nd gen\n")
 unfolding reads step blank word spells is_whole
 developer =
-    do_made (codes "do -nd gen\n") (codes "-nd" ∷ codes "gen" ∷ []) (record (bare function.NewDeveloper) { users = codes "gen" ∷ [] }) refl refl (omega arith)
-    (answer_command function.NewDeveloper (codes "-nd") (codes "gen" ∷ []) refl (record (bare function.NewDeveloper) { users = codes "gen" ∷ [] }) refl refl) refl (λ same. cc)
+    let behind : List (List ℕ) = codes "gen" ∷ [] in
+    let c : Command = record (bare function.NewDeveloper) { users = codes "gen" ∷ [] } in
+    do_made (codes "do -nd gen\n") (codes "-nd" ∷ behind) c refl refl (omega arith) (answer_command function.NewDeveloper (codes "-nd") behind refl c refl refl) refl (λ same. cc)
 
 reviewer : IsMade (codes "do -nrv gen\n")
 unfolding reads step blank word spells is_whole
 reviewer =
-    do_made (codes "do -nrv gen\n") (codes "-nrv" ∷ codes "gen" ∷ []) (record (bare function.NewReviewer) { users = codes "gen" ∷ [] }) refl refl (omega arith)
-    (answer_command function.NewReviewer (codes "-nrv") (codes "gen" ∷ []) refl (record (bare function.NewReviewer) { users = codes "gen" ∷ [] }) refl refl) refl (λ same. cc)
+    let behind : List (List ℕ) = codes "gen" ∷ [] in
+    let c : Command = record (bare function.NewReviewer) { users = codes "gen" ∷ [] } in
+    do_made (codes "do -nrv gen\n") (codes "-nrv" ∷ behind) c refl refl (omega arith) (answer_command function.NewReviewer (codes "-nrv") behind refl c refl refl) refl (λ same. cc)
 
 integrator : IsMade (codes "do -ni gen\n")
 unfolding reads step blank word spells is_whole
 integrator =
-    do_made (codes "do -ni gen\n") (codes "-ni" ∷ codes "gen" ∷ []) (record (bare function.NewIntegrator) { users = codes "gen" ∷ [] }) refl refl (omega arith)
-    (answer_command function.NewIntegrator (codes "-ni") (codes "gen" ∷ []) refl (record (bare function.NewIntegrator) { users = codes "gen" ∷ [] }) refl refl) refl (λ same. cc)
+    let behind : List (List ℕ) = codes "gen" ∷ [] in
+    let c : Command = record (bare function.NewIntegrator) { users = codes "gen" ∷ [] } in
+    do_made (codes "do -ni gen\n") (codes "-ni" ∷ behind) c refl refl (omega arith) (answer_command function.NewIntegrator (codes "-ni") behind refl c refl refl) refl (λ same. cc)
 
 put_change : IsMade (codes "put here c.attr \"regression_test_exempt = true;\"\n")
 put_change = record {
@@ -95,14 +100,16 @@ first_length = refl
 pub new_change : IsMade (codes "do -nc -f c.attr\n")
 unfolding reads step blank word spells is_whole
 new_change =
-    do_made (codes "do -nc -f c.attr\n") (codes "-nc" ∷ codes "-f" ∷ codes "c.attr" ∷ []) (record (bare function.NewChange) { attributes = Some (codes "c.attr") }) refl refl (omega arith)
-    (answer_command function.NewChange (codes "-nc") (codes "-f" ∷ codes "c.attr" ∷ []) refl (record (bare function.NewChange) { attributes = Some (codes "c.attr") }) refl refl) refl (λ same. cc)
+    let behind : List (List ℕ) = codes "-f" ∷ codes "c.attr" ∷ [] in
+    let c : Command = record (bare function.NewChange) { attributes = Some (codes "c.attr") } in
+    do_made (codes "do -nc -f c.attr\n") (codes "-nc" ∷ behind) c refl refl (omega arith) (answer_command function.NewChange (codes "-nc") behind refl c refl refl) refl (λ same. cc)
 
 new_config : IsMade (codes "do -nf -c 10 aegis.conf\n")
 unfolding reads step blank word spells is_whole
 new_config =
-    do_made (codes "do -nf -c 10 aegis.conf\n") (codes "-nf" ∷ codes "-c" ∷ codes "10" ∷ codes "aegis.conf" ∷ []) (on_paths function.NewFile 10 (codes "aegis.conf" ∷ [])) refl refl (omega arith)
-    (answer_command function.NewFile (codes "-nf") (codes "-c" ∷ codes "10" ∷ codes "aegis.conf" ∷ []) refl (on_paths function.NewFile 10 (codes "aegis.conf" ∷ [])) refl refl) refl (λ same. cc)
+    let behind : List (List ℕ) = codes "-c" ∷ codes "10" ∷ codes "aegis.conf" ∷ [] in
+    let c : Command = on_paths function.NewFile 10 (codes "aegis.conf" ∷ []) in
+    do_made (codes "do -nf -c 10 aegis.conf\n") (codes "-nf" ∷ behind) c refl refl (omega arith) (answer_command function.NewFile (codes "-nf") behind refl c refl refl) refl (λ same. cc)
 
 put_config : IsMade (codes "put develop.10 aegis.conf \"build_command = \\\"exit 0\\\";\"\n")
 put_config = record {
