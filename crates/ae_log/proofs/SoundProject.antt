@@ -4,7 +4,7 @@ use Rattle.std.specs.Prelude.{length, IsSomeAnd}
 use Rattle.std.specs.List.{IsDistinct}
 use Rattle.std.specs.Str.{bytes_eq}
 use Rattle.std.proofs.lemmas.Map.Made.{length-remove_key}
-use Rattle.ae_users.specs.Users.{AllDiffer, without}
+use Rattle.ae_types.specs.Users.{AllDiffer, without}
 use Rattle.ae_base.specs.declared.words.Role.{Role}
 use Rattle.ae_base.specs.declared.words.Role.TheVariants.{Administrator, Developer, Reviewer, Integrator}
 use Rattle.ae_types.specs.declared.project.Attributes.{Attributes}

@@ -4,7 +4,7 @@ use Rattle.std.specs.Option.{option_map}
 use Rattle.std.specs.Ordering.{nat_cmp}
 use Rattle.std.specs.Str.{bytes_eq}
 use Rattle.ae_base.specs.Rows.{Rows, text_cmp}
-use Rattle.ae_users.specs.Users.{without}
+use Rattle.ae_types.specs.Users.{without}
 use Rattle.ae_base.specs.declared.words.Action.{Action}
 use Rattle.ae_base.specs.declared.words.Usage.{Usage}
 use Rattle.ae_base.specs.declared.words.Phase.{Phase}

@@ -2,7 +2,7 @@
 use Rattle.std.specs.Prelude.{ℕ, zero, suc, ◌+◌, Bool, true, false, List, [], ◌∷◌, ◌++◌, Option, Some, None, if◌then◌else◌, is_some, unwrap_or, filter}
 use Rattle.std.specs.Option.{option_or, option_and_then}
 use Rattle.ae_base.specs.Limits.{most_changes}
-use Rattle.ae_users.specs.Users.{without}
+use Rattle.ae_types.specs.Users.{without}
 use Rattle.ae_base.specs.declared.words.Role.{Role}
 use Rattle.ae_base.specs.declared.words.Role.TheVariants.{Administrator, Developer, Reviewer, Integrator}
 use Rattle.ae_types.specs.declared.project.Attributes.{Attributes}

@@ -7,9 +7,8 @@ use crate::{Event, EventKind};
 use ae_base::{ProjectName, User};
 use ae_types::{
     Attributes, ChangeList, DeltaList, FileRows, LockList, NumberList, Parts, Project, State,
-    TryCopy,
+    TryCopy, UserSet,
 };
-use ae_users::UserSet;
 use std::alloc::{AllocError, Global};
 
 // The set of this user alone.

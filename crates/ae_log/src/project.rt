@@ -1,7 +1,7 @@
 // The record of the project after an event.
 ghost use Rattle.std.specs.Prelude.{◌≡◌, ◌≤◌, ◌<◌, length, OnOk};
 ghost use Rattle.ae_base.specs.Limits.{most_deltas, most_next_version};
-ghost use Rattle.ae_users.specs.Users.{AllDiffer};
+ghost use Rattle.ae_types.specs.Users.{AllDiffer};
 ghost use Rattle.ae_types.specs.Roles.{users_of};
 ghost use Rattle.ae_log.specs.After.{project_after};
 ghost use Rattle.ae_log.specs.Baseline.{deltas_after};

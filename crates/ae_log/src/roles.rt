@@ -1,6 +1,6 @@
 // The users of a role, with one more or one less.
 ghost use Rattle.std.specs.Prelude.{◌≡◌, ◌++◌, ◌∷◌, [], Contains, OnOk};
-ghost use Rattle.ae_users.specs.Users.{without};
+ghost use Rattle.ae_types.specs.Users.{without};
 ghost use Rattle.ae_types.specs.Roles.{users_of, with_users};
 
 use ae_base::{Role, User};

@@ -1,7 +1,7 @@
 -- The users that a command adds to a role or drops, each where those before him are done.
 use Rattle.std.proofs.Common.{◌≡◌, ℕ, refl, ◌∙◌, ap, List, [], ◌∷◌, ◌++◌, map, Option, Some, None}
 use Rattle.std.specs.Option.{option_or}
-use Rattle.ae_users.specs.Users.{without}
+use Rattle.ae_types.specs.Users.{without}
 use Rattle.ae_base.specs.declared.words.Role.{Role}
 use Rattle.ae_base.specs.declared.words.Role.TheVariants.{Administrator, Developer, Reviewer, Integrator}
 use Rattle.ae_types.specs.declared.project.Project.{Project}

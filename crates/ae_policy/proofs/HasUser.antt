@@ -2,7 +2,7 @@
 use Rattle.std.proofs.Common.{◌≡◌, ◌↔◌, ℕ, List, Bool, true, false, IsTrue, Contains, refl, sym, ◌∙◌}
 use Rattle.std.specs.Cmp.Lexicographic.{nat_list_eq_equiv}
 use Rattle.std.proofs.lemmas.Map.Views.{list_any-from_Contains, Contains-from_any}
-use Rattle.ae_users.proofs.UserLists.{same_bytes}
+use Rattle.ae_types.proofs.UserLists.{same_bytes}
 use Rattle.ae_types.specs.Roles.{has_user}
 
 pub has_user_is : (users : List (List ℕ)) (user : List ℕ) (found : Bool) → IsTrue found ↔ Contains users user → found ≡ has_user users user

@@ -1,6 +1,6 @@
 -- A project after a change of a role.
 use Rattle.std.specs.Prelude.{ℕ, List, [], ◌∷◌, ◌++◌}
-use Rattle.ae_users.specs.Users.{without}
+use Rattle.ae_types.specs.Users.{without}
 use Rattle.ae_base.specs.declared.words.Role.{Role}
 use Rattle.ae_types.specs.declared.project.Project.{Project}
 use Rattle.ae_types.specs.Roles.{users_of, with_users}

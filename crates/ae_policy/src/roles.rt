@@ -7,8 +7,7 @@ ghost use Rattle.ae_policy.specs.Answers.{IsAnswer};
 use crate::PolicyError;
 use ae_base::limits::MOST_ROLE_USERS;
 use ae_base::{Refusal, Role, User, Which};
-use ae_types::Project;
-use ae_users::UserSet;
+use ae_types::{Project, UserSet};
 use std::alloc::Global;
 
 // The users of the role.

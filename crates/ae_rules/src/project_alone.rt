@@ -5,8 +5,7 @@ ghost use Rattle.ae_types.specs.Rules.{is_moment, role_is_good, roles_are_good, 
 use crate::order::numbers_ascend;
 use ae_base::ChangeNo;
 use ae_base::limits::{LAST_MOMENT, MOST_NEXT_VERSION, MOST_ROLE_USERS};
-use ae_types::{DeltaRow, Project};
-use ae_users::UserSet;
+use ae_types::{DeltaRow, Project, UserSet};
 
 // The users differ, since they are a set.
 fn role_is_good(users: &UserSet) -> bool

@@ -4,7 +4,7 @@ use Rattle.std.specs.Ordering.{nat_cmp}
 use Rattle.ae_base.specs.Limits.{most_deltas}
 use Rattle.hex.specs.Hex.{IsBytes}
 use Rattle.ae_base.specs.Names.{IsPath, IsUser, IsProjectName}
-use Rattle.ae_users.specs.Users.{AllDiffer}
+use Rattle.ae_types.specs.Users.{AllDiffer}
 use Rattle.ae_types.specs.declared.project.DeltaRow.{DeltaRow}
 use Rattle.ae_types.specs.declared.project.Project.{Project}
 use Rattle.ae_types.specs.declared.version.VersionRef.{VersionRef}

@@ -18,7 +18,7 @@ use Rattle.ae_types.specs.declared.change.Evidence.{Evidence}
 use Rattle.ae_types.specs.declared.change.HistoryRow.{HistoryRow}
 use Rattle.std.specs.List.{IsDistinct}
 use Rattle.ae_base.specs.Names.{IsUser}
-use Rattle.ae_users.specs.Users.{AllDiffer}
+use Rattle.ae_types.specs.Users.{AllDiffer}
 use Rattle.ae_schema.specs.Fits.{AreUsers, IsDigest, FitsVersion, FitsDelta, FitsFileVersion, FitsFile, FitsLock, FitsChangeFile, FitsEvidence, FitsHistory}
 
 -- so many zeros

@@ -7,8 +7,7 @@ use crate::parts::list_in;
 use crate::value::Value;
 use ae_base::{User, UserList};
 use ae_text::{Field, Tree, TreeList};
-use ae_types::Rows;
-use ae_users::UserSet;
+use ae_types::{Rows, UserSet};
 use std::alloc::{AllocError, Global};
 
 // The rows that the trees spell, one each.

@@ -18,8 +18,7 @@ use crate::structure::{read_structure, structure_of};
 use crate::value::{Value, put_both, put_field};
 use ae_base::{ChangeNo, Delta, ProjectName, Text, User};
 use ae_text::{Field, Tree, print_tree};
-use ae_types::{Attributes, DeltaList, DeltaRow, EndAction, NumberList, Project};
-use ae_users::UserSet;
+use ae_types::{Attributes, DeltaList, DeltaRow, EndAction, NumberList, Project, UserSet};
 use std::alloc::{AllocError, Global};
 
 /// The format of the state files: 1.

@@ -6,7 +6,7 @@ use Rattle.std.specs.Str.{bytes_eq}
 use Rattle.std.proofs.lemmas.Bool.{leb-false, or_parts}
 use Rattle.std.proofs.lemmas.Cmp.{nat_list_eq_equiv}
 use Rattle.std.proofs.lemmas.Map.Made.{length-remove_key}
-use Rattle.ae_users.specs.Users.{AllDiffer, without}
+use Rattle.ae_types.specs.Users.{AllDiffer, without}
 use Rattle.ae_base.specs.declared.words.Role.{Role}
 use Rattle.ae_base.specs.declared.words.Which.TheVariants.{RoleUsers}
 use Rattle.ae_base.specs.declared.refusal.Refusal.TheVariants.{UserThere, UserNotThere, LastAdministrator, Limit}

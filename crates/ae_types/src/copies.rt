@@ -1,9 +1,8 @@
 // Copies of users, paths and what may be missing, and of values side by side.
 ghost use Rattle.std.specs.Prelude.{◌≡◌, IfOk};
 
-use crate::TryCopy;
+use crate::{TryCopy, UserSet};
 use ae_base::{Path, User};
-use ae_users::UserSet;
 use std::alloc::{AllocError, Global};
 
 impl TryCopy for User {

@@ -1,5 +1,5 @@
-use Rattle.ae_users.proofs.UsersDiffer.{not_before}
-use Rattle.ae_users.proofs.user_set.UserSet.from_users.Goals as goal
+use Rattle.ae_types.proofs.UsersDiffer.{not_before}
+use Rattle.ae_types.proofs.user_set.UserSet.from_users.Goals as goal
 
 pub returns-then-contains-clause-only : goal.returns-then-contains-clause-only
 returns-then-contains-clause-only c differ =

@@ -1,6 +1,6 @@
-use Rattle.ae_users.specs.Users.{AllDiffer}
-use Rattle.ae_users.proofs.UsersDiffer.{not_taken}
-use Rattle.ae_users.proofs.user_set.UserSet.copy.Goals as goal
+use Rattle.ae_types.specs.Users.{AllDiffer}
+use Rattle.ae_types.proofs.UsersDiffer.{not_taken}
+use Rattle.ae_types.proofs.user_set.UserSet.copy.Goals as goal
 
 pub insert-requires : goal.insert-requires
 insert-requires c =

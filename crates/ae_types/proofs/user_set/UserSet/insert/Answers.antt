@@ -1,6 +1,6 @@
 use Rattle.std.proofs.Common.{◌∙◌}
-use Rattle.ae_users.proofs.UserLists.{insert_key-absent}
-use Rattle.ae_users.proofs.user_set.UserSet.insert.Goals as goal
+use Rattle.ae_types.proofs.UserLists.{insert_key-absent}
+use Rattle.ae_types.proofs.user_set.UserSet.insert.Goals as goal
 
 pub returns-clause-ok : goal.returns-clause-ok
 returns-clause-ok c =

@@ -1,5 +1,5 @@
 use Rattle.std.proofs.Common.{◌≡◌, ◌++◌}
-use Rattle.ae_users.proofs.user_set.UserSet.from_users.Given as goal
+use Rattle.ae_types.proofs.user_set.UserSet.from_users.Given as goal
 
 abbrev pub invariant-loop-user : goal.invariant-loop-user
 invariant-loop-user l = record {

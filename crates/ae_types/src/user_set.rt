@@ -1,6 +1,6 @@
 // The users of a role.
 ghost use Rattle.std.specs.Prelude.{◌≡◌, ◌↔◌, ◌∷◌, ◌++◌, [], length, Some, IfOk, IfSome, OnOk, OnErr, IsTrue, Contains};
-ghost use Rattle.ae_users.specs.Users.{AllDiffer, without};
+ghost use Rattle.ae_types.specs.Users.{AllDiffer, without};
 
 use ae_base::{User, UserList};
 use indexmap::IndexSet;
@@ -15,7 +15,7 @@ pub struct UserSet {
 
 impl Model for UserSet {
     ghost use Rattle.std.specs.Prelude.{List, ℕ};
-    ghost use Rattle.ae_users.specs.Users.{AllDiffer};
+    ghost use Rattle.ae_types.specs.Users.{AllDiffer};
 
     ghost Value = { List (List ℕ) };
 

@@ -1,2 +1,0 @@
-pub mod UserLists
-pub mod UsersDiffer
