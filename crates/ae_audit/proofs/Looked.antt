@@ -15,7 +15,7 @@ use Rattle.ae_types.proofs.BinarySearch.{place-in}
 use Rattle.ae_types.proofs.Keys.{by_text}
 use Rattle.ae_types.proofs.Members.{In, in-some, some-in, in-flat}
 use Rattle.ae_types.proofs.Searched.{in-found}
-use Rattle.ae_files.proofs.Places.{filter_map-next}
+use Rattle.ae_types.proofs.Places.{filter_map-next}
 use Rattle.ae_audit.specs.declared.stop.Stop.{Stop}
 use Rattle.ae_audit.specs.declared.stop.Stop.TheVariants.{Lost, DiskFault, Memory}
 use Rattle.ae_audit.specs.Intact.{IsIntact, AreIntact, version_by, made_by}

@@ -16,8 +16,8 @@ use crate::stop::Stop;
 use crate::{CertificateRow, CertificateRows};
 use ae_base::Delta;
 use ae_evidence::digest_rows;
-use ae_files::{TreeRow, tree_at};
-use ae_types::{Change, DeltaRow, State};
+use ae_files::tree_at;
+use ae_types::{Change, DeltaRow, State, TreeRow};
 use std::alloc::{AllocError, Global};
 
 // How many runs the change needed over the tree before, where each has a row that counts for the tree of this digest, and the

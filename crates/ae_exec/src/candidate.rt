@@ -14,10 +14,10 @@ ghost use Rattle.ae_exec.specs.Reading.{AreKept, versions_of};
 use crate::running::files_of_rows;
 use crate::stop::Stop;
 use ae_base::ChangeNo;
-use ae_files::{TreeRows, candidate};
+use ae_files::candidate;
 use ae_machine::FileList;
 use ae_outside::Disk;
-use ae_types::{Change, State};
+use ae_types::{Change, State, TreeRows};
 use std::alloc::{AllocError, Global};
 
 // The files of the candidate of the change of this number.

@@ -29,10 +29,9 @@ use crate::stop::Stop;
 use crate::version::read_version;
 use ae_base::{Delta, Path, PathList, Text};
 use ae_dirs::change_dirs;
-use ae_files::entry_at;
 use ae_machine::{DirChange, DirChangeList, FileList, last_delta};
 use ae_outside::{Dir, Disk, Site};
-use ae_types::{Change, FileRow, FileVersion, State, VersionRef};
+use ae_types::{Change, FileRow, FileVersion, State, VersionRef, entry_at};
 use ae_words::{Command, Function};
 use std::alloc::{AllocError, Global};
 

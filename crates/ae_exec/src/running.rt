@@ -1,6 +1,6 @@
 // The runs of a build or a test: the directories are made ready for them, and they are made.
 ghost use Rattle.std.specs.Prelude.{◌≡◌, ◌≤◌, ◌++◌, ◌∷◌, [], ℕ, List, Some, All, map, true, Ok, IfOk, IfErr, IsErrOf, OnOk};
-ghost use Rattle.ae_base.specs.Rows.{paths_of};
+ghost use Rattle.ae_base.specs.Rows.{paths_of, Ascends};
 ghost use Rattle.ae_outside.specs.Causes.{Counted, HasRisen};
 ghost use Rattle.ae_outside.specs.Image.{IsSame};
 ghost use Rattle.ae_outside.specs.State.{reads, GoesOn};
@@ -13,7 +13,6 @@ ghost use Rattle.ae_dirs.specs.Reads.{tracked_in};
 ghost use Rattle.ae_dirs.specs.Runs.{MakesByteRuns};
 ghost use Rattle.ae_machine.specs.declared.jobs.Job.{Job};
 ghost use Rattle.ae_machine.specs.Directories.{dirs_after, ChangesThese};
-ghost use Rattle.ae_base.specs.Rows.{Ascends};
 ghost use Rattle.ae_machine.specs.Call.{given_of};
 ghost use Rattle.ae_machine.specs.Fits.{makes_runs};
 ghost use Rattle.ae_machine.specs.Jobs.{AnswersJobs, IsCommand};
@@ -30,13 +29,12 @@ use crate::stop::Stop;
 use crate::version::read_version;
 use ae_base::{Path, Snapshot, Text};
 use ae_dirs::{DirsError, change_dirs, run_group};
-use ae_files::TreeRow;
 use ae_machine::{
     DirChangeList, FileList, JobList, RunRowList, View, jobs_asked, rows_based, rows_refreshed,
     run_changes, tracked,
 };
 use ae_outside::{Dir, Disk, Site};
-use ae_types::State;
+use ae_types::{State, TreeRow};
 use ae_words::Command;
 use std::alloc::{AllocError, Global};
 

@@ -23,9 +23,9 @@ use crate::reading::{contents_refused, paths_read};
 use crate::refusing::change_of;
 use crate::runs::{delta_of_run, is_integrating, kind_of, last_delta};
 use ae_base::{ChangeNo, Kind, PathList, Refusal};
-use ae_files::{TreeRow, TreeRows, entry_at, tree_at};
+use ae_files::tree_at;
 use ae_outside::Dir;
-use ae_types::{Change, ChangeFile, FileRow, State, file_in, row_in};
+use ae_types::{Change, ChangeFile, FileRow, State, TreeRow, TreeRows, entry_at, file_in, row_in};
 use ae_words::{Command, Function};
 use std::alloc::{AllocError, Global};
 

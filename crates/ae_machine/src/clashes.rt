@@ -12,8 +12,7 @@ ghost use Rattle.ae_machine.specs.LeastClash.{file_folder, folder_in, least_fold
 ghost use Rattle.ae_machine.specs.Paths.{paths_with};
 
 use ae_base::{Action, Path, Refusal};
-use ae_files::entry_at;
-use ae_types::{ChangeFile, FileRow, State, file_in, row_in};
+use ae_types::{ChangeFile, FileRow, State, entry_at, file_in, row_in};
 use std::alloc::{AllocError, Global};
 
 // Whether the row's file is in the baseline.

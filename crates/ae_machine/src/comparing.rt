@@ -8,8 +8,7 @@ use crate::runs::is_integrating;
 use crate::seen::Seen;
 use crate::{FileList, View};
 use ae_base::{Path, Refusal, Text};
-use ae_files::TreeRows;
-use ae_types::State;
+use ae_types::{State, TreeRows};
 use ae_words::Command;
 use std::alloc::{AllocError, Global};
 

@@ -24,9 +24,8 @@ use crate::working::not_this_integrator;
 use ae_base::limits::{MOST_DELTAS, MOST_PROJECT_FILES, MOST_PROJECT_TESTS};
 use ae_base::{ChangeNo, Ground, Refusal, Role, Usage, User, Which};
 use ae_evidence::{digest_rows, missing};
-use ae_files::TreeRow;
 use ae_policy::{has_role, may_integrate};
-use ae_types::{Change, ChangeFile, Project, State};
+use ae_types::{Change, ChangeFile, Project, State, TreeRow};
 use ae_words::{Command, Function};
 use std::alloc::{AllocError, Global};
 

@@ -22,9 +22,9 @@ use crate::events::push_event;
 use crate::path_clash::clash_refused_behind;
 use ae_base::limits::MOST_CHANGE_FILES;
 use ae_base::{Action, ChangeNo, Delta, Path, PathList, Refusal, Usage, User, Which};
-use ae_files::{edit, entry_at};
+use ae_files::edit;
 use ae_log::{EventKind, EventList, put_file, take_file};
-use ae_types::{Change, ChangeFile, FileVersion, State, TryCopy, file_in};
+use ae_types::{Change, ChangeFile, FileVersion, State, TryCopy, entry_at, file_in};
 use ae_words::{Command, Function};
 use std::alloc::{AllocError, Global};
 

@@ -17,9 +17,9 @@ use crate::runs::is_integrating;
 use crate::seen::Seen;
 use ae_base::{Action, ChangeNo, Path, PathList, Refusal, Snapshot, Text, Which};
 use ae_evidence::{digest, digest_rows};
-use ae_files::{TreeRow, TreeRows, candidate};
+use ae_files::candidate;
 use ae_outside::Content;
-use ae_types::{Change, ChangeFile, State};
+use ae_types::{Change, ChangeFile, State, TreeRow, TreeRows};
 use std::alloc::{AllocError, Global};
 
 /// A copy of the text, where there is one.

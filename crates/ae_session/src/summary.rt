@@ -3,9 +3,9 @@ ghost use Rattle.std.specs.Prelude.{◌≡◌, ◌++◌, IfOk, OnOk, min};
 ghost use Rattle.ae_session.specs.Summary.{number_line, bytes_of, most_told, summary_text};
 
 use ae_evidence::{digest_rows, digest_text};
-use ae_files::{TreeRow, tree_at};
+use ae_files::tree_at;
 use ae_machine::last_delta;
-use ae_types::State;
+use ae_types::{State, TreeRow};
 use itoa::Buffer;
 use std::alloc::{AllocError, Global};
 

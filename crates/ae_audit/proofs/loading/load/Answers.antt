@@ -1,6 +1,6 @@
 use Rattle.std.proofs.Common.{◌≡◌, length, sym, ◌∙◌, arith}
 use Rattle.std.proofs.lemmas.Bool.Decides.{nat_tests}
-use Rattle.ae_files.proofs.Places.{no-items}
+use Rattle.ae_types.proofs.Places.{no-items}
 use Rattle.ae_audit.proofs.loading.load.Goals as goal
 
 pub returns-then-is_empty-clause-loaded : goal.returns-then-is_empty-clause-loaded

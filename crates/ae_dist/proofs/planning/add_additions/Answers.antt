@@ -1,7 +1,7 @@
 use Rattle.std.proofs.Common.{◌∙◌, ap, ◌++◌, []}
 use Rattle.std.specs.List.{cons_option}
 use Rattle.ae_dist.specs.Plan.{addition}
-use Rattle.ae_files.proofs.Places.{more-made}
+use Rattle.ae_types.proofs.Places.{more-made}
 use Rattle.ae_dist.proofs.planning.add_additions.Goals as goal
 
 pub loop-file-preserved : goal.loop-file-preserved
