@@ -11,8 +11,7 @@ use crate::integration::set_integrator;
 use crate::phases::{phase_after, word_of};
 use crate::runs::row_of_run;
 use crate::{Event, EventKind};
-use ae_evidence::note_run;
-use ae_types::{Change, HistoryRow, TryCopy};
+use ae_types::{Change, HistoryRow, TryCopy, note_run};
 use std::alloc::{AllocError, Global};
 
 // What an event makes of its change, but for its phase and history.
