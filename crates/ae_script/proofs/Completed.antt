@@ -15,16 +15,16 @@ use Rattle.ae_machine.specs.declared.verdict.Verdict.TheVariants.{Accept, Refuse
 use Rattle.ae_exec.specs.Said.{a_run_failed}
 use Rattle.ae_exec.specs.Step.{outcome_done, outcome_of_answer}
 use Rattle.ae_telling.specs.Telling.{SinkUse, goes_on}
-use Rattle.ae_acts.specs.Causes.{IsCaused}
-use Rattle.ae_acts.specs.Follows.{AreStepsOf, IsLogged}
-use Rattle.ae_acts.specs.Laws.{IsOfLine}
-use Rattle.ae_acts.specs.Lines.{Did, LinesEnd, Stand, by_end, by_line, last_stand, lines_said}
-use Rattle.ae_acts.specs.Steps.{Point, LineDone, CommandEnds, answered, EditEnds, edited, edit_fault, edit_memory, DoesLine, Runs, point}
-use Rattle.ae_acts.specs.Steps as step
-use Rattle.ae_acts.specs.Uses.{Disks, Sites, SourceUse, Streams, read_from, written_from}
-use Rattle.ae_acts.specs.declared.manner.Manner.{Manner}
-use Rattle.ae_acts.specs.declared.manner.Manner.TheVariants.{Script}
-use Rattle.ae_acts.proofs.Caused.{caused_by_last, caused_end}
+use Rattle.ae_script.specs.Causes.{IsCaused}
+use Rattle.ae_script.specs.Follows.{AreStepsOf, IsLogged}
+use Rattle.ae_script.specs.Laws.{IsOfLine}
+use Rattle.ae_script.specs.Lines.{Did, LinesEnd, Stand, by_end, by_line, last_stand, lines_said}
+use Rattle.ae_script.specs.Steps.{Point, LineDone, CommandEnds, answered, EditEnds, edited, edit_fault, edit_memory, DoesLine, Runs, point}
+use Rattle.ae_script.specs.Steps as step
+use Rattle.ae_script.specs.Uses.{Disks, Sites, SourceUse, Streams, read_from, written_from}
+use Rattle.ae_script.specs.declared.manner.Manner.{Manner}
+use Rattle.ae_script.specs.declared.manner.Manner.TheVariants.{Script}
+use Rattle.ae_script.proofs.Caused.{caused_by_last, caused_end}
 use Rattle.ae_lines.specs.Script.{IsGood, AreLines, IsScript, size}
 use Rattle.ae_script.specs.Ends.{HasReadTo, ScriptDone, ScriptEnds, ScriptsAreCaused, ScriptsEndWhole, read, bad_line, source, memory}
 

@@ -8,14 +8,14 @@ use Rattle.ae_lines.specs.declared.line.Line.{Line}
 use Rattle.ae_reader.specs.Reader.{IsNext, IsPart}
 use Rattle.ae_telling.specs.Messages.{bad_line_text, input_fault_text, memory_text, message}
 use Rattle.ae_telling.specs.Telling.{IsTold, IsToldOrMemory, sink_use}
-use Rattle.ae_acts.specs.Lines.{AreDone, Did, Does, LinesEnd, Stand, lines_said}
-use Rattle.ae_acts.specs.Manner.{leads_on}
-use Rattle.ae_acts.specs.Step.{IsStoppedBy}
-use Rattle.ae_acts.specs.Uses.{Disks, Sites, source_use}
-use Rattle.ae_acts.specs.declared.manner.Manner.{Manner}
-use Rattle.ae_acts.proofs.Lines as lines
-use Rattle.ae_acts.proofs.Lines.{ends_after, ends_by, ends_silent, leads_more, length_more, more_so_far, none_so_far, runs_more}
-use Rattle.ae_acts.proofs.Logged.{follows}
+use Rattle.ae_script.specs.Lines.{AreDone, Did, Does, LinesEnd, Stand, lines_said}
+use Rattle.ae_script.specs.Manner.{leads_on}
+use Rattle.ae_script.specs.Step.{IsStoppedBy}
+use Rattle.ae_script.specs.Uses.{Disks, Sites, source_use}
+use Rattle.ae_script.specs.declared.manner.Manner.{Manner}
+use Rattle.ae_script.proofs.Lines as lines
+use Rattle.ae_script.proofs.Lines.{ends_after, ends_by, ends_silent, leads_more, length_more, more_so_far, none_so_far, runs_more}
+use Rattle.ae_script.proofs.Logged.{follows}
 use Rattle.ae_script.specs.Ends.{HasBadNext, HasReadTo, ScriptDone, ScriptEnds, bad_line, memory, read, source}
 use Rattle.ae_script.proofs.Reading.{read_more, read_none}
 

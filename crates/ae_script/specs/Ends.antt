@@ -11,13 +11,13 @@ use Rattle.ae_log.specs.Log.{Log}
 use Rattle.ae_exec.specs.Holding.{HoldsLegal}
 use Rattle.ae_telling.specs.Messages.{bad_line_text, input_fault_text, memory_text}
 use Rattle.ae_telling.specs.Telling.{SinkUse}
-use Rattle.ae_acts.specs.Causes.{IsCaused}
-use Rattle.ae_acts.specs.Follows.{FollowLogs}
-use Rattle.ae_acts.specs.Laws.{AreToldFirst, IsFaultOfLast, IsOfLine}
-use Rattle.ae_acts.specs.Lines.{AreDone, Did, LinesEnd, Stand, last_stand, lines_said}
-use Rattle.ae_acts.specs.Uses.{Disks, Sites, SourceUse, Streams, read_from, written_from}
-use Rattle.ae_acts.specs.declared.manner.Manner.{Manner}
-use Rattle.ae_acts.specs.declared.manner.Manner.TheVariants.{Script}
+use Rattle.ae_script.specs.Causes.{IsCaused}
+use Rattle.ae_script.specs.Follows.{FollowLogs}
+use Rattle.ae_script.specs.Laws.{AreToldFirst, IsFaultOfLast, IsOfLine}
+use Rattle.ae_script.specs.Lines.{AreDone, Did, LinesEnd, Stand, last_stand, lines_said}
+use Rattle.ae_script.specs.Uses.{Disks, Sites, SourceUse, Streams, read_from, written_from}
+use Rattle.ae_script.specs.declared.manner.Manner.{Manner}
+use Rattle.ae_script.specs.declared.manner.Manner.TheVariants.{Script}
 
 -- ---- the lines that are read
 

@@ -2,13 +2,14 @@
 ghost use Rattle.std.specs.Prelude.{◌≡◌, ◌≤◌, true, false};
 ghost use Rattle.ae_base.specs.declared.outcome.Outcome.TheVariants.{BadWords};
 ghost use Rattle.ae_telling.specs.Telling.{IsToldOrMemory};
-ghost use Rattle.ae_acts.specs.Lines.{stand};
-ghost use Rattle.ae_acts.specs.Step.{may_give};
-ghost use Rattle.ae_acts.specs.Uses.{disks, read_from, sites, streams, written_from};
-ghost use Rattle.ae_acts.specs.declared.manner.Manner.TheVariants.{Script};
+ghost use Rattle.ae_script.specs.Lines.{stand};
+ghost use Rattle.ae_script.specs.Step.{may_give};
+ghost use Rattle.ae_script.specs.Uses.{disks, read_from, sites, streams, written_from};
+ghost use Rattle.ae_script.specs.declared.manner.Manner.TheVariants.{Script};
 ghost use Rattle.ae_script.specs.Ends.{ScriptDone};
 
-use ae_acts::{Manner, Standing, do_line, tell_line};
+use crate::doing::{Standing, do_line, tell_line};
+use crate::manner::Manner;
 use ae_base::limits::LAST_MOMENT;
 use ae_base::{Outcome, User};
 use ae_lines::read_line;

@@ -11,7 +11,7 @@ use Rattle.ae_words.specs.Table.{is_to_come}
 use Rattle.ae_words.proofs.FirstBad.{one_command, never_both}
 use Rattle.ae_words.proofs.OneAnswer.{one_place}
 use Rattle.ae_machine.specs.Legal.{is_one_command}
-use Rattle.ae_acts.specs.Step.{may_give}
+use Rattle.ae_script.specs.Step.{may_give}
 use Rattle.ae_session.specs.declared.request.Request.{Request}
 use Rattle.ae_session.specs.declared.request.RequestError.{RequestError}
 use Rattle.ae_session.specs.declared.request.RequestError.TheVariants as error

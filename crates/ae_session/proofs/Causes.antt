@@ -13,14 +13,14 @@ use Rattle.ae_machine.specs.Called.{called}
 use Rattle.ae_exec.specs.Performs.{Completes}
 use Rattle.ae_exec.specs.Said.{is_listing}
 use Rattle.ae_exec.proofs.Completing.{completes}
-use Rattle.ae_acts.specs.Causes.{IsCaused}
-use Rattle.ae_acts.specs.Lines.{Did, DoesLine, Stand}
-use Rattle.ae_acts.specs.Step.{KeepsDisk}
-use Rattle.ae_acts.specs.Uses.{Disks, Sites, SourceUse, Streams, read_from, written_from}
-use Rattle.ae_acts.specs.declared.manner.Manner.{Manner}
-use Rattle.ae_acts.specs.declared.manner.Manner.TheVariants.{Plan, Generator}
-use Rattle.ae_acts.proofs.Caused.{caused_did, caused_on, caused_told, disk_later}
-use Rattle.ae_acts.proofs.Keeping.{does_keep, keeps_by, keeps_still, keeps_then, lines_keep}
+use Rattle.ae_script.specs.Causes.{IsCaused}
+use Rattle.ae_script.specs.Lines.{Did, DoesLine, Stand}
+use Rattle.ae_script.specs.Step.{KeepsDisk}
+use Rattle.ae_script.specs.Uses.{Disks, Sites, SourceUse, Streams, read_from, written_from}
+use Rattle.ae_script.specs.declared.manner.Manner.{Manner}
+use Rattle.ae_script.specs.declared.manner.Manner.TheVariants.{Plan, Generator}
+use Rattle.ae_script.proofs.Caused.{caused_did, caused_on, caused_told, disk_later}
+use Rattle.ae_script.proofs.Keeping.{does_keep, keeps_by, keeps_still, keeps_then, lines_keep}
 use Rattle.ae_script.proofs.Completed as script
 use Rattle.ae_session.specs.Called.{Asked, CallDone, CallsAreCaused, CallsKeepDisks, CommandCalled, CommandsEndWhole, IsAsked, OnlyTold, ProjectDone, command, lines_made, project, stops, tells, unmade, wanting}
 use Rattle.ae_session.specs.Called as asking

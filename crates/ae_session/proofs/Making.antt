@@ -10,12 +10,12 @@ use Rattle.ae_exec.specs.Stands.{StandsForLog}
 use Rattle.ae_exec.specs.Stops.{Leaves}
 use Rattle.ae_exec.proofs.Leaving.{leaves_then}
 use Rattle.ae_exec.proofs.Standing.{by_files, alike}
-use Rattle.ae_acts.specs.Along.{KeptAlong, held_along}
-use Rattle.ae_acts.specs.Refined.{HoldsAfter, RefinedAlong, unsynced, synced}
-use Rattle.ae_acts.specs.Steps.{LineDone, AllLeadOn, reached}
-use Rattle.ae_acts.specs.declared.manner.Manner.TheVariants.{Generator}
-use Rattle.ae_acts.proofs.Along.{along_joins, held_last, last_log}
-use Rattle.ae_acts.proofs.Following.{none_fails, stands_for}
+use Rattle.ae_script.specs.Along.{KeptAlong, held_along}
+use Rattle.ae_script.specs.Refined.{HoldsAfter, RefinedAlong, unsynced, synced}
+use Rattle.ae_script.specs.Steps.{LineDone, AllLeadOn, reached}
+use Rattle.ae_script.specs.declared.manner.Manner.TheVariants.{Generator}
+use Rattle.ae_script.proofs.Along.{along_joins, held_last, last_log}
+use Rattle.ae_script.proofs.Following.{none_fails, stands_for}
 
 module _ (base mid disk : DiskState) (held : List Log) (log : Log) (done : List LineDone) (leaves : LeavesDisk mid disk (Unit {0})) where
   pub loaded_along : AllLeadOn Generator done → RefinedAlong base mid held log done → RefinedAlong base disk held log done

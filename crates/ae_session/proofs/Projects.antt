@@ -16,21 +16,21 @@ use Rattle.ae_types.specs.Observation.{Observation}
 use Rattle.ae_exec.specs.Holding.{HoldsLegal}
 use Rattle.ae_telling.specs.Messages.{message}
 use Rattle.ae_telling.specs.Telling.{IsTold, SinkUse, sink_use, unless_told}
-use Rattle.ae_acts.specs.Causes.{IsCaused}
-use Rattle.ae_acts.specs.Follows.{AreStepsOf, FollowLogs, IsLogged}
-use Rattle.ae_acts.specs.Lines.{AllLead, AreDone, Did, LinesEnd, Stand, by_end, by_line, last_stand, lines_said, transcript}
-use Rattle.ae_acts.specs.Manner.{is_done, leads_on}
+use Rattle.ae_script.specs.Causes.{IsCaused}
+use Rattle.ae_script.specs.Follows.{AreStepsOf, FollowLogs, IsLogged}
+use Rattle.ae_script.specs.Lines.{AllLead, AreDone, Did, LinesEnd, Stand, by_end, by_line, last_stand, lines_said, transcript}
+use Rattle.ae_script.specs.Manner.{is_done, leads_on}
 use Rattle.ae_outside.specs.Site.{SiteState}
 use Rattle.ae_lines.specs.declared.line.Line.{Line}
-use Rattle.ae_acts.specs.Steps.{AllLeadOn, LineDone, Point, point, stop}
-use Rattle.ae_acts.specs.Uses.{Disks, Sites, Streams, written_from}
-use Rattle.ae_acts.specs.declared.manner.Manner.TheVariants.{Generator}
-use Rattle.ae_acts.proofs.Caused.{caused_on, disk_later, site_later}
-use Rattle.ae_acts.proofs.Lines.{stopped_then, told_then}
-use Rattle.ae_acts.specs.Step.{IsStoppedBy}
-use Rattle.ae_acts.specs.declared.manner.Manner.{Manner}
-use Rattle.ae_acts.proofs.Logged.{follows_all}
-use Rattle.ae_acts.proofs.Telling.{done_is, meant_done}
+use Rattle.ae_script.specs.Steps.{AllLeadOn, LineDone, Point, point, stop}
+use Rattle.ae_script.specs.Uses.{Disks, Sites, Streams, written_from}
+use Rattle.ae_script.specs.declared.manner.Manner.TheVariants.{Generator}
+use Rattle.ae_script.proofs.Caused.{caused_on, disk_later, site_later}
+use Rattle.ae_script.proofs.Lines.{stopped_then, told_then}
+use Rattle.ae_script.specs.Step.{IsStoppedBy}
+use Rattle.ae_script.specs.declared.manner.Manner.{Manner}
+use Rattle.ae_script.proofs.Logged.{follows_all}
+use Rattle.ae_script.proofs.Telling.{done_is, meant_done}
 use Rattle.ae_script.specs.Ends.{HasReadTo, ScriptDone, ScriptEnds, read, bad_line, source, memory}
 use Rattle.ae_session.specs.Called.{ProjectDone, ProjectsCountRuns, lines_made, stops, stored, tells, unmade}
 use Rattle.ae_session.specs.Calls.{TakesNothing}

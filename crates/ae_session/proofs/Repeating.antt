@@ -14,14 +14,14 @@ use Rattle.ae_machine.proofs.LegalRightly.{legal-provided}
 use Rattle.ae_exec.specs.Holding.{HoldsLegal}
 use Rattle.ae_exec.specs.Stands.{StandsForLog}
 use Rattle.ae_exec.proofs.Shown.{in-list}
-use Rattle.ae_acts.specs.Along.{KeptAlong, held_along, is_fault}
-use Rattle.ae_acts.specs.Refined.{NoneSynced, RefinedAlong, synced, unsynced}
-use Rattle.ae_acts.specs.Steps.{Point, point, LineDone, DoesLine, Runs, stop, reached, reached_by}
-use Rattle.ae_acts.specs.declared.manner.Manner.{Manner}
-use Rattle.ae_acts.proofs.Along.{last_log}
-use Rattle.ae_acts.proofs.Runs.{log_after}
-use Rattle.ae_acts.specs.Follows.{IsLogged}
-use Rattle.ae_acts.specs.Uses.{Disks, Sites, Streams}
+use Rattle.ae_script.specs.Along.{KeptAlong, held_along, is_fault}
+use Rattle.ae_script.specs.Refined.{NoneSynced, RefinedAlong, synced, unsynced}
+use Rattle.ae_script.specs.Steps.{Point, point, LineDone, DoesLine, Runs, stop, reached, reached_by}
+use Rattle.ae_script.specs.declared.manner.Manner.{Manner}
+use Rattle.ae_script.proofs.Along.{last_log}
+use Rattle.ae_script.proofs.Runs.{log_after}
+use Rattle.ae_script.specs.Follows.{IsLogged}
+use Rattle.ae_script.specs.Uses.{Disks, Sites, Streams}
 use Rattle.ae_session.specs.Stopped.{AreStopped, Attempt, Does, HoldsReached, IsFound, IsLeftBy, IsStopped, StopsRepeat, last, more}
 use Rattle.ae_session.specs.Stopped as stopping
 

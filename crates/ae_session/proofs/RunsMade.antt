@@ -25,10 +25,10 @@ use Rattle.ae_machine.specs.Fits.{makes_runs, runs_asked, tracked_in}
 use Rattle.ae_machine.specs.Real.{AreMade, IsLeft, command_for, dir_of_runs}
 use Rattle.ae_machine.specs.Verdict.{is_new_project}
 use Rattle.ae_exec.specs.Step.{outcome_of_answer}
-use Rattle.ae_acts.specs.Manner.{is_done}
-use Rattle.ae_acts.specs.Steps.{Point, LineDone, CommandEnds, answered, disk_fault, site_fault, memory, EditEnds, edited, edit_fault, edit_memory, DoesCommand, DoesLine, Runs, AllLeadOn, stop, called_from}
-use Rattle.ae_acts.specs.declared.manner.Manner.TheVariants.{Generator}
-use Rattle.ae_acts.proofs.Telling.{done_is}
+use Rattle.ae_script.specs.Manner.{is_done}
+use Rattle.ae_script.specs.Steps.{Point, LineDone, CommandEnds, answered, disk_fault, site_fault, memory, EditEnds, edited, edit_fault, edit_memory, DoesCommand, DoesLine, Runs, AllLeadOn, stop, called_from}
+use Rattle.ae_script.specs.declared.manner.Manner.TheVariants.{Generator}
+use Rattle.ae_script.proofs.Telling.{done_is}
 use Rattle.ae_session.specs.Summary.{MakesRuns, builds_by, builds_in, is_test, tests_by}
 
 -- ---- functions

@@ -17,14 +17,14 @@ use Rattle.ae_exec.specs.Stands.{StandsForLog}
 use Rattle.ae_telling.specs.Messages.{memory_text}
 use Rattle.ae_telling.specs.Telling.{SinkUse, IsTold, sink_use}
 use Rattle.ae_generator.specs.Lines.{generated_text}
-use Rattle.ae_acts.specs.Follows.{FollowLogs}
-use Rattle.ae_acts.specs.Causes.{IsCaused}
-use Rattle.ae_acts.specs.Lines.{AllLead, AreDone, Did, Does, Stand, last_stand, lines_said, stand}
-use Rattle.ae_acts.specs.Manner.{is_done}
-use Rattle.ae_acts.specs.Step.{KeepsDisk}
-use Rattle.ae_acts.specs.Uses.{Disks, Sites, SourceUse, Streams, read_from, source_use, written_from}
-use Rattle.ae_acts.specs.declared.manner.Manner.{Manner}
-use Rattle.ae_acts.specs.declared.manner.Manner.TheVariants.{Plan, Script, Generator}
+use Rattle.ae_script.specs.Follows.{FollowLogs}
+use Rattle.ae_script.specs.Causes.{IsCaused}
+use Rattle.ae_script.specs.Lines.{AllLead, AreDone, Did, Does, Stand, last_stand, lines_said, stand}
+use Rattle.ae_script.specs.Manner.{is_done}
+use Rattle.ae_script.specs.Step.{KeepsDisk}
+use Rattle.ae_script.specs.Uses.{Disks, Sites, SourceUse, Streams, read_from, source_use, written_from}
+use Rattle.ae_script.specs.declared.manner.Manner.{Manner}
+use Rattle.ae_script.specs.declared.manner.Manner.TheVariants.{Plan, Script, Generator}
 use Rattle.ae_script.specs.Ends.{ScriptDone}
 use Rattle.ae_session.specs.Calls.{told_to, silent, TakesNothing}
 use Rattle.ae_session.specs.Request.{AsksFor, AsksForScript, AsksForGenerate, BadAt}

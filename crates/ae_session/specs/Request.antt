@@ -9,7 +9,7 @@ use Rattle.ae_words.specs.declared.table.Function.{Function}
 use Rattle.ae_words.specs.declared.table.Function.TheVariants as functions
 use Rattle.ae_machine.specs.Legal.{is_one_command}
 use Rattle.ae_exec.specs.Said.{lists}
-use Rattle.ae_acts.specs.Step.{may_give}
+use Rattle.ae_script.specs.Step.{may_give}
 
 -- the call asks for this command alone
 pub record AsksFor (words : List (List ℕ)) (who : List ℕ) (now : ℕ) (command : Command) : Type 0 where

@@ -1,5 +1,5 @@
 // What is so of all calls.
-ghost use Rattle.ae_acts.specs.Uses.{disks, sites, streams};
+ghost use Rattle.ae_script.specs.Uses.{disks, sites, streams};
 ghost use Rattle.ae_session.specs.Called.{CallsAreCaused, CallsKeepDisks, CommandsEndWhole, ProjectsCountRuns};
 
 use ae_outside::{Disk, Sink, Site, Source};

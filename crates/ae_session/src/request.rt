@@ -4,7 +4,7 @@ ghost use Rattle.ae_base.specs.Limits.{last_moment};
 ghost use Rattle.ae_words.specs.Formed.{IsFormed};
 ghost use Rattle.ae_words.specs.Grammar.{IsCommand};
 ghost use Rattle.ae_words.specs.Table.{is_to_come};
-ghost use Rattle.ae_acts.specs.Step.{may_give};
+ghost use Rattle.ae_script.specs.Step.{may_give};
 ghost use Rattle.ae_session.specs.Request.{BadAt, NeverBoth, OnePlace, names_one_to_come};
 ghost use Rattle.ae_session.specs.declared.request.RequestError.TheVariants.{Memory};
 

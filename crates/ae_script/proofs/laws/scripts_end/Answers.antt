@@ -1,4 +1,4 @@
-use Rattle.ae_acts.proofs.Ends.{fault_of_last, told_first}
+use Rattle.ae_script.proofs.Ends.{fault_of_last, told_first}
 use Rattle.ae_script.proofs.Completed.{caused, never_of_line, whole}
 use Rattle.ae_script.proofs.laws.scripts_end.Goals as goal
 

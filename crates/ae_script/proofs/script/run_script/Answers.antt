@@ -1,7 +1,7 @@
 use Rattle.std.proofs.Common.{arith, refl}
-use Rattle.ae_acts.specs.Lines.{stand}
-use Rattle.ae_acts.specs.Uses.{Disks, Sites, disks, sites}
-use Rattle.ae_acts.specs.declared.manner.Manner.TheVariants.{Script}
+use Rattle.ae_script.specs.Lines.{stand}
+use Rattle.ae_script.specs.Uses.{Disks, Sites, disks, sites}
+use Rattle.ae_script.specs.declared.manner.Manner.TheVariants.{Script}
 use Rattle.ae_script.proofs.Ended.{memory_behind, none_yet}
 use Rattle.ae_script.proofs.Givers.{done_by, never_nobody, nobody_reads, too_late, user_is}
 use Rattle.ae_script.proofs.script.run_script.Goals as goal

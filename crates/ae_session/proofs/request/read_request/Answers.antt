@@ -2,7 +2,7 @@ use Rattle.std.proofs.Common.{◌≡◌, ◌∙◌, true, ap, arith, refl, sym, 
 use Rattle.ae_script.proofs.Givers.{may_is}
 use Rattle.ae_base.specs.Bytes.{read_as}
 use Rattle.ae_base.specs.Names.{is_user}
-use Rattle.ae_acts.specs.Step.{may_give}
+use Rattle.ae_script.specs.Step.{may_give}
 use Rattle.ae_session.specs.Request.{bad_word, to_come}
 use Rattle.ae_session.proofs.Asking.{same_place, bad_answer, there_if}
 use Rattle.ae_session.proofs.request.read_request.Goals as goal

@@ -1,6 +1,6 @@
 use Rattle.std.proofs.Common.{true, false, refl, sym}
-use Rattle.ae_acts.specs.Lines.{stand}
-use Rattle.ae_acts.specs.Uses.{Disks, Sites, disks, sites}
+use Rattle.ae_script.specs.Lines.{stand}
+use Rattle.ae_script.specs.Uses.{Disks, Sites, disks, sites}
 use Rattle.ae_session.proofs.Calling.{command_called}
 use Rattle.ae_session.proofs.session.do_alone.Goals as goal
 
