@@ -6,7 +6,7 @@ use Rattle.std.proofs.lemmas.List.Elements.{All-append, All-cons, All-nil}
 use Rattle.ae_outside.specs.Site.{HoldsBytes, RunMade, SiteState, run_made}
 use Rattle.ae_outside.specs.declared.dir.Dir.{Dir}
 use Rattle.ae_outside.specs.declared.dir.Exit.{Exit}
-use Rattle.ae_machine.specs.Typed.{IsExit}
+use Rattle.ae_evidence.specs.Made.{IsExit}
 use Rattle.ae_dirs.specs.Runs.{IsByteRun, MakesByteRuns, StaysUnrun}
 
 -- where no run was made

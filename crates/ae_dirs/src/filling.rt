@@ -3,7 +3,7 @@ ghost use Rattle.std.specs.Prelude.{◌≡◌, Some, OnOk, IsErrOf};
 ghost use Rattle.ae_outside.specs.Causes.{Counted, HasCause};
 ghost use Rattle.ae_outside.specs.Trees.{no_files, with_file, with_rows};
 ghost use Rattle.ae_outside.specs.Site.{ChangesOnly};
-ghost use Rattle.ae_machine.specs.Directories.{with_some_file, with_some_files};
+ghost use Rattle.ae_evidence.specs.Directories.{with_some_file, with_some_files};
 
 use crate::DirsError;
 use crate::reading::holds;

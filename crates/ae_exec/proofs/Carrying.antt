@@ -28,14 +28,16 @@ use Rattle.ae_log.specs.declared.event.Event.{Event}
 use Rattle.ae_log.specs.declared.event.EventKind.{EventKind}
 use Rattle.ae_log.specs.declared.event.EventKind.TheVariants as on
 use Rattle.ae_log.specs.After.{after}
-use Rattle.ae_log.specs.Applies.{Applies, AppliesBy, Suits, comes_in, AreInSpace, made_version, tree_shape, files_shape}
-use Rattle.ae_log.specs.Files.{Version, versions, version_bytes, next_version, present, ref_of, version_of, frozen_file, numbered, first_place, other_places}
+use Rattle.ae_log.specs.Applies.{Applies, AppliesBy, Suits, comes_in, tree_shape, files_shape}
+use Rattle.ae_log.specs.Files.{versions, version_bytes, next_version}
 use Rattle.ae_log.specs.Log.{Log}
 use Rattle.ae_log.specs.Observed.{observation, observation_with}
 use Rattle.ae_log.proofs.Following.{follows}
-use Rattle.ae_log.proofs.Numbered.{within, new_version, frozen_at}
+use Rattle.ae_types.proofs.Numbered.{within, new_version, frozen_at}
+use Rattle.ae_types.specs.Frozen.{AreInSpace, made_version, Version, present, ref_of, version_of, frozen_file, numbered, first_place, other_places}
 use Rattle.ae_history.specs.Packed.{AreOf}
-use Rattle.ae_history.specs.Placing.{units_of, padded, piece_at, pieces_at}
+use Rattle.ae_places.specs.Placing.{units_of}
+use Rattle.ae_history.specs.Placing.{padded, piece_at, pieces_at}
 use Rattle.ae_exec.specs.Stands.{version_in}
 use Rattle.ae_exec.specs.Carried.{pieces_by, IsApart, Stood, IsPut}
 use Rattle.ae_exec.specs.Made.{IsMade, VersionsAreMade, FollowsVersions, VersionsFollow}
@@ -128,7 +130,7 @@ module _ (o : Observation) (tree : Rows) (places : List ℕ) (up : Ascends by_te
   abbrev next : ℕ
   next = o.project.next_version
 
-  made-at : (path : List ℕ) (w : Version) → Rattle.ae_log.proofs.Numbered.version_at next tree places path ≡ Some w → made_version next tree places path ≡ Some (ref_of w)
+  made-at : (path : List ℕ) (w : Version) → Rattle.ae_types.proofs.Numbered.version_at next tree places path ≡ Some w → made_version next tree places path ≡ Some (ref_of w)
   made-at path w e = ap (option_map ref_of) e
 
   end-apart : (q : Place) (v : VersionRef) → version_at o.files o.changes q ≡ Some v → IsApart (pieces_at places (present tree)) v
@@ -161,23 +163,23 @@ all-from t (x ∷ xs) each = λ i. each x (0, omega arith, refl) i && all-from t
 
 -- no two of a tree's versions share a unit
 abbrev Apart : ℕ → Rows → List ℕ → Type 0
-Apart n rows places = (path other : List ℕ) (one two : Version) → Rattle.ae_log.proofs.Numbered.version_at n rows places path ≡ Some one → Rattle.ae_log.proofs.Numbered.version_at n rows places other ≡ Some two → meet (ref_of one) (ref_of two) ≡ true → path ≡ other
+Apart n rows places = (path other : List ℕ) (one two : Version) → Rattle.ae_types.proofs.Numbered.version_at n rows places path ≡ Some one → Rattle.ae_types.proofs.Numbered.version_at n rows places other ≡ Some two → meet (ref_of one) (ref_of two) ≡ true → path ≡ other
 
 -- what is so of the rest of a tree
 rest-none : (n : ℕ) (q : List ℕ) (rows : Rows) (places : List ℕ) → Above by_text row_path q rows → Apart n ((q, None) ∷ rows) places → Apart n rows places
 rest-none n q rows places above apart path other one two at_path at_other m = apart path other one two (there path one at_path) (there other two at_other) m
   where
-    there : (p : List ℕ) (v : Version) → Rattle.ae_log.proofs.Numbered.version_at n rows places p ≡ Some v → Rattle.ae_log.proofs.Numbered.version_at n ((q, None) ∷ rows) places p ≡ Some v
+    there : (p : List ℕ) (v : Version) → Rattle.ae_types.proofs.Numbered.version_at n rows places p ≡ Some v → Rattle.ae_types.proofs.Numbered.version_at n ((q, None) ∷ rows) places p ≡ Some v
     there p v e = ap (λ (b : Bool). version_of (cond b (Some (frozen_at q None)) (frozen_file (numbered n rows places) p))) (other-path n rows places q above p v e) ∙ e
 
 first-version : ℕ → List ℕ → List ℕ → Version
 first-version n places bytes = new_version n places bytes
 
-rest-some : (n : ℕ) (q bytes : List ℕ) (rows : Rows) (places : List ℕ) → Above by_text row_path q rows → (p : List ℕ) (v : Version) → Rattle.ae_log.proofs.Numbered.version_at (n + 1) rows (other_places places) p ≡ Some v → Rattle.ae_log.proofs.Numbered.version_at n ((q, Some bytes) ∷ rows) places p ≡ Some v
+rest-some : (n : ℕ) (q bytes : List ℕ) (rows : Rows) (places : List ℕ) → Above by_text row_path q rows → (p : List ℕ) (v : Version) → Rattle.ae_types.proofs.Numbered.version_at (n + 1) rows (other_places places) p ≡ Some v → Rattle.ae_types.proofs.Numbered.version_at n ((q, Some bytes) ∷ rows) places p ≡ Some v
 rest-some n q bytes rows places above p v e =
     ap (λ (b : Bool). version_of (cond b (Some (frozen_at q (Some (new_version n places bytes)))) (frozen_file (numbered (n + 1) rows (other_places places)) p))) (other-path (n + 1) rows (other_places places) q above p v e) ∙ e
 
-first-at : (n : ℕ) (q bytes : List ℕ) (rows : Rows) (places : List ℕ) → Rattle.ae_log.proofs.Numbered.version_at n ((q, Some bytes) ∷ rows) places q ≡ Some (new_version n places bytes)
+first-at : (n : ℕ) (q bytes : List ℕ) (rows : Rows) (places : List ℕ) → Rattle.ae_types.proofs.Numbered.version_at n ((q, Some bytes) ∷ rows) places q ≡ Some (new_version n places bytes)
 first-at n q bytes rows places = ap (λ (b : Bool). version_of (cond b (Some (frozen_at q (Some (new_version n places bytes)))) (frozen_file (numbered (n + 1) rows (other_places places)) q))) (by_text.same_self q)
 
 -- versions that share no unit have pieces that don't meet
@@ -206,7 +208,7 @@ no-pieces-meet n ((q, Some bytes) ∷ rows) places up apart =
     (no-pieces-meet (n + 1) rows (other_places places) up.1
     (λ path other one two at_path at_other m. apart path other one two (rest-some n q bytes rows places up.0 path one at_path) (rest-some n q bytes rows places up.0 other two at_other) m))
   where
-    differs : (p : List ℕ) (v : Version) → Rattle.ae_log.proofs.Numbered.version_at (n + 1) rows (other_places places) p ≡ Some v → q ≡ p → ⊥
+    differs : (p : List ℕ) (v : Version) → Rattle.ae_types.proofs.Numbered.version_at (n + 1) rows (other_places places) p ≡ Some v → q ≡ p → ⊥
     differs p v e same = let no : true ≡ false = sym (by_text.same_self q) ∙ ap (λ (l : List ℕ). bytes_eq l q) same ∙ other-path (n + 1) rows (other_places places) q up.0 p v e in cc
 
     more : (first : Option Piece) → piece_at (first_place places) bytes ≡ first → none_meet (pieces_at (other_places places) (present rows)) ≡ true → none_meet (option_to_list first ++ pieces_at (other_places places) (present rows)) ≡ true
@@ -226,7 +228,7 @@ module _ (log : Log) (event : Event) (tree : Rows) (to : Phase) (places : List �
   all-versions : versions (event ∷ log) ≡ versions log ++ present tree
   all-versions = ap (λ (kind : EventKind). Rattle.ae_log.specs.Files.versions_after kind (versions log)) is
 
-  new-bytes : (path : List ℕ) (w : Version) → Rattle.ae_log.proofs.Numbered.version_at (next_version log) tree places path ≡ Some w → version_bytes (event ∷ log) w.number ≡ w.bytes
+  new-bytes : (path : List ℕ) (w : Version) → Rattle.ae_types.proofs.Numbered.version_at (next_version log) tree places path ≡ Some w → version_bytes (event ∷ log) w.number ≡ w.bytes
   new-bytes path w e =
       let low = (within (next_version log) tree places path w e).low in
       let place : w.number - 1 ≡ length (versions log) + (w.number - next_version log) = omega (arith, low) in
@@ -240,9 +242,9 @@ module _ (log : Log) (event : Event) (tree : Rows) (to : Phase) (places : List �
     made : IsMade (event ∷ log) v
 
   new : (path : List ℕ) (v : VersionRef) → made_version (next_version log) tree places path ≡ Some v → New v
-  new path v e = go (Rattle.ae_log.proofs.Numbered.version_at (next_version log) tree places path) refl e
+  new path v e = go (Rattle.ae_types.proofs.Numbered.version_at (next_version log) tree places path) refl e
     where
-      go : (w : Option Version) → Rattle.ae_log.proofs.Numbered.version_at (next_version log) tree places path ≡ w → option_map ref_of w ≡ Some v → New v
+      go : (w : Option Version) → Rattle.ae_types.proofs.Numbered.version_at (next_version log) tree places path ≡ w → option_map ref_of w ≡ Some v → New v
       go (Some w) at_path e =
           let same : ref_of w ≡ v = same_Some (ref_of w) v e in
           let numbers = within (next_version log) tree places path w at_path in

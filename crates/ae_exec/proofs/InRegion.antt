@@ -11,7 +11,7 @@ use Rattle.ae_words.specs.declared.table.Function.{Function}
 use Rattle.ae_words.specs.declared.table.Function.TheVariants as function
 use Rattle.ae_log.specs.declared.event.EventKind.{EventKind}
 use Rattle.ae_log.specs.declared.event.EventKind.TheVariants as on
-use Rattle.ae_log.specs.Files.{present}
+use Rattle.ae_types.specs.Frozen.{present}
 use Rattle.ae_types.specs.declared.change.ChangeFile.{ChangeFile}
 use Rattle.ae_types.specs.declared.change.Change.{Change}
 use Rattle.ae_types.specs.Observation.{Observation}
@@ -20,7 +20,7 @@ use Rattle.ae_space.specs.Fit.{fit}
 use Rattle.ae_space.proofs.Between.{region-is}
 use Rattle.ae_space.proofs.Fitting.{finds-lowest, fit-zero}
 use Rattle.ae_space.proofs.Tests.{free-units}
-use Rattle.ae_history.specs.Placing.{IsShort, extents, places_of, units_of}
+use Rattle.ae_places.specs.Placing.{IsShort, extents, places_of, units_of}
 use Rattle.ae_machine.specs.Accepted.{RowsShort, ends_development}
 use Rattle.ae_machine.specs.Call.{Call, Given, Placing, change_of}
 use Rattle.ae_machine.specs.Runs.{run_event}

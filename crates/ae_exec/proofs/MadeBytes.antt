@@ -15,11 +15,12 @@ use Rattle.ae_types.specs.declared.change.Change.{Change}
 use Rattle.ae_types.specs.declared.change.ChangeFile.{ChangeFile}
 use Rattle.ae_types.specs.Observation.{Observation}
 use Rattle.ae_types.specs.Phases.{is_remove}
+use Rattle.ae_types.specs.Frozen.{present}
 use Rattle.ae_log.specs.declared.event.Event.{Event}
 use Rattle.ae_log.specs.declared.event.EventKind.{EventKind}
 use Rattle.ae_log.specs.declared.event.EventKind.TheVariants as on
 use Rattle.ae_log.specs.Applies.{IsProject}
-use Rattle.ae_log.specs.Files.{present, version_bytes, versions, versions_after}
+use Rattle.ae_log.specs.Files.{version_bytes, versions, versions_after}
 use Rattle.ae_log.specs.Log.{Log, followed}
 use Rattle.ae_log.specs.Observed.{observation}
 use Rattle.ae_words.specs.declared.table.Function.{Function}
@@ -31,7 +32,8 @@ use Rattle.ae_machine.specs.Call.{Call, Given, change_of, given_of}
 use Rattle.ae_machine.specs.Legal.{Legal, nothing, more}
 use Rattle.ae_machine.specs.Paths.{file_made, kind_made, path_event}
 use Rattle.ae_machine.specs.Runs.{run_event}
-use Rattle.ae_machine.specs.Sight.{bytes_of, bytes_read, content_of, read_at}
+use Rattle.ae_evidence.specs.Directories.{bytes_of}
+use Rattle.ae_machine.specs.Sight.{bytes_read, content_of, read_at}
 use Rattle.ae_machine.specs.Space.{placing}
 use Rattle.ae_machine.specs.Typed.{IsContent, IsReadFile}
 use Rattle.ae_machine.specs.Verdict.{change_of_events, ends, event_of, kinds_of, runs}

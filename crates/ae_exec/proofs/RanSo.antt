@@ -11,16 +11,16 @@ use Rattle.ae_types.specs.Sound.{Sound}
 use Rattle.ae_vault.specs.Vault.{effective}
 use Rattle.ae_words.specs.declared.command.Command.{Command}
 use Rattle.ae_words.specs.Formed.{IsFormed}
-use Rattle.ae_dirs.specs.Jobs.{IsGroup, IsShortConfig}
 use Rattle.ae_dirs.specs.Reads as reads
-use Rattle.ae_machine.specs.declared.directories.DirChange.{DirChange}
-use Rattle.ae_machine.specs.declared.jobs.Job.{Job}
+use Rattle.ae_dirs.specs.Runs.{IsGroup}
+use Rattle.ae_evidence.specs.declared.directories.DirChange.{DirChange}
+use Rattle.ae_evidence.specs.declared.runs.Job.{Job}
 use Rattle.ae_machine.specs.declared.verdict.Verdict.{Verdict}
-use Rattle.ae_machine.specs.declared.view.RunRow.{RunRow}
 use Rattle.ae_machine.specs.declared.view.View.{View}
 use Rattle.ae_machine.specs.Call.{call_of, change_named, given_of}
 use Rattle.ae_machine.specs.Called.{Called, given_at, view}
-use Rattle.ae_machine.specs.Directories.{dirs_after}
+use Rattle.ae_evidence.specs.Directories.{dirs_after}
+use Rattle.ae_evidence.specs.declared.runs.RunRow.{RunRow}
 use Rattle.ae_machine.specs.Fits.{makes_runs}
 use Rattle.ae_machine.specs.Real.{IsLeft, dir_of_runs}
 use Rattle.ae_machine.specs.Space.{placing}
@@ -37,6 +37,7 @@ use Rattle.ae_exec.proofs.RunLeft.{named-there, run-left, seen-with}
 use Rattle.ae_exec.proofs.RunVersions.{both-kept, runs-read}
 use Rattle.ae_exec.proofs.ShortConfig.{short-config}
 use Rattle.ae_exec.proofs.TrackedHolds.{tracked-holds}
+use Rattle.ae_exec.specs.Jobs.{IsShortConfig}
 
 -- ---- before any run
 

@@ -25,7 +25,7 @@ use Rattle.ae_words.specs.declared.table.Function.{Function}
 use Rattle.ae_words.specs.declared.table.Function.TheVariants as function
 use Rattle.ae_log.specs.declared.event.Event.{Event}
 use Rattle.ae_machine.specs.declared.verdict.Verdict.TheVariants.{Accept, Refuse}
-use Rattle.ae_machine.specs.declared.view.RunRow.{RunRow}
+use Rattle.ae_evidence.specs.declared.runs.RunRow.{RunRow}
 use Rattle.ae_machine.specs.declared.view.View.{View}
 use Rattle.ae_machine.specs.Call.{Given, call_of, change_named, change_of, first_of, given_of}
 use Rattle.ae_machine.specs.Called.{Called, files_dir, files_seen, given_at, given_before, new_runs, nothing_seen, rows_of, view}

@@ -16,12 +16,12 @@ use Rattle.ae_words.specs.declared.table.Function.{Function}
 use Rattle.ae_words.specs.declared.table.Function.TheVariants as function
 use Rattle.ae_words.specs.Formed.{IsFormed}
 use Rattle.ae_words.specs.Table.{needs_change, row}
-use Rattle.ae_machine.specs.declared.directories.DirChange.{DirChange}
-use Rattle.ae_machine.specs.declared.jobs.Job.{Job}
-use Rattle.ae_machine.specs.declared.view.RunRow.{RunRow}
+use Rattle.ae_evidence.specs.declared.directories.DirChange.{DirChange}
+use Rattle.ae_evidence.specs.declared.runs.Job.{Job}
+use Rattle.ae_evidence.specs.declared.runs.RunRow.{RunRow}
+use Rattle.ae_evidence.specs.Directories.{dirs_after}
 use Rattle.ae_machine.specs.Call.{Call, Given, call_of, change_named, change_of}
 use Rattle.ae_machine.specs.Called.{Called, given_at, view}
-use Rattle.ae_machine.specs.Directories.{dirs_after}
 use Rattle.ae_machine.specs.Fits.{makes_runs, runs_asked, tracked_in}
 use Rattle.ae_machine.specs.Freezing.{group_is_there}
 use Rattle.ae_machine.specs.Jobs.{AreJobs}
@@ -30,11 +30,11 @@ use Rattle.ae_machine.specs.Real.{IsLeft, command_for, dir_of_runs}
 use Rattle.ae_machine.specs.Runs.{group, group_of}
 use Rattle.ae_machine.specs.Verdict.{asked, is_new_project, refusal_before, refused_before}
 use Rattle.ae_machine.proofs.Accepted.{Passed, change-there, passed, tested}
-use Rattle.ae_dirs.specs.Jobs.{HasRun, IsGroup, IsShortConfig}
-use Rattle.ae_dirs.specs.Runs.{EndsUnclean, RunsAre}
-use Rattle.ae_dirs.proofs.FittingRuns.{runs-fit}
-use Rattle.ae_dirs.proofs.RealRuns.{runs-are-real}
+use Rattle.ae_dirs.specs.Runs.{IsGroup, EndsUnclean, RunsAre}
+use Rattle.ae_exec.proofs.FittingRuns.{runs-fit}
+use Rattle.ae_exec.proofs.RealRuns.{runs-are-real}
 use Rattle.ae_exec.specs.Runs.{AreForRuns, HaveRun}
+use Rattle.ae_exec.specs.Jobs.{HasRun, IsShortConfig}
 
 -- ---- what the conditions without reading say
 

@@ -7,7 +7,7 @@ use Rattle.ae_base.specs.declared.words.Kind.TheVariants as kind
 use Rattle.ae_types.specs.declared.change.Change.{Change}
 use Rattle.ae_types.specs.Observation.{Observation}
 use Rattle.ae_words.specs.declared.command.Command.{Command}
-use Rattle.ae_machine.specs.declared.jobs.Job.{Job}
+use Rattle.ae_evidence.specs.declared.runs.Job.{Job}
 use Rattle.ae_machine.specs.Call.{Given, call_of}
 use Rattle.ae_machine.specs.Freezing.{configured}
 use Rattle.ae_machine.specs.Jobs.{AnswersJobs}

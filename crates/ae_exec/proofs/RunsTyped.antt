@@ -32,7 +32,8 @@ use Rattle.ae_machine.specs.Call.{Call, Given}
 use Rattle.ae_machine.specs.Called.{row_of, rows_of}
 use Rattle.ae_machine.specs.Rules.{FilesAscend, PathsAscend, TableAscends}
 use Rattle.ae_machine.specs.Runs.{group, group_of, kind_of, test_kind, tests_asked, tracked, tracked_by}
-use Rattle.ae_machine.specs.Sight.{base_tree, bytes_of, kept_paths, only_tests, overlaid, paths_read, read_at, tree_read, with_bytes}
+use Rattle.ae_machine.specs.Sight.{base_tree, kept_paths, only_tests, overlaid, paths_read, read_at, tree_read, with_bytes}
+use Rattle.ae_evidence.specs.Directories.{bytes_of}
 use Rattle.ae_machine.specs.Typed.{AreTrackedFiles, IsRun, IsTrackedFile}
 use Rattle.ae_machine.proofs.Lists.{all-members, filter-in}
 use Rattle.ae_dirs.specs.Runs.{AreByteRuns, HasBytes, IsByteRun}

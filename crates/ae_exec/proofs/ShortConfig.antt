@@ -25,7 +25,7 @@ use Rattle.ae_machine.specs.Called.{Called, given_at}
 use Rattle.ae_outside.specs.Site.{IsAtMost}
 use Rattle.ae_machine.specs.Fits.{config_row}
 use Rattle.ae_machine.specs.Versions.{config_version}
-use Rattle.ae_dirs.specs.Jobs.{IsShortConfig}
+use Rattle.ae_exec.specs.Jobs.{IsShortConfig}
 use Rattle.ae_exec.specs.Bytes.{HaveBytes, bytes_at}
 use Rattle.ae_exec.proofs.RunVersions.{config-lives}
 use Rattle.ae_exec.proofs.Shown.{list-in, live-in}

@@ -28,12 +28,13 @@ use Rattle.ae_types.specs.Trees.{TreeRow, baseline_of, candidate_of, last_delta}
 use Rattle.ae_types.proofs.Members.{In, in-map}
 use Rattle.ae_words.specs.declared.table.Function.{Function}
 use Rattle.ae_words.specs.declared.table.Function.TheVariants as function
-use Rattle.ae_machine.specs.declared.directories.DirChange.{DirChange}
-use Rattle.ae_machine.specs.declared.directories.DirChange.TheVariants.{Fill, Put}
-use Rattle.ae_machine.specs.declared.jobs.Job.{Job}
+use Rattle.ae_evidence.specs.declared.directories.DirChange.{DirChange}
+use Rattle.ae_evidence.specs.declared.directories.DirChange.TheVariants.{Fill, Put}
+use Rattle.ae_evidence.specs.declared.runs.Job.{Job}
+use Rattle.ae_evidence.specs.Directories.{dir_after, dirs_after}
 use Rattle.ae_machine.specs.Call.{Given, change_named, change_of}
 use Rattle.ae_machine.specs.Called.{Called, dir_for, files_dir, files_seen, given_at, given_before, nothing_seen}
-use Rattle.ae_machine.specs.Directories.{before_runs, before_tests, changes_by, changes_of, dir_after, dirs_after, refreshed}
+use Rattle.ae_machine.specs.Directories.{before_runs, before_tests, changes_by, changes_of, refreshed}
 use Rattle.ae_machine.specs.Fits.{config_asked, makes_runs, paths_asked, tracked_in}
 use Rattle.ae_machine.specs.Real.{dir_of_runs}
 use Rattle.ae_machine.specs.Runs.{kind_of, test_kind, tracked_by}

@@ -21,7 +21,8 @@ use Rattle.ae_types.proofs.Searched.{in-found}
 use Rattle.ae_machine.specs.declared.view.View.{View}
 use Rattle.ae_machine.specs.Call.{Given}
 use Rattle.ae_machine.specs.Directories.{refreshed, removed}
-use Rattle.ae_machine.specs.Sight.{bytes_of, content_of, kept_paths, read_at, with_bytes}
+use Rattle.ae_evidence.specs.Directories.{bytes_of}
+use Rattle.ae_machine.specs.Sight.{content_of, kept_paths, read_at, with_bytes}
 use Rattle.ae_machine.proofs.Lists.{filter-in}
 use Rattle.ae_dirs.specs.Tracked.{names_path, with_rows_elsewhere}
 

@@ -6,9 +6,9 @@ use Rattle.ae_types.specs.Found.{change_at}
 use Rattle.ae_types.specs.Observation.{Observation}
 use Rattle.ae_types.specs.Phases.{is_integrating}
 use Rattle.ae_types.specs.Trees.{candidate_of}
+use Rattle.ae_types.specs.Frozen.{ref_of}
 use Rattle.ae_vault.specs.Vault.{effective}
 use Rattle.ae_log.specs.Baseline.{TreeFile, baseline, candidate}
-use Rattle.ae_log.specs.Files.{ref_of}
 use Rattle.ae_log.specs.Log.{Log}
 use Rattle.ae_log.specs.Observed.{observation}
 use Rattle.ae_machine.specs.Legal.{Legal}

@@ -5,12 +5,13 @@ use Rattle.ae_outside.specs.declared.dir.Dir.{Dir}
 use Rattle.ae_outside.specs.Site.{SiteState}
 use Rattle.ae_types.specs.Observation.{Observation}
 use Rattle.ae_words.specs.declared.command.Command.{Command}
-use Rattle.ae_machine.specs.declared.directories.DirChange.{DirChange}
-use Rattle.ae_machine.specs.declared.jobs.Job.{Job}
-use Rattle.ae_machine.specs.declared.view.RunRow.{RunRow}
+use Rattle.ae_evidence.specs.declared.directories.DirChange.{DirChange}
+use Rattle.ae_evidence.specs.declared.runs.Job.{Job}
+use Rattle.ae_evidence.specs.declared.runs.RunRow.{RunRow}
+use Rattle.ae_evidence.specs.Directories.{dirs_after}
 use Rattle.ae_machine.specs.declared.view.View.{View}
 use Rattle.ae_machine.specs.Call.{Given, change_of, given_of}
-use Rattle.ae_machine.specs.Directories.{dir_changes, dirs_after}
+use Rattle.ae_machine.specs.Directories.{dir_changes}
 use Rattle.ae_machine.specs.Fits.{runs_asked, tracked_in}
 use Rattle.ae_machine.specs.Freezing.{configured}
 use Rattle.ae_machine.specs.Jobs.{AreJobs}

@@ -2,7 +2,7 @@
 use Rattle.std.specs.Prelude.{ℕ, ◌≤◌, List, All}
 use Rattle.ae_base.specs.Limits.{most_units}
 use Rattle.ae_base.specs.Rows.{Row}
-use Rattle.ae_history.specs.Placing.{IsShort}
+use Rattle.ae_places.specs.Placing.{IsShort}
 use Rattle.ae_log.specs.declared.event.Event.{Event}
 use Rattle.ae_log.specs.declared.event.EventKind.{EventKind}
 use Rattle.ae_log.specs.declared.event.EventKind.TheVariants as on

@@ -8,14 +8,14 @@ ghost use Rattle.ae_types.specs.Trees.{TreeRow, tree_path};
 ghost use Rattle.ae_vault.specs.Commit.{IsClean};
 ghost use Rattle.ae_vault.specs.Vault.{effective};
 ghost use Rattle.ae_dirs.specs.declared.error.DirsError.{DirsError};
-ghost use Rattle.ae_dirs.specs.Jobs.{IsGroup};
+ghost use Rattle.ae_dirs.specs.Runs.{IsGroup, MakesByteRuns};
 ghost use Rattle.ae_dirs.specs.Reads.{tracked_in};
-ghost use Rattle.ae_dirs.specs.Runs.{MakesByteRuns};
-ghost use Rattle.ae_machine.specs.declared.jobs.Job.{Job};
-ghost use Rattle.ae_machine.specs.Directories.{dirs_after, ChangesThese};
+ghost use Rattle.ae_evidence.specs.declared.runs.Job.{Job};
+ghost use Rattle.ae_evidence.specs.Directories.{dirs_after, ChangesThese};
 ghost use Rattle.ae_machine.specs.Call.{given_of};
 ghost use Rattle.ae_machine.specs.Fits.{makes_runs};
-ghost use Rattle.ae_machine.specs.Jobs.{AnswersJobs, IsCommand};
+ghost use Rattle.ae_machine.specs.Jobs.{AnswersJobs};
+ghost use Rattle.ae_conf.specs.Values.{IsCommand};
 ghost use Rattle.ae_machine.specs.Sight.{with_bytes};
 ghost use Rattle.ae_machine.specs.Space.{placing};
 ghost use Rattle.ae_machine.specs.Versions.{ShowsVersions, rows_based, rows_refreshed};
@@ -29,10 +29,8 @@ use crate::stop::Stop;
 use crate::version::read_version;
 use ae_base::{Path, Snapshot, Text};
 use ae_dirs::{DirsError, change_dirs, run_group};
-use ae_machine::{
-    DirChangeList, FileList, JobList, RunRowList, View, jobs_asked, rows_based, rows_refreshed,
-    run_changes, tracked,
-};
+use ae_evidence::{DirChangeList, FileList, JobList, RunRowList};
+use ae_machine::{View, jobs_asked, rows_based, rows_refreshed, run_changes, tracked};
 use ae_outside::{Dir, Disk, Site};
 use ae_types::{State, TreeRow};
 use ae_words::Command;

@@ -15,13 +15,14 @@ use Rattle.ae_types.specs.Phases.{holds_locks}
 use Rattle.ae_base.specs.Rows.{text_cmp}
 use Rattle.ae_types.proofs.Keys.{by_text}
 use Rattle.ae_types.proofs.Ordered.{listed-more}
+use Rattle.ae_types.specs.Frozen.{ref_of, version_of, frozen_file}
 use Rattle.ae_log.specs.declared.event.EventKind.{EventKind}
 use Rattle.ae_log.specs.declared.event.EventKind.TheVariants as on
 use Rattle.ae_log.specs.declared.event.RunEvent.{RunEvent}
 use Rattle.ae_log.specs.Log.{Log, Course, Happened, course}
 use Rattle.ae_log.specs.Phases.{phase_of}
 use Rattle.ae_log.specs.Settings.{change_attributes}
-use Rattle.ae_log.specs.Files.{paths, course_paths, next_version, ref_of, version_of, frozen_file, frozen}
+use Rattle.ae_log.specs.Files.{paths, course_paths, next_version, frozen}
 use Rattle.ae_log.specs.Baseline.{past}
 use Rattle.ae_log.specs.Observed.{observation_with, change, change_with, lock, file_row, frozen_version}
 use Rattle.ae_log.specs.After.{after, change_after}

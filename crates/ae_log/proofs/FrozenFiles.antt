@@ -22,10 +22,10 @@ use Rattle.ae_types.proofs.Keys.{by_text}
 use Rattle.ae_types.proofs.Ordered.{Ascends, apart, at-map, less-other, none-some}
 use Rattle.ae_types.proofs.Searched.{in-found}
 use Rattle.ae_types.proofs.BinarySearch.{place-in}
-use Rattle.ae_log.specs.Files.{Version, numbered, present, frozen_file, version_of, first_place, other_places, ref_of}
+use Rattle.ae_types.specs.Frozen.{Version, numbered, present, frozen_file, version_of, first_place, other_places, ref_of}
 use Rattle.ae_log.specs.After.{frozen_as, new_file}
 use Rattle.ae_log.specs.Applies.{tree_shape, files_shape, CanFreeze}
-use Rattle.ae_log.proofs.Numbered.{frozen_at, new_version, version_at}
+use Rattle.ae_types.proofs.Numbered.{frozen_at, new_version, version_at}
 use Rattle.ae_log.proofs.Placing.{above-get}
 
 -- the version that a row makes, of this number, at the first of these places

@@ -13,12 +13,13 @@ use Rattle.ae_types.specs.Found.{file_path, row_path, lock_path, number_of_chang
 use Rattle.ae_types.specs.Phases.{holds_locks}
 use Rattle.ae_types.proofs.Keys.{by_text}
 use Rattle.ae_types.proofs.Ordered.{member, Ascends, member-with_key, at-listed, filter_map-ascends, none-some}
+use Rattle.ae_types.specs.Frozen.{frozen_file}
 use Rattle.ae_log.specs.declared.event.EventKind.{EventKind}
 use Rattle.ae_log.specs.declared.event.EventKind.TheVariants as on
 use Rattle.ae_log.specs.Log.{Log, Course, Happened, makes, ends, leaves, marked, course, continued, is_of, standing}
 use Rattle.ae_log.specs.Phases.{phase_of}
 use Rattle.ae_log.specs.Settings.{is_there, change_attributes, change_numbers}
-use Rattle.ae_log.specs.Files.{FileFact, file, file_by, file_mark, paths, paths_after, course_paths, frozen, frozen_file}
+use Rattle.ae_log.specs.Files.{FileFact, file, file_by, file_mark, paths, paths_after, course_paths, frozen}
 use Rattle.ae_log.specs.Baseline.{Entry, past, past_after, with_entry, deltas, locked, holds}
 use Rattle.ae_log.specs.Observed.{lock, lock_of, change, change_with, change_file, change_file_of, change_files, frozen_version, file_row}
 use Rattle.ae_log.proofs.Lists.{find-none}

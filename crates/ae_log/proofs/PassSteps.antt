@@ -17,11 +17,12 @@ use Rattle.ae_types.specs.Phases.{holds_locks}
 use Rattle.ae_types.specs.Trees.{past_in}
 use Rattle.ae_types.proofs.Keys.{by_text, by_number}
 use Rattle.ae_types.proofs.Ordered.{member, Above, Ascends, at-above, at-put, put-ascends, at-filter_map, listed-is, filter_map-ascends, none-some}
+use Rattle.ae_types.specs.Frozen.{ref_of, version_of, frozen_file}
 use Rattle.ae_log.specs.declared.event.EventKind.TheVariants as on
 use Rattle.ae_log.specs.Log.{Log, Course, Happened, course}
 use Rattle.ae_log.specs.Phases.{phase_of}
 use Rattle.ae_log.specs.Settings.{is_there, change_attributes, change_numbers}
-use Rattle.ae_log.specs.Files.{FileFact, file, paths, ref_of, version_of, frozen, frozen_file, next_version}
+use Rattle.ae_log.specs.Files.{FileFact, file, paths, frozen, next_version}
 use Rattle.ae_log.specs.Baseline.{Entry, past, with_entry, deltas}
 use Rattle.ae_log.specs.Observed.{observation_with, change, change_with, change_file, change_file_of, change_files, file_row, file_version, frozen_version}
 use Rattle.ae_log.specs.After.{after, change_after, new_entry, row_of, entered, all_entered, rows_after, files_of}

@@ -13,7 +13,8 @@ use Rattle.ae_log.specs.declared.event.EventKind.TheVariants as on
 use Rattle.ae_log.specs.Log.{Log, Course, Happened, course}
 use Rattle.ae_log.specs.Phases.{phase_of}
 use Rattle.ae_log.specs.Settings.{change_attributes}
-use Rattle.ae_log.specs.Files.{paths, next_version, ref_of, version_of, frozen_file, frozen}
+use Rattle.ae_log.specs.Files.{paths, next_version, frozen}
+use Rattle.ae_types.specs.Frozen.{ref_of, version_of, frozen_file}
 use Rattle.ae_log.specs.Observed.{observation_with, change_with, frozen_version}
 use Rattle.ae_log.specs.After.{after, change_after}
 use Rattle.ae_log.proofs.Lists.{filter_map-same, option_map-step}

@@ -7,8 +7,9 @@ use Rattle.ae_types.specs.declared.project.Attributes.{Attributes}
 use Rattle.ae_types.specs.declared.version.VersionRef.{VersionRef}
 use Rattle.ae_types.specs.Observation.{Observation}
 use Rattle.ae_types.specs.Trees.{tree_of, tree_row, entry_row, unless_later, last_up_to}
+use Rattle.ae_types.specs.Frozen.{Version, ref_of}
 use Rattle.ae_log.specs.Log.{Log}
-use Rattle.ae_log.specs.Files.{Version, paths, ref_of}
+use Rattle.ae_log.specs.Files.{paths}
 use Rattle.ae_log.specs.Baseline.{Entry, past, tree, tree_file, tree_file_of, entry_file, last_up_to as last_entry}
 use Rattle.ae_log.specs.Observed.{observation_with, file_row, file_version, tree_row_of}
 use Rattle.ae_log.specs.Laws.{TreesStand}

@@ -26,11 +26,11 @@ use Rattle.ae_types.specs.Found.{number_of_change, file_path, row_path, lock_pat
 use Rattle.ae_types.specs.Roles.{users_of, with_users}
 use Rattle.ae_types.specs.Runs.{same_during, run_cmp, run_of}
 use Rattle.ae_types.specs.Trees.{past_in}
+use Rattle.ae_types.specs.Frozen.{numbered, ref_of, frozen_file, version_of, present}
 use Rattle.ae_log.specs.declared.event.Event.{Event}
 use Rattle.ae_log.specs.declared.event.EventKind.{EventKind}
 use Rattle.ae_log.specs.declared.event.EventKind.TheVariants as on
 use Rattle.ae_log.specs.Phases.{phase_after, word_of, with_row}
-use Rattle.ae_log.specs.Files.{numbered, ref_of, frozen_file, version_of, present}
 use Rattle.ae_log.specs.Baseline.{deltas_after}
 use Rattle.ae_log.specs.Runs.{evidence_row}
 use Rattle.ae_log.specs.Observed.{lock_of}

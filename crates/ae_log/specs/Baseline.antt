@@ -7,13 +7,14 @@ use Rattle.ae_base.specs.declared.words.Usage.{Usage}
 use Rattle.ae_types.specs.declared.project.DeltaRow.{DeltaRow}
 use Rattle.ae_types.specs.Phases.{holds_locks}
 use Rattle.ae_types.specs.Trees.{last_by}
+use Rattle.ae_types.specs.Frozen.{Version, FrozenFile, frozen_file, version_of}
 use Rattle.ae_log.specs.declared.event.Event.{Event}
 use Rattle.ae_log.specs.declared.event.EventKind.{EventKind}
 use Rattle.ae_log.specs.declared.event.EventKind.TheVariants as on
 use Rattle.ae_log.specs.Log.{Log, Course, course}
 use Rattle.ae_log.specs.Phases.{phase_of}
 use Rattle.ae_log.specs.Settings.{is_there, change_numbers}
-use Rattle.ae_log.specs.Files.{FileFact, file, paths, Version, FrozenFile, frozen, frozen_file, version_of}
+use Rattle.ae_log.specs.Files.{FileFact, file, paths, frozen}
 
 -- ---- deltas
 

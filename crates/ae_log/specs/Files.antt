@@ -1,13 +1,11 @@
 -- The files of a change, and what was frozen of them.
 use Rattle.std.specs.Prelude.{ℕ, ◌+◌, ◌-◌, List, [], ◌∷◌, ◌++◌, Option, Some, None, if◌then◌else◌, length, slice_get, unwrap_or}
-use Rattle.std.specs.List.{filter_map, find}
 use Rattle.std.specs.Option.{option_and_then}
 use Rattle.std.specs.Str.{bytes_eq}
-use Rattle.sha2.specs.Sha256.{sha256}
-use Rattle.ae_base.specs.Rows.{Rows, text_cmp}
+use Rattle.ae_base.specs.Rows.{text_cmp}
 use Rattle.ae_base.specs.declared.words.Action.{Action}
 use Rattle.ae_base.specs.declared.words.Usage.{Usage}
-use Rattle.ae_types.specs.declared.version.VersionRef.{VersionRef}
+use Rattle.ae_types.specs.Frozen.{FrozenFile, numbered, present}
 use Rattle.ae_types.specs.Ordered.{put_by, itself}
 use Rattle.ae_log.specs.declared.event.EventKind.{EventKind}
 use Rattle.ae_log.specs.declared.event.EventKind.TheVariants as on
@@ -56,20 +54,6 @@ course_paths (happened ∷ course) = paths_after happened.event.what (course_pat
 
 -- ---- versions
 
--- the bytes of a file as an End froze them, with their number and their place in the packed region
-pub record Version : Type 0 where
-  pub number : ℕ
-  pub at : ℕ
-  pub bytes : List ℕ
-
--- what the records keep of a version
-abbrev pub ref_of : Version → VersionRef
-ref_of version = record { number = version.number; at = version.at; length = length version.bytes; digest = sha256 version.bytes }
-
--- the bytes of the files that a tree doesn't remove
-abbrev pub present : Rows → List (List ℕ)
-present tree = filter_map (λ row. row.1) tree
-
 abbrev pub versions_after : EventKind → List (List ℕ) → List (List ℕ)
 versions_after (on.End tree to places) made = made ++ present tree
 versions_after _ made = made
@@ -89,28 +73,6 @@ version_bytes log number = unwrap_or (slice_get (versions log) (number - 1)) []
 
 -- ---- frozen trees
 
--- a file of a frozen tree, with no version where it is removed
-pub record FrozenFile : Type 0 where
-  pub path : List ℕ
-  pub version : Option Version
-
--- the first place, 0 where there is none
-abbrev pub first_place : List ℕ → ℕ
-first_place [] = 0
-first_place (place ∷ places) = place
-
-abbrev pub other_places : List ℕ → List ℕ
-other_places [] = []
-other_places (place ∷ places) = places
-
--- the files of a tree, with their versions numbered from next on, at these places
-abbrev pub numbered : ℕ → Rows → List ℕ → List FrozenFile
-numbered next [] places = []
-numbered next ((path, None) ∷ rows) places = record { path = path; version = None } ∷ numbered next rows places
-numbered next ((path, Some bytes) ∷ rows) places =
-    record { path = path; version = Some (record { number = next; at = first_place places; bytes = bytes }) }
-    ∷ numbered (next + 1) rows (other_places places)
-
 abbrev pub frozen_mark : EventKind → Mark
 frozen_mark (on.End tree to places) = makes
 frozen_mark on.EndUndo = ends
@@ -129,10 +91,3 @@ frozen_by None = []
 -- the tree of the change's last End, where development didn't begin again since
 abbrev pub frozen : Course → List FrozenFile
 frozen course = frozen_by (standing frozen_mark course)
-
--- the frozen file of this path
-abbrev pub frozen_file : List FrozenFile → List ℕ → Option FrozenFile
-frozen_file files path = find (λ (file : FrozenFile). bytes_eq path file.path) files
-
-abbrev pub version_of : Option FrozenFile → Option Version
-version_of file = option_and_then (λ (file : FrozenFile). file.version) file

@@ -15,11 +15,12 @@ use Rattle.ae_types.specs.declared.version.VersionRef.{VersionRef}
 use Rattle.ae_types.specs.Observation.{Observation}
 use Rattle.ae_types.specs.Phases.{holds_locks}
 use Rattle.ae_types.specs.Trees.{TreeRow}
+use Rattle.ae_types.specs.Frozen.{ref_of, frozen_file, version_of}
 use Rattle.ae_log.specs.Log.{Log, Course, course}
 use Rattle.ae_log.specs.Phases.{phase_of, history}
 use Rattle.ae_log.specs.People.{developer, reviewing, reviewer, integrator}
 use Rattle.ae_log.specs.Settings.{project_name, attributes, role_users, change_attributes, change_numbers, numbers}
-use Rattle.ae_log.specs.Files.{FileFact, file, paths, course_paths, ref_of, next_version, frozen, frozen_file, version_of}
+use Rattle.ae_log.specs.Files.{FileFact, file, paths, course_paths, next_version, frozen}
 use Rattle.ae_log.specs.Baseline.{deltas, Entry, past, TreeFile, locked}
 use Rattle.ae_log.specs.Runs.{evidence}
 

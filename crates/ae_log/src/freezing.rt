@@ -2,9 +2,9 @@
 ghost use Rattle.std.specs.Prelude.{◌≡◌, ◌+◌, ◌≤◌, map, length, Some, None};
 ghost use Rattle.ae_base.specs.Limits.{most_file_bytes};
 ghost use Rattle.ae_types.specs.declared.change.ChangeFile.{ChangeFile};
+ghost use Rattle.ae_types.specs.Frozen.{ref_of};
 ghost use Rattle.ae_log.specs.After.{frozen_as, thawed};
 ghost use Rattle.ae_log.specs.Applies.{CanFreeze};
-ghost use Rattle.ae_log.specs.Files.{ref_of};
 
 use crate::PlaceList;
 use ae_base::{Path, Snapshot, Text};

@@ -3,9 +3,9 @@ ghost use Rattle.std.specs.Prelude.{◌≡◌, ◌≤◌, ◌<◌, length, OnOk}
 ghost use Rattle.ae_base.specs.Limits.{most_deltas, most_next_version};
 ghost use Rattle.ae_types.specs.Users.{AllDiffer};
 ghost use Rattle.ae_types.specs.Roles.{users_of};
+ghost use Rattle.ae_types.specs.Frozen.{present};
 ghost use Rattle.ae_log.specs.After.{project_after};
 ghost use Rattle.ae_log.specs.Baseline.{deltas_after};
-ghost use Rattle.ae_log.specs.Files.{present};
 
 use crate::roles::{add_user, drop_user};
 use crate::{Event, EventKind};

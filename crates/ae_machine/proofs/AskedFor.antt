@@ -21,7 +21,8 @@ use Rattle.ae_machine.specs.Freezing.{first_content_refused, first_difference, i
 use Rattle.ae_machine.specs.Jobs.{dir_of_base, dir_of_files}
 use Rattle.ae_machine.specs.Real.{dir_of_runs}
 use Rattle.ae_machine.specs.Runs.{delta_of_run, kind_of, tracked_by}
-use Rattle.ae_machine.specs.Sight.{base_tree, bytes_of, config_below, paths_read, read_at, tree_read, with_bytes}
+use Rattle.ae_machine.specs.Sight.{base_tree, config_below, paths_read, read_at, tree_read, with_bytes}
+use Rattle.ae_evidence.specs.Directories.{bytes_of}
 use Rattle.ae_machine.specs.Versions.{config_version, files_refused, first_differing, is_read_so, is_shown, rows_based, rows_compared, rows_refreshed, rows_under}
 
 pub integrate-dir : (call : Call) (change : Change) (delta : ℕ) → is_integrating change.phase ≡ true → delta ≡ delta_of_run call change → Integrate delta ≡ files_dir call change

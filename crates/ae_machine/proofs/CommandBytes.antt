@@ -15,9 +15,8 @@ use Rattle.ae_base.specs.Names.{is_letter, is_name_byte, is_path_byte, is_part, 
 use Rattle.ae_conf.specs.Config.{Template}
 use Rattle.ae_conf.specs.declared.expansion.Values.{Values}
 use Rattle.ae_conf.specs.Expand.{Piece, value_named, name_at, behind_name, behind_brace, piece_of, substituted, first_piece, pieces_from, expanded}
-use Rattle.ae_conf.specs.Values.{may_stand_in_command}
+use Rattle.ae_conf.specs.Values.{may_stand_in_command, IsCommand}
 use Rattle.ae_machine.specs.Commands.{AreValues}
-use Rattle.ae_machine.specs.Jobs.{IsCommand}
 
 -- ---- the values
 

@@ -1,11 +1,10 @@
 -- The command of each run is what was read of aegis.conf gives for it.
-use Rattle.std.proofs.Common.{◌≡◌, ℕ, refl, ap, List, Bool, true, false, cond, Option, Some, None, Result, Ok, Err}
+use Rattle.std.proofs.Common.{◌≡◌, ℕ, refl, ap, List, Bool, true, false, cond, Option, Some, None, Result, Ok, Err, inl, inr}
 use Rattle.std.specs.List.{list_all}
 use Rattle.std.specs.Option.{option_map, option_map_or, option_and_then}
 use Rattle.std.specs.Prelude.{◌⊎◌, IfSome}
 use Rattle.std.specs.Map.{lookup}
 use Rattle.std.specs.Str.{bytes_eq}
-use Rattle.std.proofs.Common.{inl, inr}
 use Rattle.ae_base.specs.declared.words.Kind.{Kind}
 use Rattle.ae_base.specs.declared.words.Kind.TheVariants as kind
 use Rattle.ae_text.specs.Tree.{Node}
@@ -14,10 +13,9 @@ use Rattle.ae_conf.specs.declared.config.Config.{Config as Read}
 use Rattle.ae_conf.specs.declared.expansion.Values.{Values}
 use Rattle.ae_conf.specs.Fields.{Fields, fields_in, first_wrong}
 use Rattle.ae_conf.specs.Reading.{IsText, IsNoText, reading}
-use Rattle.ae_conf.specs.Values.{command_in, command_text, text_in, may_stand_in_command}
+use Rattle.ae_conf.specs.Values.{command_in, command_text, text_in, may_stand_in_command, IsCommand}
 use Rattle.ae_machine.specs.Commands.{GivesCommands, command_from, config_read, read_or_bad, template_read}
 use Rattle.ae_machine.specs.declared.commands.ConfigRead.TheVariants.{Bad, Good}
-use Rattle.ae_machine.specs.Jobs.{IsCommand}
 use Rattle.ae_machine.specs.Runs.{command_by, command_by_config, command_by_template, template_for}
 
 -- ---- the commands that are read may be run

@@ -14,16 +14,16 @@ use Rattle.ae_types.specs.Observation.{Observation}
 use Rattle.ae_types.specs.Phases.{is_remove}
 use Rattle.ae_types.proofs.Members.{In}
 use Rattle.ae_types.proofs.Ordered.{none-some}
-use Rattle.ae_log.specs.Applies.{AreInSpace}
-use Rattle.ae_log.specs.Files.{Version, present, ref_of}
+use Rattle.ae_types.specs.Frozen.{AreInSpace, Version, present, ref_of}
 use Rattle.ae_space.specs.declared.extent.Extent.{Extent}
 use Rattle.ae_space.specs.Fit.{fit}
-use Rattle.ae_history.specs.Placing.{units_of, extents, places_of, IsShort}
-use Rattle.ae_history.proofs.InSpace.{places-in-space}
+use Rattle.ae_places.specs.Placing.{units_of, extents, places_of, IsShort}
+use Rattle.ae_places.proofs.InSpace.{places-in-space}
 use Rattle.ae_machine.specs.declared.view.View.{View}
 use Rattle.ae_outside.specs.Site.{IsAtMost}
 use Rattle.ae_machine.specs.Accepted.{RowsShort}
-use Rattle.ae_machine.specs.Sight.{bytes_of, content_of, read_at, bytes_read}
+use Rattle.ae_evidence.specs.Directories.{bytes_of}
+use Rattle.ae_machine.specs.Sight.{content_of, read_at, bytes_read}
 use Rattle.ae_machine.specs.Space.{placing}
 use Rattle.ae_machine.proofs.Lists.{all-members, members-all}
 

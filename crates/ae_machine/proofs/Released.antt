@@ -11,10 +11,11 @@ use Rattle.ae_types.specs.Observation.{Observation}
 use Rattle.ae_types.specs.Trees.{unless_later, last_up_to as last_version}
 use Rattle.ae_types.proofs.Keys.{by_number, by_text}
 use Rattle.ae_types.proofs.Ordered.{at-listed, none-some}
+use Rattle.ae_types.specs.Frozen.{Version, frozen_file, version_of, ref_of}
 use Rattle.ae_log.specs.declared.event.EventKind.{EventKind}
 use Rattle.ae_log.specs.declared.event.EventKind.TheVariants as on
 use Rattle.ae_log.specs.Baseline.{Entry, TreeFile, deltas, deltas_after, past, with_entry, last_up_to, entry_file, tree_file, tree_file_of, baseline, candidate}
-use Rattle.ae_log.specs.Files.{FileFact, Version, file, frozen, frozen_file, version_of, paths, ref_of}
+use Rattle.ae_log.specs.Files.{FileFact, file, frozen, paths}
 use Rattle.ae_log.specs.Log.{Log, Happened, course}
 use Rattle.ae_log.specs.Observed.{observation, observation_with, change, file_row, file_version}
 use Rattle.ae_log.proofs.Listed.{own_row, unlisted-past}

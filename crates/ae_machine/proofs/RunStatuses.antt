@@ -23,7 +23,6 @@ use Rattle.ae_words.specs.declared.table.Function.{Function}
 use Rattle.ae_words.specs.declared.table.Function.TheVariants as function
 use Rattle.ae_machine.specs.declared.verdict.Verdict.TheVariants.{Accept}
 use Rattle.ae_machine.specs.declared.view.View.{View}
-use Rattle.ae_machine.specs.declared.view.RunRow.{RunRow}
 use Rattle.ae_machine.specs.Accepted.{AreStart, decided}
 use Rattle.ae_machine.specs.Call.{Given, given_of}
 use Rattle.ae_machine.specs.Legal.{nothing, more}
@@ -31,7 +30,9 @@ use Rattle.ae_machine.specs.Paths.{kind_made, file_made, path_event}
 use Rattle.ae_machine.specs.Runs.{run_event}
 use Rattle.ae_machine.specs.Space.{placing}
 use Rattle.ae_machine.specs.Statuses.{HasStatus, HaveStatuses, LegalHasStatuses}
-use Rattle.ae_machine.specs.Typed.{IsExit, IsRun, IsView}
+use Rattle.ae_evidence.specs.Made.{IsExit}
+use Rattle.ae_evidence.specs.declared.runs.RunRow.{RunRow}
+use Rattle.ae_machine.specs.Typed.{IsRun, IsView}
 use Rattle.ae_machine.specs.Verdict.{event_of, ends, runs}
 use Rattle.ae_machine.proofs.Accepted.{IsPassed, accepted-passes, with_function}
 use Rattle.ae_machine.proofs.AcceptedLogs.{accepted-starts}

@@ -10,10 +10,10 @@ use Rattle.ae_types.specs.declared.change.Change.{Change}
 use Rattle.ae_types.specs.Runs.{Needed}
 use Rattle.ae_words.specs.declared.table.Function.{Function}
 use Rattle.ae_words.specs.declared.table.Function.TheVariants as function
-use Rattle.ae_machine.specs.declared.jobs.Job.{Job}
 use Rattle.ae_machine.specs.declared.commands.ConfigRead.{ConfigRead}
 use Rattle.ae_machine.specs.declared.verdict.Verdict.TheVariants.{Accept, Refuse}
-use Rattle.ae_machine.specs.declared.view.RunRow.{RunRow}
+use Rattle.ae_evidence.specs.declared.runs.RunRow.{RunRow}
+use Rattle.ae_evidence.specs.declared.runs.Job.{Job}
 use Rattle.ae_machine.specs.Call.{Given, change_of, first_of, given_in, refusal_in}
 use Rattle.ae_machine.specs.Commands.{AnswersRuns, command_told, config_read, config_seen, first_refusal, run_told}
 use Rattle.ae_machine.specs.Fits.{makes_runs, runs_asked}

@@ -10,6 +10,7 @@ use Rattle.ae_base.specs.declared.refusal.Refusal.TheVariants.{NoCommand, BadCon
 use Rattle.ae_conf.specs.Config.{Template, Config, config, as_read, template_of}
 use Rattle.ae_conf.specs.declared.config.Config.{Config as Read}
 use Rattle.ae_conf.specs.declared.expansion.Values.{Values}
+use Rattle.ae_conf.specs.Values.{IsCommand}
 use Rattle.ae_log.specs.declared.event.RunEvent.{RunEvent}
 use Rattle.ae_types.specs.declared.change.Change.{Change}
 use Rattle.ae_types.specs.Observation.{Observation}
@@ -18,13 +19,14 @@ use Rattle.ae_types.specs.Runs.{Needed}
 use Rattle.ae_types.specs.Trees.{candidate_of}
 use Rattle.ae_machine.specs.declared.commands.ConfigRead.{ConfigRead}
 use Rattle.ae_machine.specs.declared.commands.ConfigRead.TheVariants.{Absent, Bad, Good}
-use Rattle.ae_machine.specs.declared.jobs.Job.{Job}
-use Rattle.ae_machine.specs.declared.view.RunRow.{RunRow}
+use Rattle.ae_evidence.specs.declared.runs.Job.{Job}
+use Rattle.ae_evidence.specs.declared.runs.RunRow.{RunRow}
+use Rattle.ae_evidence.specs.Directories.{bytes_of}
 use Rattle.ae_machine.specs.declared.view.View.{View}
 use Rattle.ae_machine.specs.Call.{given_in, refusal_in}
-use Rattle.ae_machine.specs.Jobs.{AreJobs, IsCommand, IsJob}
+use Rattle.ae_machine.specs.Jobs.{AreJobs, IsJob}
 use Rattle.ae_machine.specs.Runs.{command_by_template, needed_of, part_of}
-use Rattle.ae_machine.specs.Sight.{bytes_of, config_path, read_at, row_at}
+use Rattle.ae_machine.specs.Sight.{config_path, read_at, row_at}
 
 -- ---- what was read
 

@@ -13,7 +13,7 @@ use Rattle.ae_words.specs.declared.table.Function.{Function}
 use Rattle.ae_words.specs.declared.table.Function.TheVariants as function
 use Rattle.ae_log.specs.Runs.{same_rows}
 use Rattle.ae_machine.specs.declared.view.View.{View}
-use Rattle.ae_machine.specs.declared.view.RunRow.{RunRow}
+use Rattle.ae_evidence.specs.declared.runs.RunRow.{RunRow}
 use Rattle.ae_machine.specs.Call.{Call, Given, change_of}
 use Rattle.ae_machine.specs.Runs.{group, needed_of, tracked}
 use Rattle.ae_machine.specs.Sight.{paths_read, config_below}

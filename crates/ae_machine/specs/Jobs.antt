@@ -1,13 +1,11 @@
 -- The runs that a command is to make, as jobs: each with its command.
-use Rattle.std.specs.Prelude.{◌≡◌, ℕ, List, [], ◌∷◌, Option, Some, None, Result, Ok, Err, true}
-use Rattle.std.specs.List.{list_all}
+use Rattle.std.specs.Prelude.{◌≡◌, ℕ, List, [], ◌∷◌, Option, Some, None, Result, Ok, Err}
 use Rattle.ae_base.specs.declared.refusal.Refusal.{Refusal}
-use Rattle.ae_conf.specs.Values.{may_stand_in_command}
 use Rattle.ae_outside.specs.declared.dir.Dir.{Dir}
 use Rattle.ae_outside.specs.declared.dir.Dir.TheVariants.{Base, Here}
 use Rattle.ae_types.specs.declared.change.Change.{Change}
 use Rattle.ae_types.specs.Runs.{Needed}
-use Rattle.ae_machine.specs.declared.jobs.Job.{Job}
+use Rattle.ae_evidence.specs.declared.runs.Job.{Job}
 use Rattle.ae_machine.specs.Call.{Call, Given, change_of}
 use Rattle.ae_machine.specs.Called.{files_dir}
 use Rattle.ae_machine.specs.Fits.{runs_asked}
@@ -23,10 +21,6 @@ dir_of_files call None = Here
 abbrev pub dir_of_base : Option Change → Dir
 dir_of_base (Some change) = Base change.number
 dir_of_base None = Here
-
--- its bytes may stand in a command
-abbrev pub IsCommand : List ℕ → Type 0
-IsCommand command = list_all may_stand_in_command command ≡ true
 
 -- the run that is asked for, with its command
 pub record IsJob (command : Needed → Result (List ℕ) Refusal) (needed : Needed) (job : Job) : Type 0 where

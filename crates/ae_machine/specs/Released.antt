@@ -9,11 +9,11 @@ use Rattle.ae_types.specs.declared.project.DeltaRow.{DeltaRow}
 use Rattle.ae_types.specs.Found.{delta_in, row_in}
 use Rattle.ae_types.specs.Observation.{Observation}
 use Rattle.ae_types.specs.Trees.{last_delta, last_up_to}
+use Rattle.ae_types.specs.Frozen.{ref_of}
 use Rattle.ae_log.specs.declared.event.Event.{Event}
 use Rattle.ae_log.specs.declared.event.EventKind.{EventKind}
 use Rattle.ae_log.specs.declared.event.EventKind.TheVariants as on
 use Rattle.ae_log.specs.Baseline.{TreeFile, deltas, baseline, candidate}
-use Rattle.ae_log.specs.Files.{ref_of}
 use Rattle.ae_log.specs.Log.{Log, Happened}
 use Rattle.ae_log.specs.Observed.{observation}
 use Rattle.ae_machine.specs.Evident.{EvidentAt}

@@ -4,7 +4,7 @@ use Rattle.std.specs.List.{list_any, find}
 use Rattle.std.specs.Str.{bytes_eq}
 use Rattle.ae_base.specs.Rows.{Row, Rows, put_row}
 use Rattle.ae_outside.specs.declared.dir.Content.{Content}
-use Rattle.ae_outside.specs.declared.dir.Content.TheVariants.{Absent, Bytes}
+use Rattle.ae_outside.specs.declared.dir.Content.TheVariants.{Absent}
 use Rattle.ae_types.specs.declared.change.Change.{Change}
 use Rattle.ae_types.specs.declared.change.ChangeFile.{ChangeFile}
 use Rattle.ae_types.specs.Found.{file_path}
@@ -12,6 +12,7 @@ use Rattle.ae_types.specs.Phases.{is_remove, is_integrating}
 use Rattle.ae_types.specs.Runs.{tests_of}
 use Rattle.ae_types.specs.Trees.{TreeRow, tree_path, paths_of, baseline_of, candidate_of}
 use Rattle.ae_words.specs.Meaning.{is_config}
+use Rattle.ae_evidence.specs.Directories.{bytes_of}
 use Rattle.ae_machine.specs.declared.view.View.{View}
 use Rattle.ae_machine.specs.Call.{Call, Given}
 
@@ -52,10 +53,6 @@ config_below call change =
     if is_integrating change.phase then None
     else if has_config change then None
     else row_at (baseline_of call.stands) config_path
-
-abbrev pub bytes_of : Content → Option (List ℕ)
-bytes_of (Bytes bytes) = Some bytes
-bytes_of _ = None
 
 abbrev pub content_of : Option (List ℕ × Content) → Content
 content_of (Some row) = row.1

@@ -1,13 +1,12 @@
 -- The values of a view are of their types: a byte is a number below 256, a path is one, and the rows of a snapshot ascend.
-use Rattle.std.specs.Prelude.{ℕ, ◌<◌, List, IfSome, All}
+use Rattle.std.specs.Prelude.{ℕ, List, IfSome, All}
 use Rattle.ae_base.specs.Bytes.{AreBytes}
 use Rattle.ae_base.specs.Names.{IsPath}
 use Rattle.ae_base.specs.Rows.{Ascends, Row, Rows}
 use Rattle.ae_outside.specs.declared.dir.Content.{Content}
 use Rattle.ae_outside.specs.declared.dir.Content.TheVariants.{Bytes}
-use Rattle.ae_outside.specs.declared.dir.Exit.{Exit}
-use Rattle.ae_outside.specs.declared.dir.Exit.TheVariants.{Code, Signal}
-use Rattle.ae_machine.specs.declared.view.RunRow.{RunRow}
+use Rattle.ae_evidence.specs.declared.runs.RunRow.{RunRow}
+use Rattle.ae_evidence.specs.Made.{IsExit}
 use Rattle.ae_machine.specs.declared.view.View.{View}
 
 -- what was read of a file are bytes
@@ -17,11 +16,6 @@ IsContent _ = Unit {0}
 
 abbrev pub IsReadFile : List ℕ × Content → Type 0
 IsReadFile row = IsPath row.0 × IsContent row.1
-
--- the code with which a run ended, or the signal that ended it, is one byte
-abbrev pub IsExit : Exit → Type 0
-IsExit (Code code) = code < 256
-IsExit (Signal signal) = signal < 256
 
 -- a path, and the bytes of its file where there is one
 abbrev pub IsTrackedFile : Row → Type 0

@@ -20,7 +20,8 @@ use Rattle.ae_machine.specs.Directories.{removed}
 use Rattle.ae_machine.specs.Fits.{makes_runs}
 use Rattle.ae_machine.specs.Freezing.{is_these, first_content_refused}
 use Rattle.ae_machine.specs.Runs.{kind_of}
-use Rattle.ae_machine.specs.Sight.{bytes_of, config_below, paths_read, read_at}
+use Rattle.ae_evidence.specs.Directories.{bytes_of}
+use Rattle.ae_machine.specs.Sight.{config_below, paths_read, read_at}
 
 -- ---- the versions that it asks for
 

@@ -2,8 +2,8 @@
 ghost use Rattle.std.specs.Prelude.{◌≡◌, IfOk, IfSome, option_copied};
 ghost use Rattle.std.specs.Option.{option_map};
 ghost use Rattle.ae_conf.specs.Config.{template_of};
+ghost use Rattle.ae_conf.specs.Values.{IsCommand};
 ghost use Rattle.ae_machine.specs.Commands.{AreValues, GivesCommands, command_from, config_read, template_read};
-ghost use Rattle.ae_machine.specs.Jobs.{IsCommand};
 ghost use Rattle.ae_machine.specs.declared.commands.ConfigRead.TheVariants.{Good};
 ghost use Rattle.ae_machine.specs.Runs.{command_by_template};
 

@@ -3,11 +3,12 @@ ghost use Rattle.std.specs.Prelude.{◌≡◌, ℕ, List, IfOk, option_copied};
 ghost use Rattle.ae_machine.specs.Call.{call_of, change_of};
 ghost use Rattle.ae_machine.specs.Versions.{first_differing, is_read_so, is_row_shown, rows_compared};
 
+use crate::View;
 use crate::reading::candidate_tree;
 use crate::runs::is_integrating;
 use crate::seen::Seen;
-use crate::{FileList, View};
 use ae_base::{Path, Refusal, Text};
+use ae_evidence::FileList;
 use ae_types::{State, TreeRows};
 use ae_words::Command;
 use std::alloc::{AllocError, Global};

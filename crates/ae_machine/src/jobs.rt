@@ -2,11 +2,12 @@
 ghost use Rattle.std.specs.Prelude.{◌≡◌, [], ℕ, List, Some, All, map, true, IfOk, option_copied};
 ghost use Rattle.ae_log.specs.declared.event.EventKind.TheVariants as on;
 ghost use Rattle.ae_types.specs.Found.{change_at};
-ghost use Rattle.ae_machine.specs.declared.jobs.Job.{Job};
+ghost use Rattle.ae_evidence.specs.declared.runs.Job.{Job};
 ghost use Rattle.ae_machine.specs.declared.verdict.Verdict.TheVariants.{Accept};
 ghost use Rattle.ae_machine.specs.Call.{Placing, given_in, given_of};
 ghost use Rattle.ae_machine.specs.Commands.{AnswersRun, AnswersRuns, GivesCommands, command_told, config_read, config_seen, run_told};
-ghost use Rattle.ae_machine.specs.Jobs.{AnswersJobs, IsCommand};
+ghost use Rattle.ae_machine.specs.Jobs.{AnswersJobs};
+ghost use Rattle.ae_conf.specs.Values.{IsCommand};
 ghost use Rattle.ae_machine.specs.Fits.{makes_runs};
 ghost use Rattle.ae_machine.specs.Runs.{needed_of};
 ghost use Rattle.ae_machine.specs.Verdict.{event_of, events_of};
@@ -16,24 +17,13 @@ use crate::commands::{ConfigRead, command_from, config_read};
 use crate::events::push_event;
 use crate::reading::{config_seen, subject};
 use crate::runs::{delta_of_run, group, named_copy, part_of, values_of};
-use crate::{RunRow, Verdict, View};
+use crate::{Verdict, View};
 use ae_base::{ChangeNo, Delta, Kind, Path, ProjectName, Refusal, Snapshot, Text, User};
-use ae_evidence::RunKey;
+use ae_evidence::{Job, JobList, RunKey, RunRow};
 use ae_log::{EventKind, EventList, RunEvent};
 use ae_types::{Change, Rows, State};
 use ae_words::Command;
 use std::alloc::{AllocError, Global};
-
-/// A run that is to be made: of which kind, of which test if it is of one, and its command.
-#[derive(Drop)]
-pub struct Job {
-    pub kind: Kind,
-    pub path: Option<Path>,
-    pub command: Text,
-}
-
-/// Runs that are to be made, one after another.
-pub type JobList = Rows<Job>;
 
 // The command of a run of this kind and path, or why there is none.
 fn command_told(

@@ -6,7 +6,8 @@ ghost use Rattle.std.specs.Str.{bytes_eq};
 ghost use Rattle.ae_base.specs.Rows.{text_cmp};
 ghost use Rattle.ae_types.specs.Ordered.{ascends};
 ghost use Rattle.ae_machine.specs.Fits.{path_of_row};
-ghost use Rattle.ae_machine.specs.Sight.{bytes_of, content_of, read_at};
+ghost use Rattle.ae_evidence.specs.Directories.{bytes_of};
+ghost use Rattle.ae_machine.specs.Sight.{content_of, read_at};
 
 use crate::View;
 use ae_base::{Path, Text};

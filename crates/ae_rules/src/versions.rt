@@ -1,68 +1,13 @@
 // The versions of files: their numbers, and the units that they take.
-ghost use Rattle.std.specs.Prelude.{◌≡◌, ◌++◌, IfOk, OnOk, flat_map, filter, nat_le, true};
-ghost use Rattle.std.specs.List.{list_all, filter_map};
-ghost use Rattle.std.specs.Option.{option_to_list};
+ghost use Rattle.std.specs.Prelude.{◌≡◌, IfOk, filter, nat_le, true};
+ghost use Rattle.std.specs.List.{list_all};
 ghost use Rattle.ae_types.specs.Versions.{live, units, has_units, end_of, meet, same_number, no_two};
 ghost use Rattle.ae_types.specs.Rules.{is_in_region, versions_fit};
-ghost use Rattle.ae_rules.specs.Live.{past_versions, frozen_versions, number_is_below};
+ghost use Rattle.ae_rules.specs.Live.{number_is_below};
 
 use ae_base::limits::MOST_UNITS;
-use ae_types::{Change, ChangeFile, FileRow, FileVersion, VersionRef};
+use ae_types::{Change, FileRow, VersionRef, live};
 use std::alloc::{AllocError, Global};
-
-fn add(versions: &mut Vec<VersionRef>, version: Option<VersionRef>) -> Result<(), AllocError>
-    ensures { OnOk result (versions.new.items ≡ versions.old.items ++ option_to_list version) }
-{
-    if let Some(version) = version {
-        versions.push(version)?;
-    }
-    Ok(())
-}
-
-fn add_past(versions: &mut Vec<VersionRef>, past: &[FileVersion]) -> Result<(), AllocError>
-    ensures { OnOk result (versions.new.items ≡ versions.old.items ++ filter_map (λ (entry : FileVersion). entry.version) past.now) }
-{
-    for entry in past {
-        add(versions, entry.version)?;
-    }
-    Ok(())
-}
-
-fn add_frozen(versions: &mut Vec<VersionRef>, files: &[ChangeFile]) -> Result<(), AllocError>
-    ensures { OnOk result (versions.new.items ≡ versions.old.items ++ filter_map (λ (file : ChangeFile). file.frozen) files.now) }
-{
-    for file in files {
-        add(versions, file.frozen)?;
-    }
-    Ok(())
-}
-
-fn add_rows(versions: &mut Vec<VersionRef>, rows: &[FileRow]) -> Result<(), AllocError>
-    ensures { OnOk result (versions.new.items ≡ versions.old.items ++ flat_map past_versions rows.now) }
-{
-    for row in rows {
-        add_past(versions, row.past.as_slice())?;
-    }
-    Ok(())
-}
-
-fn add_changes(versions: &mut Vec<VersionRef>, changes: &[Change]) -> Result<(), AllocError>
-    ensures { OnOk result (versions.new.items ≡ versions.old.items ++ flat_map frozen_versions changes.now) }
-{
-    for change in changes {
-        add_frozen(versions, change.files.as_slice())?;
-    }
-    Ok(())
-}
-
-fn live(alloc: Global, rows: &[FileRow], changes: &[Change]) -> Result<Vec<VersionRef>, AllocError>
-    ensures { IfOk result (λ versions. versions.items ≡ live rows.now changes.now) }
-{
-    let mut versions = Vec::new(alloc);
-    add_rows(&mut versions, rows)?;
-    add_changes(&mut versions, changes)?;
-    Ok(versions)
-}
 
 fn numbers_are_below(next: u64, versions: &[VersionRef]) -> bool
     ensures { result ≡ list_all (number_is_below next) versions.now }
@@ -158,7 +103,7 @@ pub(crate) fn versions_fit(
 ) -> Result<bool, AllocError>
     ensures { IfOk result (λ fit. fit ≡ versions_fit next (live rows.now changes.now)) }
 {
-    let mut versions = live(alloc, rows, changes)?;
+    let mut versions = live(alloc, rows, changes)?.into_vec();
     if !numbers_are_below(next, versions.as_slice()) {
         return Ok(false);
     }

@@ -11,11 +11,16 @@ use Rattle.ae_types.specs.Found.{change_in, file_in, row_in, entry_in}
 
 -- ---- the versions that stand in the records
 
+-- those of a row of the file table, and the frozen ones of a change
+abbrev pub past_versions : FileRow → List VersionRef
+past_versions row = filter_map (λ (entry : FileVersion). entry.version) row.past
+
+abbrev pub frozen_versions : Change → List VersionRef
+frozen_versions change = filter_map (λ (file : ChangeFile). file.frozen) change.files
+
 -- those of the file table, and the frozen ones of the changes
 abbrev pub live : List FileRow → List Change → List VersionRef
-live rows changes =
-    flat_map (λ (row : FileRow). filter_map (λ (entry : FileVersion). entry.version) row.past) rows
-    ++ flat_map (λ (change : Change). filter_map (λ (file : ChangeFile). file.frozen) change.files) changes
+live rows changes = flat_map past_versions rows ++ flat_map frozen_versions changes
 
 -- where a version may stand: in the past of a path at a delta, or frozen in a change at a path
 pub data Place : Type 0 where

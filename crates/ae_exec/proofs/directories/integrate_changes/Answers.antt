@@ -4,7 +4,7 @@ use Rattle.ae_base.proofs.Results.{err_is}
 use Rattle.ae_outside.specs.declared.dir.Dir.TheVariants.{Integrate}
 use Rattle.ae_types.specs.declared.change.Change.{Change}
 use Rattle.ae_types.specs.Found.{change_at}
-use Rattle.ae_machine.specs.declared.directories.DirChange.TheVariants.{Fill}
+use Rattle.ae_evidence.specs.declared.directories.DirChange.TheVariants.{Fill}
 use Rattle.ae_exec.specs.declared.stop.Stop.TheVariants as stop
 use Rattle.ae_exec.specs.Endings.{memory}
 use Rattle.ae_exec.proofs.OwnDirs.{named-at, one-of-delta, one-own, integrate-own, integrated-changes}

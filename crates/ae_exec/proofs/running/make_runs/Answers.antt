@@ -1,7 +1,7 @@
 use Rattle.std.proofs.Common.{◌≡◌, ◌∙◌, sym, subst, List}
 use Rattle.ae_outside.specs.Site.{SiteState}
-use Rattle.ae_machine.specs.declared.directories.DirChange.{DirChange}
-use Rattle.ae_machine.specs.Directories.{ChangesThese}
+use Rattle.ae_evidence.specs.declared.directories.DirChange.{DirChange}
+use Rattle.ae_evidence.specs.Directories.{ChangesThese}
 use Rattle.ae_dirs.proofs.ByteRuns.{made-then, none-made}
 use Rattle.ae_exec.proofs.running.make_runs.Goals as goal
 

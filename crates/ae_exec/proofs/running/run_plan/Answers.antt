@@ -1,9 +1,10 @@
 use Rattle.std.proofs.Common.{◌≡◌, ◌∙◌, ap, List, [], map}
 use Rattle.std.proofs.lemmas.Result.{IfOk-at_ok}
 use Rattle.ae_base.specs.Rows.{Rows}
-use Rattle.ae_machine.specs.declared.directories.DirChange.{DirChange}
 use Rattle.ae_machine.specs.Call.{Given, change_named, change_of, given_of}
-use Rattle.ae_machine.specs.Directories.{dir_changes, dir_of}
+use Rattle.ae_machine.specs.Directories.{dir_changes}
+use Rattle.ae_evidence.specs.Directories.{dir_of}
+use Rattle.ae_evidence.specs.declared.directories.DirChange.{DirChange}
 use Rattle.ae_machine.specs.Fits.{tracked_in}
 use Rattle.ae_machine.specs.Sight.{with_bytes}
 use Rattle.ae_machine.specs.Space.{placing}

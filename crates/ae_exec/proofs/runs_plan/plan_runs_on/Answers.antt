@@ -11,7 +11,7 @@ use Rattle.ae_vault.specs.Vault.{effective}
 use Rattle.ae_machine.specs.declared.verdict.Verdict.TheVariants.{Accept, Refuse}
 use Rattle.ae_machine.specs.declared.view.View.{View}
 use Rattle.ae_machine.specs.Called.{Called, answer_to, called}
-use Rattle.ae_machine.specs.Directories.{dirs_after, ChangesThese}
+use Rattle.ae_evidence.specs.Directories.{dirs_after, ChangesThese}
 use Rattle.ae_machine.specs.Real.{IsLeft}
 use Rattle.ae_dirs.specs.Reads as dir_reads
 use Rattle.ae_dirs.specs.Runs.{MakesByteRuns}

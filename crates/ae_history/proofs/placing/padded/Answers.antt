@@ -1,7 +1,7 @@
 use Rattle.std.proofs.Common.{◌≡◌, ◌*◌, ◌-◌, ℕ, List, ◌++◌, ◌∷◌, [], length, ◌∙◌, ap, append_assoc, arith}
 use Rattle.std.specs.Prelude.{replicate}
 use Rattle.std.proofs.lemmas.List.{replicate_more}
-use Rattle.ae_history.specs.Placing.{units_of}
+use Rattle.ae_places.specs.Placing.{units_of}
 use Rattle.ae_history.proofs.placing.padded.Goals as goal
 
 pub loop-done-preserved : goal.loop-done-preserved

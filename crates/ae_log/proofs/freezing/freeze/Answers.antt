@@ -2,7 +2,7 @@ use Rattle.std.proofs.Common.{◌≡◌, ℕ, ◌+◌, ◌<◌, ◌∙◌, ◌++
 use mir.Val.{bool_byte}
 use Rattle.ae_types.specs.declared.change.ChangeFile.{ChangeFile}
 use Rattle.ae_log.specs.After.{frozen_as}
-use Rattle.ae_log.specs.Files.{present, ref_of}
+use Rattle.ae_types.specs.Frozen.{present, ref_of}
 use Rattle.ae_log.proofs.FrozenFiles.{made-more, made-few, byte-few, made-within, as-many, short-enough, frozen-present, frozen-removed, frozen-more, no_file}
 use Rattle.ae_log.proofs.freezing.freeze.Goals as goal
 use Rattle.ae_log.proofs.freezing.freeze.Goals.{in-Some, in-None}

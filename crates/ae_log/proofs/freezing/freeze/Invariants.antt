@@ -1,6 +1,6 @@
 use Rattle.std.proofs.Common.{◌≡◌, ◌++◌, map, take, drop, length}
 use Rattle.ae_log.specs.After.{frozen_as}
-use Rattle.ae_log.specs.Files.{present}
+use Rattle.ae_types.specs.Frozen.{present}
 use Rattle.ae_log.proofs.freezing.freeze.Given as goal
 
 abbrev pub invariant-loop-at : goal.invariant-loop-at

@@ -2,7 +2,7 @@ use Rattle.std.proofs.Common.{◌+◌, ◌∙◌, ap, sym, arith, length, take}
 use mir.Val.{bool_byte}
 use Rattle.std.specs.Prelude.{is_some}
 use Rattle.ae_base.specs.Rows.{Row}
-use Rattle.ae_log.specs.Files.{present}
+use Rattle.ae_types.specs.Frozen.{present}
 use Rattle.ae_log.proofs.FrozenFiles.{made-more, made-few, byte-few}
 use Rattle.ae_log.proofs.project.present_count.Goals as goal
 

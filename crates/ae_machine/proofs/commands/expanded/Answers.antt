@@ -1,7 +1,7 @@
 use Rattle.std.proofs.Common.{rules, ◌≡◌, subst, Some, IfOk}
 use Rattle.std.specs.Option.{option_copied, IfSome}
 use Rattle.ae_conf.specs.Config.{template_of}
-use Rattle.ae_machine.specs.Jobs.{IsCommand}
+use Rattle.ae_conf.specs.Values.{IsCommand}
 use Rattle.ae_machine.proofs.CommandBytes.{expanded-stands}
 use Rattle.ae_machine.proofs.commands.expanded.Goals as goal
 

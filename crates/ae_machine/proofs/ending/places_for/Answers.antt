@@ -1,6 +1,6 @@
 use Rattle.std.proofs.Common.{◌∙◌, sym, ap, Some, Err}
-use Rattle.ae_log.specs.Files.{present}
-use Rattle.ae_history.specs.Placing.{extents, places_of}
+use Rattle.ae_types.specs.Frozen.{present}
+use Rattle.ae_places.specs.Placing.{extents, places_of}
 use Rattle.ae_machine.specs.Space.{placing}
 use Rattle.ae_machine.proofs.ending.places_for.Goals as goal
 

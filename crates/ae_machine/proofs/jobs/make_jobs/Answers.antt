@@ -4,9 +4,10 @@ use Rattle.std.proofs.lemmas.List.Elements.{All-push}
 use Rattle.std.specs.Prelude.{IfOk}
 use Rattle.ae_base.specs.declared.refusal.Refusal.{Refusal}
 use Rattle.ae_types.specs.Runs.{Needed}
-use Rattle.ae_machine.specs.declared.jobs.Job.{Job}
+use Rattle.ae_evidence.specs.declared.runs.Job.{Job}
 use Rattle.ae_machine.specs.Commands.{AnswersRun, command_told}
-use Rattle.ae_machine.specs.Jobs.{AreJobs, IsCommand, IsJob}
+use Rattle.ae_machine.specs.Jobs.{AreJobs, IsJob}
+use Rattle.ae_conf.specs.Values.{IsCommand}
 use Rattle.ae_machine.proofs.RunsMade.{jobs-more, goes-on, ends-here}
 use Rattle.ae_machine.proofs.jobs.make_jobs.Goals as goal
 

@@ -1,7 +1,8 @@
 use Rattle.std.proofs.Common.{◌≡◌, take, drop, All}
-use Rattle.ae_machine.specs.declared.jobs.Job.{Job}
+use Rattle.ae_evidence.specs.declared.runs.Job.{Job}
 use Rattle.ae_machine.specs.Commands.{command_told, first_refusal}
-use Rattle.ae_machine.specs.Jobs.{AreJobs, IsCommand}
+use Rattle.ae_machine.specs.Jobs.{AreJobs}
+use Rattle.ae_conf.specs.Values.{IsCommand}
 use Rattle.ae_machine.proofs.jobs.make_jobs.Given as goal
 
 abbrev pub invariant-loop-run : goal.invariant-loop-run

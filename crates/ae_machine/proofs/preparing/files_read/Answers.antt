@@ -1,6 +1,7 @@
 use Rattle.std.proofs.Common.{◌∙◌, ap, map}
 use Rattle.ae_log.proofs.AppliedSteps.{if-ok}
-use Rattle.ae_machine.specs.Sight.{bytes_of, read_at}
+use Rattle.ae_evidence.specs.Directories.{bytes_of}
+use Rattle.ae_machine.specs.Sight.{read_at}
 use Rattle.ae_machine.proofs.preparing.files_read.Goals as goal
 
 pub returns : goal.returns

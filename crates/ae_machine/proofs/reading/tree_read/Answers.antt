@@ -2,7 +2,8 @@ use Rattle.std.proofs.Common.{◌∙◌, sym, ap, subst, map}
 use Rattle.std.proofs.lemmas.List.{take_all}
 use Rattle.ae_base.specs.Rows.{Ascends}
 use Rattle.ae_types.specs.Ordered.{itself}
-use Rattle.ae_machine.specs.Sight.{bytes_of, read_at}
+use Rattle.ae_evidence.specs.Directories.{bytes_of}
+use Rattle.ae_machine.specs.Sight.{read_at}
 use Rattle.ae_machine.proofs.SnapshotRows.{rows-ascend}
 use Rattle.ae_machine.proofs.reading.tree_read.Goals as goal
 

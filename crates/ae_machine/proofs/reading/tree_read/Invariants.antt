@@ -1,5 +1,6 @@
 use Rattle.std.proofs.Common.{◌≡◌, map, take}
-use Rattle.ae_machine.specs.Sight.{bytes_of, read_at}
+use Rattle.ae_evidence.specs.Directories.{bytes_of}
+use Rattle.ae_machine.specs.Sight.{read_at}
 use Rattle.ae_machine.proofs.reading.tree_read.Given as goal
 
 abbrev pub invariant-loop-path : goal.invariant-loop-path

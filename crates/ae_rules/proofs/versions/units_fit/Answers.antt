@@ -1,7 +1,7 @@
 use Rattle.std.proofs.Common.{◌∙◌, ap}
 use Rattle.std.specs.List.{list_all}
 use Rattle.ae_types.specs.Versions.{has_units, meet, no_two}
-use Rattle.ae_rules.proofs.VersionsApart.{all-with, meet-with}
+use Rattle.ae_types.proofs.Versions.{all-with, meet-with}
 use Rattle.ae_rules.proofs.versions.units_fit.Goals as goal
 
 pub units_are_apart-requires : goal.units_are_apart-requires
