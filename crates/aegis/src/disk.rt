@@ -41,6 +41,7 @@ impl<'a, R: Files<File = File> + Alloc + Clock + Clone + Drop + Eprint> RealDisk
         ensures { Counted self.old.faults self.new.faults ⊤ }
     {
         self.faults = self.faults.saturating_add(1);
+        let call = self.store.call_of_fault(call);
         let place = self.store.place_of_fault(name).ok();
         self.trouble = Some(Trouble::new(call, place, error));
         Failed

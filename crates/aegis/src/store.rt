@@ -118,6 +118,14 @@ impl<'a, R: Files<File = File> + Alloc + Clock + Clone + Drop + Eprint> Store<'a
         format!(in self.alloc; "{STORE}/{name}")
     }
 
+    /// What fails where this call does: taking the lock, as long as that isn't held, and then the call.
+    pub fn call_of_fault(&self, call: &'static str) -> &'static str {
+        match self.standing {
+            Standing::Unknown => "lock",
+            _ => call,
+        }
+    }
+
     /// Where a call for this file fails: at the lock, as long as that isn't held, and then at the file.
     pub fn place_of_fault(&self, name: &str) -> Result<String, AllocError> {
         match self.standing {
