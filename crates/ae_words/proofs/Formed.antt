@@ -6,7 +6,7 @@ use Rattle.std.specs.List.{list_all}
 use Rattle.std.specs.Option.{is_none}
 use Rattle.std.proofs.lemmas.Bool.{not-true, and_parts, and_from}
 use Rattle.ae_words.specs.Items.{Item, a_plain, a_flag, an_option, a_wrong, listing_named, listing}
-use Rattle.ae_words.specs.Meaning.{step, or_bad, may_come, with_plain, with_name, with_user, with_path, with_one_path, with_test, with_listing, listed, numbered, next_number, with_flag, with_value, with_change, with_delta, is_free, blank, is_whole, has_plain}
+use Rattle.ae_words.specs.Meaning.{most, last_start, most_digits, most_generated_changes, most_generated_files, step, or_bad, may_come, with_plain, with_name, with_user, with_path, with_one_path, with_test, with_listing, listed, numbered, next_number, with_flag, with_value, with_change, with_delta, is_free, blank, is_whole, has_plain}
 use Rattle.ae_words.specs.Table.{row, allows, allows_change, may_take_change, needs_change, needs_attributes}
 use Rattle.ae_words.specs.Formed.{has, AreKinds, AreOptions, are_plain, IsFormed, are_users, are_paths, are_tests, is_no_config, is_path_at_most, are_numbers}
 use Rattle.ae_words.specs.Spelling.{is_empty}
@@ -65,26 +65,15 @@ plain_makes rows.NewTest c d w e = path_makes c d w (none_if _ (with_path c w) d
 plain_makes rows.Report c d w e = path_makes c d w (else_none _ (with_path c w) d e).1
 plain_makes rows.Listing c d w e = listed_makes c d (listing_named w) (none_if _ (listed c (listing_named w)) d e).1
 plain_makes rows.Numbers c d w e = numbered_makes c d (next_number (length c.numbers) w) e
-plain_makes rows.Attributes c d w e = absurd cc
-plain_makes rows.ChangeAttributes c d w e = absurd cc
-plain_makes rows.Change c d w e = absurd cc
-plain_makes rows.Test c d w e = absurd cc
-plain_makes rows.Nothing c d w e = absurd cc
-plain_makes rows.Alone c d w e = absurd cc
+plain_makes _ c d w e = absurd cc
 
 options_kept : (l : Option Listing) (c d : Command) → Makes c d → AreOptions l c → AreOptions l d
 options_kept l c _ (to_name w) h = h
-options_kept l c _ (to_users us) h = h
-options_kept l c _ (to_paths ps) h = h
-options_kept l c _ (to_listing x) h = h
-options_kept l c _ (to_numbers ns) h = h
+options_kept l c _ _ h = h
 
 function_kept : (c d : Command) → Makes c d → d.function ≡ c.function
 function_kept c _ (to_name w) = refl
-function_kept c _ (to_users us) = refl
-function_kept c _ (to_paths ps) = refl
-function_kept c _ (to_listing x) = refl
-function_kept c _ (to_numbers ns) = refl
+function_kept c _ _ = refl
 
 -- ---- an option that may come is allowed
 
@@ -99,67 +88,37 @@ allowed_more l c d o a adds h p there =
     subst (λ (f : Function). allows f l p ≡ true) (sym adds.1) at
 
 flag_adds_at : (o p : Setting) (c : Command) → has (with_flag o c) p ≡ true → (p ≡ o) ⊎ (has c p ≡ true)
-flag_adds_at setting.Project setting.Project c h = inl refl
-flag_adds_at setting.Project setting.File c h = inr h
-flag_adds_at setting.Project setting.Change c h = inr h
-flag_adds_at setting.Project setting.Delta c h = inr h
-flag_adds_at setting.Project setting.Overwriting c h = inr h
-flag_adds_at setting.Project setting.Baseline c h = inr h
-flag_adds_at setting.Project setting.Regression c h = inr h
-flag_adds_at setting.File setting.Project c h = inr h
-flag_adds_at setting.File setting.File c h = inl refl
-flag_adds_at setting.File setting.Change c h = inr h
-flag_adds_at setting.File setting.Delta c h = inr h
-flag_adds_at setting.File setting.Overwriting c h = inr h
-flag_adds_at setting.File setting.Baseline c h = inr h
-flag_adds_at setting.File setting.Regression c h = inr h
-flag_adds_at setting.Change setting.Project c h = inr h
-flag_adds_at setting.Change setting.File c h = inr h
-flag_adds_at setting.Change setting.Change c h = inl refl
-flag_adds_at setting.Change setting.Delta c h = inr h
-flag_adds_at setting.Change setting.Overwriting c h = inr h
-flag_adds_at setting.Change setting.Baseline c h = inr h
-flag_adds_at setting.Change setting.Regression c h = inr h
-flag_adds_at setting.Delta setting.Project c h = inr h
-flag_adds_at setting.Delta setting.File c h = inr h
-flag_adds_at setting.Delta setting.Change c h = inr h
-flag_adds_at setting.Delta setting.Delta c h = inl refl
-flag_adds_at setting.Delta setting.Overwriting c h = inr h
-flag_adds_at setting.Delta setting.Baseline c h = inr h
-flag_adds_at setting.Delta setting.Regression c h = inr h
-flag_adds_at setting.Overwriting setting.Project c h = inr h
-flag_adds_at setting.Overwriting setting.File c h = inr h
-flag_adds_at setting.Overwriting setting.Change c h = inr h
-flag_adds_at setting.Overwriting setting.Delta c h = inr h
 flag_adds_at setting.Overwriting setting.Overwriting c h = inl refl
-flag_adds_at setting.Overwriting setting.Baseline c h = inr h
-flag_adds_at setting.Overwriting setting.Regression c h = inr h
-flag_adds_at setting.Baseline setting.Project c h = inr h
-flag_adds_at setting.Baseline setting.File c h = inr h
-flag_adds_at setting.Baseline setting.Change c h = inr h
-flag_adds_at setting.Baseline setting.Delta c h = inr h
-flag_adds_at setting.Baseline setting.Overwriting c h = inr h
+flag_adds_at setting.Overwriting _ c h = inr h
 flag_adds_at setting.Baseline setting.Baseline c h = inl refl
-flag_adds_at setting.Baseline setting.Regression c h = inr h
-flag_adds_at setting.Regression setting.Project c h = inr h
-flag_adds_at setting.Regression setting.File c h = inr h
-flag_adds_at setting.Regression setting.Change c h = inr h
-flag_adds_at setting.Regression setting.Delta c h = inr h
-flag_adds_at setting.Regression setting.Overwriting c h = inr h
-flag_adds_at setting.Regression setting.Baseline c h = inr h
+flag_adds_at setting.Baseline _ c h = inr h
 flag_adds_at setting.Regression setting.Regression c h = inl refl
+flag_adds_at setting.Regression _ c h = inr h
+flag_adds_at _ p c h = inr h
 
-flag_function : (o : Setting) (c : Command) → (with_flag o c).function ≡ c.function
-flag_function setting.Project c = refl
-flag_function setting.File c = refl
-flag_function setting.Change c = refl
-flag_function setting.Delta c = refl
-flag_function setting.Overwriting c = refl
-flag_function setting.Baseline c = refl
-flag_function setting.Regression c = refl
+-- the command without its options
+abbrev bare : Command → Command
+bare c = record c { project = None; change = None; attributes = None; delta = None; overwriting = false; baseline = false; regression = false }
+
+bare_function : (c d : Command) → bare d ≡ bare c → d.function ≡ c.function
+bare_function c d same = ap (λ (x : Command). x.function) same
+
+bare_listing : (c d : Command) → bare d ≡ bare c → d.listing ≡ c.listing
+bare_listing c d same = ap (λ (x : Command). x.listing) same
+
+plain_bare : (r : Row) (c : Command) → are_plain r (bare c) ≡ are_plain r c
+plain_bare rows.NewProject c = refl
+plain_bare _ c = refl
+
+bare_plain : (r : Row) (c d : Command) → bare d ≡ bare c → are_plain r c ≡ true → are_plain r d ≡ true
+bare_plain r c d same h = sym (plain_bare r d) ∙ ap (are_plain r) same ∙ plain_bare r c ∙ h
+
+flag_bare : (o : Setting) (c : Command) → bare (with_flag o c) ≡ bare c
+flag_bare setting.Overwriting c = refl
+flag_bare _ c = refl
 
 flag_adds : (o : Setting) (c : Command) → Adds o c (with_flag o c)
-flag_adds o c = (λ p h. flag_adds_at o p c h, flag_function o c)
+flag_adds o c = (λ p h. flag_adds_at o p c h, bare_function c (with_flag o c) (flag_bare o c))
 
 data Sets (c : Command) : Setting → Command → Type 0 where
   to_project : (v : List ℕ) → Sets c setting.Project (record c { project = Some v })
@@ -183,224 +142,25 @@ value_sets setting.Project c d v e = sets_along c (record c { project = Some v }
 value_sets setting.File c d v e = sets_along c (record c { attributes = Some v }) d setting.File (to_file v) (some_if _ (record c { attributes = Some v }) d e).1
 value_sets setting.Change c d v e = change_sets c d (change_number v) e
 value_sets setting.Delta c d v e = delta_sets c d (delta_number v) e
-value_sets setting.Overwriting c d v e = absurd cc
-value_sets setting.Baseline c d v e = absurd cc
-value_sets setting.Regression c d v e = absurd cc
+value_sets _ c d v e = absurd cc
 
 sets_at : (o p : Setting) (c d : Command) → Sets c o d → has d p ≡ true → (p ≡ o) ⊎ (has c p ≡ true)
 sets_at _ setting.Project c _ (to_project v) h = inl refl
-sets_at _ setting.File c _ (to_project v) h = inr h
-sets_at _ setting.Change c _ (to_project v) h = inr h
-sets_at _ setting.Delta c _ (to_project v) h = inr h
-sets_at _ setting.Overwriting c _ (to_project v) h = inr h
-sets_at _ setting.Baseline c _ (to_project v) h = inr h
-sets_at _ setting.Regression c _ (to_project v) h = inr h
-sets_at _ setting.Project c _ (to_file v) h = inr h
+sets_at _ _ c _ (to_project v) h = inr h
 sets_at _ setting.File c _ (to_file v) h = inl refl
-sets_at _ setting.Change c _ (to_file v) h = inr h
-sets_at _ setting.Delta c _ (to_file v) h = inr h
-sets_at _ setting.Overwriting c _ (to_file v) h = inr h
-sets_at _ setting.Baseline c _ (to_file v) h = inr h
-sets_at _ setting.Regression c _ (to_file v) h = inr h
-sets_at _ setting.Project c _ (to_change n) h = inr h
-sets_at _ setting.File c _ (to_change n) h = inr h
+sets_at _ _ c _ (to_file v) h = inr h
 sets_at _ setting.Change c _ (to_change n) h = inl refl
-sets_at _ setting.Delta c _ (to_change n) h = inr h
-sets_at _ setting.Overwriting c _ (to_change n) h = inr h
-sets_at _ setting.Baseline c _ (to_change n) h = inr h
-sets_at _ setting.Regression c _ (to_change n) h = inr h
-sets_at _ setting.Project c _ (to_delta n) h = inr h
-sets_at _ setting.File c _ (to_delta n) h = inr h
-sets_at _ setting.Change c _ (to_delta n) h = inr h
+sets_at _ _ c _ (to_change n) h = inr h
 sets_at _ setting.Delta c _ (to_delta n) h = inl refl
-sets_at _ setting.Overwriting c _ (to_delta n) h = inr h
-sets_at _ setting.Baseline c _ (to_delta n) h = inr h
-sets_at _ setting.Regression c _ (to_delta n) h = inr h
+sets_at _ _ c _ (to_delta n) h = inr h
 
-sets_function : (o : Setting) (c d : Command) → Sets c o d → d.function ≡ c.function
-sets_function _ c _ (to_project v) = refl
-sets_function _ c _ (to_file v) = refl
-sets_function _ c _ (to_change n) = refl
-sets_function _ c _ (to_delta n) = refl
+sets_bare : (o : Setting) (c d : Command) → Sets c o d → bare d ≡ bare c
+sets_bare _ c _ (to_project v) = refl
+sets_bare _ c _ _ = refl
 
 sets_flags : (o : Setting) (c d : Command) → Sets c o d → (c.baseline && c.regression) ≡ false → (d.baseline && d.regression) ≡ false
 sets_flags _ c _ (to_project v) h = h
-sets_flags _ c _ (to_file v) h = h
-sets_flags _ c _ (to_change n) h = h
-sets_flags _ c _ (to_delta n) h = h
-
-sets_plain : (r : Row) (o : Setting) (c d : Command) → Sets c o d → are_plain r c ≡ true → are_plain r d ≡ true
-sets_plain rows.NewProject _ c _ (to_project v) h = h
-sets_plain rows.NewProject _ c _ (to_file v) h = h
-sets_plain rows.NewProject _ c _ (to_change n) h = h
-sets_plain rows.NewProject _ c _ (to_delta n) h = h
-sets_plain rows.Users _ c _ (to_project v) h = h
-sets_plain rows.Users _ c _ (to_file v) h = h
-sets_plain rows.Users _ c _ (to_change n) h = h
-sets_plain rows.Users _ c _ (to_delta n) h = h
-sets_plain rows.Copy _ c _ (to_project v) h = h
-sets_plain rows.Copy _ c _ (to_file v) h = h
-sets_plain rows.Copy _ c _ (to_change n) h = h
-sets_plain rows.Copy _ c _ (to_delta n) h = h
-sets_plain rows.Paths _ c _ (to_project v) h = h
-sets_plain rows.Paths _ c _ (to_file v) h = h
-sets_plain rows.Paths _ c _ (to_change n) h = h
-sets_plain rows.Paths _ c _ (to_delta n) h = h
-sets_plain rows.NewTest _ c _ (to_project v) h = h
-sets_plain rows.NewTest _ c _ (to_file v) h = h
-sets_plain rows.NewTest _ c _ (to_change n) h = h
-sets_plain rows.NewTest _ c _ (to_delta n) h = h
-sets_plain rows.Report _ c _ (to_project v) h = h
-sets_plain rows.Report _ c _ (to_file v) h = h
-sets_plain rows.Report _ c _ (to_change n) h = h
-sets_plain rows.Report _ c _ (to_delta n) h = h
-sets_plain rows.Listing _ c _ (to_project v) h = h
-sets_plain rows.Listing _ c _ (to_file v) h = h
-sets_plain rows.Listing _ c _ (to_change n) h = h
-sets_plain rows.Listing _ c _ (to_delta n) h = h
-sets_plain rows.Numbers _ c _ (to_project v) h = h
-sets_plain rows.Numbers _ c _ (to_file v) h = h
-sets_plain rows.Numbers _ c _ (to_change n) h = h
-sets_plain rows.Numbers _ c _ (to_delta n) h = h
-sets_plain rows.Attributes _ c _ (to_project v) h = h
-sets_plain rows.Attributes _ c _ (to_file v) h = h
-sets_plain rows.Attributes _ c _ (to_change n) h = h
-sets_plain rows.Attributes _ c _ (to_delta n) h = h
-sets_plain rows.ChangeAttributes _ c _ (to_project v) h = h
-sets_plain rows.ChangeAttributes _ c _ (to_file v) h = h
-sets_plain rows.ChangeAttributes _ c _ (to_change n) h = h
-sets_plain rows.ChangeAttributes _ c _ (to_delta n) h = h
-sets_plain rows.Change _ c _ (to_project v) h = h
-sets_plain rows.Change _ c _ (to_file v) h = h
-sets_plain rows.Change _ c _ (to_change n) h = h
-sets_plain rows.Change _ c _ (to_delta n) h = h
-sets_plain rows.Test _ c _ (to_project v) h = h
-sets_plain rows.Test _ c _ (to_file v) h = h
-sets_plain rows.Test _ c _ (to_change n) h = h
-sets_plain rows.Test _ c _ (to_delta n) h = h
-sets_plain rows.Nothing _ c _ (to_project v) h = h
-sets_plain rows.Nothing _ c _ (to_file v) h = h
-sets_plain rows.Nothing _ c _ (to_change n) h = h
-sets_plain rows.Nothing _ c _ (to_delta n) h = h
-sets_plain rows.Alone _ c _ (to_project v) h = h
-sets_plain rows.Alone _ c _ (to_file v) h = h
-sets_plain rows.Alone _ c _ (to_change n) h = h
-sets_plain rows.Alone _ c _ (to_delta n) h = h
-
-sets_listing : (o : Setting) (c d : Command) → Sets c o d → d.listing ≡ c.listing
-sets_listing _ c _ (to_project v) = refl
-sets_listing _ c _ (to_file v) = refl
-sets_listing _ c _ (to_change n) = refl
-sets_listing _ c _ (to_delta n) = refl
-
-flag_plain : (r : Row) (o : Setting) (c : Command) → are_plain r c ≡ true → are_plain r (with_flag o c) ≡ true
-flag_plain rows.NewProject setting.Project c h = h
-flag_plain rows.NewProject setting.File c h = h
-flag_plain rows.NewProject setting.Change c h = h
-flag_plain rows.NewProject setting.Delta c h = h
-flag_plain rows.NewProject setting.Overwriting c h = h
-flag_plain rows.NewProject setting.Baseline c h = h
-flag_plain rows.NewProject setting.Regression c h = h
-flag_plain rows.Users setting.Project c h = h
-flag_plain rows.Users setting.File c h = h
-flag_plain rows.Users setting.Change c h = h
-flag_plain rows.Users setting.Delta c h = h
-flag_plain rows.Users setting.Overwriting c h = h
-flag_plain rows.Users setting.Baseline c h = h
-flag_plain rows.Users setting.Regression c h = h
-flag_plain rows.Copy setting.Project c h = h
-flag_plain rows.Copy setting.File c h = h
-flag_plain rows.Copy setting.Change c h = h
-flag_plain rows.Copy setting.Delta c h = h
-flag_plain rows.Copy setting.Overwriting c h = h
-flag_plain rows.Copy setting.Baseline c h = h
-flag_plain rows.Copy setting.Regression c h = h
-flag_plain rows.Paths setting.Project c h = h
-flag_plain rows.Paths setting.File c h = h
-flag_plain rows.Paths setting.Change c h = h
-flag_plain rows.Paths setting.Delta c h = h
-flag_plain rows.Paths setting.Overwriting c h = h
-flag_plain rows.Paths setting.Baseline c h = h
-flag_plain rows.Paths setting.Regression c h = h
-flag_plain rows.NewTest setting.Project c h = h
-flag_plain rows.NewTest setting.File c h = h
-flag_plain rows.NewTest setting.Change c h = h
-flag_plain rows.NewTest setting.Delta c h = h
-flag_plain rows.NewTest setting.Overwriting c h = h
-flag_plain rows.NewTest setting.Baseline c h = h
-flag_plain rows.NewTest setting.Regression c h = h
-flag_plain rows.Report setting.Project c h = h
-flag_plain rows.Report setting.File c h = h
-flag_plain rows.Report setting.Change c h = h
-flag_plain rows.Report setting.Delta c h = h
-flag_plain rows.Report setting.Overwriting c h = h
-flag_plain rows.Report setting.Baseline c h = h
-flag_plain rows.Report setting.Regression c h = h
-flag_plain rows.Listing setting.Project c h = h
-flag_plain rows.Listing setting.File c h = h
-flag_plain rows.Listing setting.Change c h = h
-flag_plain rows.Listing setting.Delta c h = h
-flag_plain rows.Listing setting.Overwriting c h = h
-flag_plain rows.Listing setting.Baseline c h = h
-flag_plain rows.Listing setting.Regression c h = h
-flag_plain rows.Numbers setting.Project c h = h
-flag_plain rows.Numbers setting.File c h = h
-flag_plain rows.Numbers setting.Change c h = h
-flag_plain rows.Numbers setting.Delta c h = h
-flag_plain rows.Numbers setting.Overwriting c h = h
-flag_plain rows.Numbers setting.Baseline c h = h
-flag_plain rows.Numbers setting.Regression c h = h
-flag_plain rows.Attributes setting.Project c h = h
-flag_plain rows.Attributes setting.File c h = h
-flag_plain rows.Attributes setting.Change c h = h
-flag_plain rows.Attributes setting.Delta c h = h
-flag_plain rows.Attributes setting.Overwriting c h = h
-flag_plain rows.Attributes setting.Baseline c h = h
-flag_plain rows.Attributes setting.Regression c h = h
-flag_plain rows.ChangeAttributes setting.Project c h = h
-flag_plain rows.ChangeAttributes setting.File c h = h
-flag_plain rows.ChangeAttributes setting.Change c h = h
-flag_plain rows.ChangeAttributes setting.Delta c h = h
-flag_plain rows.ChangeAttributes setting.Overwriting c h = h
-flag_plain rows.ChangeAttributes setting.Baseline c h = h
-flag_plain rows.ChangeAttributes setting.Regression c h = h
-flag_plain rows.Change setting.Project c h = h
-flag_plain rows.Change setting.File c h = h
-flag_plain rows.Change setting.Change c h = h
-flag_plain rows.Change setting.Delta c h = h
-flag_plain rows.Change setting.Overwriting c h = h
-flag_plain rows.Change setting.Baseline c h = h
-flag_plain rows.Change setting.Regression c h = h
-flag_plain rows.Test setting.Project c h = h
-flag_plain rows.Test setting.File c h = h
-flag_plain rows.Test setting.Change c h = h
-flag_plain rows.Test setting.Delta c h = h
-flag_plain rows.Test setting.Overwriting c h = h
-flag_plain rows.Test setting.Baseline c h = h
-flag_plain rows.Test setting.Regression c h = h
-flag_plain rows.Nothing setting.Project c h = h
-flag_plain rows.Nothing setting.File c h = h
-flag_plain rows.Nothing setting.Change c h = h
-flag_plain rows.Nothing setting.Delta c h = h
-flag_plain rows.Nothing setting.Overwriting c h = h
-flag_plain rows.Nothing setting.Baseline c h = h
-flag_plain rows.Nothing setting.Regression c h = h
-flag_plain rows.Alone setting.Project c h = h
-flag_plain rows.Alone setting.File c h = h
-flag_plain rows.Alone setting.Change c h = h
-flag_plain rows.Alone setting.Delta c h = h
-flag_plain rows.Alone setting.Overwriting c h = h
-flag_plain rows.Alone setting.Baseline c h = h
-flag_plain rows.Alone setting.Regression c h = h
-
-flag_listing : (o : Setting) (c : Command) → (with_flag o c).listing ≡ c.listing
-flag_listing setting.Project c = refl
-flag_listing setting.File c = refl
-flag_listing setting.Change c = refl
-flag_listing setting.Delta c = refl
-flag_listing setting.Overwriting c = refl
-flag_listing setting.Baseline c = refl
-flag_listing setting.Regression c = refl
+sets_flags _ c _ _ h = h
 
 not_both : (b r : Bool) → not (b || r) ≡ true → (b ≡ false) × (r ≡ false)
 not_both true r h = absurd cc
@@ -410,11 +170,7 @@ not_both false false h = (refl, refl)
 one_flag : (o : Setting) (c : Command) → is_free c o ≡ true → (c.baseline && c.regression) ≡ false → ((with_flag o c).baseline && (with_flag o c).regression) ≡ false
 one_flag setting.Baseline c f h = (not_both c.baseline c.regression f).1
 one_flag setting.Regression c f h = rw (not_both c.baseline c.regression f).0 refl
-one_flag setting.Project c f h = h
-one_flag setting.File c f h = h
-one_flag setting.Change c f h = h
-one_flag setting.Delta c f h = h
-one_flag setting.Overwriting c f h = h
+one_flag _ c f h = h
 
 -- ---- plain words are good
 
@@ -433,7 +189,7 @@ all_more : (p : List ℕ → Bool) (xs : List (List ℕ)) (x : List ℕ) → lis
 all_more p [] x h k = rw k refl
 all_more p (y ∷ ys) x h k = let hs = and_parts (p y) (list_all p ys) h in rw (hs.0, all_more p ys x hs.1 k) refl
 
-few_more : (xs : List (List ℕ)) (x : List ℕ) → nat_le 1000 (length xs) ≡ false → nat_le (length (xs ++ x ∷ [])) 1000 ≡ true
+few_more : (xs : List (List ℕ)) (x : List ℕ) → nat_le most (length xs) ≡ false → nat_le (length (xs ++ x ∷ [])) most ≡ true
 few_more xs x h = rw (length-append xs (x ∷ [])) (grind (arith, nat_tests))
 
 second : (a b c d e : Bool) → (a && b && c && d && e) ≡ true → b ≡ true
@@ -447,19 +203,19 @@ third true true false d e h = absurd cc
 third true false c d e h = absurd cc
 third false b c d e h = absurd cc
 
-users_more : (us : List (List ℕ)) (w : List ℕ) → are_users us ≡ true → (not (nat_le 1000 (length us)) && is_user w) ≡ true → are_users (us ++ w ∷ []) ≡ true
+users_more : (us : List (List ℕ)) (w : List ℕ) → are_users us ≡ true → (not (nat_le most (length us)) && is_user w) ≡ true → are_users (us ++ w ∷ []) ≡ true
 users_more us w h k =
-    let a = and_parts (list_all is_user us) (nat_le (length us) 1000) h in
-    let b = and_parts (not (nat_le 1000 (length us))) (is_user w) k in
-    rw (all_more is_user us w a.0 b.1, few_more us w (not-true (nat_le 1000 (length us)) b.0)) refl
+    let a = and_parts (list_all is_user us) (nat_le (length us) most) h in
+    let b = and_parts (not (nat_le most (length us))) (is_user w) k in
+    rw (all_more is_user us w a.0 b.1, few_more us w (not-true (nat_le most (length us)) b.0)) refl
 
-paths_more : (ps : List (List ℕ)) (w : List ℕ) → are_paths ps ≡ true → (not (nat_le 1000 (length ps)) && is_path w) ≡ true → are_paths (ps ++ w ∷ []) ≡ true
+paths_more : (ps : List (List ℕ)) (w : List ℕ) → are_paths ps ≡ true → (not (nat_le most (length ps)) && is_path w) ≡ true → are_paths (ps ++ w ∷ []) ≡ true
 paths_more ps w h k =
-    let a = and_parts (list_all is_path ps) (nat_le (length ps) 1000) h in
-    let b = and_parts (not (nat_le 1000 (length ps))) (is_path w) k in
-    rw (all_more is_path ps w a.0 b.1, few_more ps w (not-true (nat_le 1000 (length ps)) b.0)) refl
+    let a = and_parts (list_all is_path ps) (nat_le (length ps) most) h in
+    let b = and_parts (not (nat_le most (length ps))) (is_path w) k in
+    rw (all_more is_path ps w a.0 b.1, few_more ps w (not-true (nat_le most (length ps)) b.0)) refl
 
-tests_more : (ps : List (List ℕ)) (w : List ℕ) → are_tests ps ≡ true → is_no_config w ≡ true → (not (nat_le 1000 (length ps)) && is_path w) ≡ true → are_tests (ps ++ w ∷ []) ≡ true
+tests_more : (ps : List (List ℕ)) (w : List ℕ) → are_tests ps ≡ true → is_no_config w ≡ true → (not (nat_le most (length ps)) && is_path w) ≡ true → are_tests (ps ++ w ∷ []) ≡ true
 tests_more ps w h n k =
     let a = and_parts (list_all is_no_config ps) (are_paths ps) h in
     rw (all_more is_no_config ps w a.0 n, paths_more ps w a.1 k) refl
@@ -485,9 +241,9 @@ within most low high (b ∷ bs) n e = one (nat_le (length (b ∷ bs)) most) e
     one false e = absurd cc
 
 numbers_more : (ns : List ℕ) (w : List ℕ) (n : ℕ) → are_numbers ns ≡ true → next_number (length ns) w ≡ Some n → are_numbers (ns ++ n ∷ []) ≡ true
-numbers_more [] w n h e = (and_parts (nat_le 0 n) (nat_le n 18446744073709551615) (within 20 0 18446744073709551615 w n e)).1
-numbers_more (s ∷ []) w n h e = let r = and_parts (nat_le 1 n) (nat_le n 200) (within 20 1 200 w n e) in rw (h, r.0, r.1) refl
-numbers_more (s ∷ m ∷ []) w n h e = let r = and_parts (nat_le 1 n) (nat_le n 99) (within 20 1 99 w n e) in rw (h, r.0, r.1) refl
+numbers_more [] w n h e = (and_parts (nat_le 0 n) (nat_le n last_start) (within most_digits 0 last_start w n e)).1
+numbers_more (s ∷ []) w n h e = let r = and_parts (nat_le 1 n) (nat_le n most_generated_changes) (within most_digits 1 most_generated_changes w n e) in rw (h, r.0, r.1) refl
+numbers_more (s ∷ m ∷ []) w n h e = let r = and_parts (nat_le 1 n) (nat_le n most_generated_files) (within most_digits 1 most_generated_files w n e) in rw (h, r.0, r.1) refl
 numbers_more (s ∷ m ∷ f ∷ []) w n h e = absurd cc
 numbers_more (s ∷ m ∷ f ∷ x ∷ xs) w n h e = absurd cc
 
@@ -522,7 +278,7 @@ one_path_plain : (c d : Command) (w : List ℕ) → with_one_path c w ≡ Some d
 one_path_plain c d w e h =
     let t = else_none (is_empty c.paths) (with_path c w) d e in
     let made = some_if _ (record c { paths = c.paths ++ w ∷ [] }) d t.1 in
-    let good = first_path c.paths w t.0 (and_parts (not (nat_le 1000 (length c.paths))) (is_path w) made.0).1 in
+    let good = first_path c.paths w t.0 (and_parts (not (nat_le most (length c.paths))) (is_path w) made.0).1 in
     subst (λ (x : Command). are_plain rows.Report x ≡ true) made.1
     (swap_third (is_none c.name) (is_empty c.users) (is_path_at_most c.paths) (is_path_at_most (c.paths ++ w ∷ [])) (is_none c.listing) (is_empty c.numbers) h good)
 
@@ -547,12 +303,7 @@ plain_plain rows.NewTest c d w e h = tests_plain c d w e h
 plain_plain rows.Report c d w e h = one_path_plain c d w e h
 plain_plain rows.Listing c d w e h = listed_plain c d (listing_named w) (none_if _ (listed c (listing_named w)) d e).1 h
 plain_plain rows.Numbers c d w e h = numbered_plain c d w (next_number (length c.numbers) w) refl e h
-plain_plain rows.Attributes c d w e h = absurd cc
-plain_plain rows.ChangeAttributes c d w e h = absurd cc
-plain_plain rows.Change c d w e h = absurd cc
-plain_plain rows.Test c d w e h = absurd cc
-plain_plain rows.Nothing c d w e h = absurd cc
-plain_plain rows.Alone c d w e h = absurd cc
+plain_plain _ c d w e h = absurd cc
 
 -- ---- what holds of the command so far
 
@@ -578,8 +329,8 @@ plain_so_far l c d w e h =
 
 option_so_far : (l : Option Listing) (c d : Command) (o : Setting) → allows c.function l o ≡ true → Sets c o d → IsSoFar l c → IsSoFar l d
 option_so_far l c d o a s h = record {
-  options = (allowed_more l c d o a (λ p there. sets_at o p c d s there, sets_function o c d s) h.options.0, sets_flags o c d s h.options.1);
-  plain = subst (λ (f : Function). are_plain (row f) d ≡ true) (sym (sets_function o c d s)) (sets_plain (row c.function) o c d s h.plain);
+  options = (allowed_more l c d o a (λ p there. sets_at o p c d s there, bare_function c d (sets_bare o c d s)) h.options.0, sets_flags o c d s h.options.1);
+  plain = subst (λ (f : Function). are_plain (row f) d ≡ true) (sym (bare_function c d (sets_bare o c d s))) (bare_plain (row c.function) c d (sets_bare o c d s) h.plain);
 }
 
 flag_so_far : (l : Option Listing) (c : Command) (o : Setting) → may_come l c o ≡ true → IsSoFar l c → IsSoFar l (with_flag o c)
@@ -587,7 +338,7 @@ flag_so_far l c o m h =
     let b = and_parts (allows c.function l o) (is_free c o) m in
     record {
       options = (allowed_more l c (with_flag o c) o b.0 (flag_adds o c) h.options.0, one_flag o c b.1 h.options.1);
-      plain = subst (λ (f : Function). are_plain (row f) (with_flag o c) ≡ true) (sym (flag_function o c)) (flag_plain (row c.function) o c h.plain);
+      plain = subst (λ (f : Function). are_plain (row f) (with_flag o c) ≡ true) (sym (bare_function c (with_flag o c) (flag_bare o c))) (bare_plain (row c.function) c (with_flag o c) (flag_bare o c) h.plain);
     }
 
 step_so_far : (l : Option Listing) (c d : Command) (i : Item) → step l c i ≡ Ok d → IsSoFar l c → IsSoFar l d
@@ -606,29 +357,12 @@ step_so_far l c d (a_wrong at) e h = absurd cc
 blank_plain : (r : Row) (f : Function) → are_plain r (blank f) ≡ true
 unfolding blank
 blank_plain rows.NewProject f = refl
-blank_plain rows.Users f = refl
-blank_plain rows.Copy f = refl
-blank_plain rows.Paths f = refl
-blank_plain rows.NewTest f = refl
-blank_plain rows.Report f = refl
-blank_plain rows.Listing f = refl
-blank_plain rows.Numbers f = refl
-blank_plain rows.Attributes f = refl
-blank_plain rows.ChangeAttributes f = refl
-blank_plain rows.Change f = refl
-blank_plain rows.Test f = refl
-blank_plain rows.Nothing f = refl
-blank_plain rows.Alone f = refl
+blank_plain _ f = refl
 
 blank_has_none : (f : Function) (o : Setting) → has (blank f) o ≡ true → ⊥
 unfolding blank
 blank_has_none f setting.Project h = cc
-blank_has_none f setting.File h = cc
-blank_has_none f setting.Change h = cc
-blank_has_none f setting.Delta h = cc
-blank_has_none f setting.Overwriting h = cc
-blank_has_none f setting.Baseline h = cc
-blank_has_none f setting.Regression h = cc
+blank_has_none f _ h = cc
 
 blank_so_far : (l : Option Listing) (f : Function) → IsSoFar l (blank f)
 unfolding blank
@@ -664,10 +398,10 @@ plain_listing l c d at w is e (inr h) =
     let there : is_some c.listing ≡ true = rw h.1 refl in
     absurd cc
 
-as_before : (l : Option Listing) (c d : Command) (is : List Item) → d.function ≡ c.function → d.listing ≡ c.listing → IsListing l c is → IsListing l d is
-as_before l c d is f s h r =
-    let k = h (subst (λ (x : Function). row x ≡ rows.Listing) f r) in
-    subst (λ (y : Option Listing). ((y ≡ None) × (listing is ≡ l)) ⊎ ((x : Listing) × (y ≡ Some x) × (l ≡ Some x))) (sym s) k
+as_before : (l : Option Listing) (c d : Command) (is : List Item) → bare d ≡ bare c → IsListing l c is → IsListing l d is
+as_before l c d is same h r =
+    let k = h (subst (λ (x : Function). row x ≡ rows.Listing) (bare_function c d same) r) in
+    subst (λ (y : Option Listing). ((y ≡ None) × (listing is ≡ l)) ⊎ ((x : Listing) × (y ≡ Some x) × (l ≡ Some x))) (sym (bare_listing c d same)) k
 
 step_listing : (l : Option Listing) (c d : Command) (i : Item) (is : List Item) → step l c i ≡ Ok d → IsListing l c (i ∷ is) → IsListing l d is
 unfolding step
@@ -680,11 +414,11 @@ step_listing l c d (a_plain at w) is e h = λ (r : row d.function ≡ rows.Listi
 step_listing l c d (a_flag at o) is e h =
     let k = ok_if (may_come l c o) at (Ok (with_flag o c)) d e in
     let same : with_flag o c ≡ d = cc in
-    subst (λ (x : Command). IsListing l x is) same (as_before l c (with_flag o c) is (flag_function o c) (flag_listing o c) h)
+    subst (λ (x : Command). IsListing l x is) same (as_before l c (with_flag o c) is (flag_bare o c) h)
 step_listing l c d (an_option at o v_at v) is e h =
     let k = ok_if (may_come l c o) at (or_bad v_at (with_value o c v)) d e in
     let s = value_sets o c d v (ok_some v_at (with_value o c v) d k.1) in
-    as_before l c d is (sets_function o c d s) (sets_listing o c d s) h
+    as_before l c d is (sets_bare o c d s) h
 step_listing l c d (a_wrong at) is e h = absurd cc
 
 reads_listing : (l : Option Listing) (c d : Command) (is : List Item) → reads l c is ≡ Ok d → IsListing l c is → IsListing l d []
@@ -702,10 +436,10 @@ step_function l c d (a_plain at w) e = function_kept c d (plain_makes (row c.fun
 step_function l c d (a_flag at o) e =
     let k = ok_if (may_come l c o) at (Ok (with_flag o c)) d e in
     let same : with_flag o c ≡ d = cc in
-    subst (λ (x : Command). x.function ≡ c.function) same (flag_function o c)
+    subst (λ (x : Command). x.function ≡ c.function) same (bare_function c (with_flag o c) (flag_bare o c))
 step_function l c d (an_option at o v_at v) e =
     let k = ok_if (may_come l c o) at (or_bad v_at (with_value o c v)) d e in
-    sets_function o c d (value_sets o c d v (ok_some v_at (with_value o c v) d k.1))
+    bare_function c d (sets_bare o c d (value_sets o c d v (ok_some v_at (with_value o c v) d k.1)))
 step_function l c d (a_wrong at) e = absurd cc
 
 reads_function : (l : Option Listing) (c d : Command) (is : List Item) → reads l c is ≡ Ok d → d.function ≡ c.function
@@ -722,29 +456,12 @@ unfolding blank
 function_read l f c is e = sym (reads_function l (blank f) c is e)
 
 allows_change_same : (r : Row) (l m : Option Listing) → (r ≡ rows.Listing → l ≡ m) → allows_change r l ≡ allows_change r m
-allows_change_same rows.NewProject l m h = refl
-allows_change_same rows.Users l m h = refl
-allows_change_same rows.Copy l m h = refl
-allows_change_same rows.Paths l m h = refl
-allows_change_same rows.NewTest l m h = refl
-allows_change_same rows.Report l m h = refl
 allows_change_same rows.Listing l m h = ap may_take_change (h refl)
-allows_change_same rows.Numbers l m h = refl
-allows_change_same rows.Attributes l m h = refl
-allows_change_same rows.ChangeAttributes l m h = refl
-allows_change_same rows.Change l m h = refl
-allows_change_same rows.Test l m h = refl
-allows_change_same rows.Nothing l m h = refl
-allows_change_same rows.Alone l m h = refl
+allows_change_same _ l m h = refl
 
 allows_same : (f : Function) (l m : Option Listing) (o : Setting) → (row f ≡ rows.Listing → l ≡ m) → allows f l o ≡ allows f m o
-allows_same f l m setting.Project h = refl
-allows_same f l m setting.File h = refl
 allows_same f l m setting.Change h = allows_change_same (row f) l m h
-allows_same f l m setting.Delta h = refl
-allows_same f l m setting.Overwriting h = refl
-allows_same f l m setting.Baseline h = refl
-allows_same f l m setting.Regression h = refl
+allows_same f l m _ h = refl
 
 pub whole_plain : (c : Command) → is_whole c ≡ true → has_plain (row c.function) c ≡ true
 unfolding is_whole

@@ -2,11 +2,12 @@
 use Rattle.std.proofs.Common.{◌≡◌, ℕ, true, not, nat_le, List, [], ◌∷◌, ◌++◌, Option, Some, None, Result, Ok, Err, refl, subst, length, is_some}
 use Rattle.std.proofs.lemmas.Bool.{and_parts}
 use Rattle.ae_base.specs.Names.{is_project_name}
+use Rattle.ae_base.specs.Limits.{most_deltas}
 use Rattle.ae_base.specs.Numbers.{change_number, delta_number}
 use Rattle.ae_words.specs.Items.{Item, a_plain, a_flag, an_option, a_wrong, listing_named}
 use Rattle.ae_words.specs.Meaning.{step, or_bad, may_come, with_plain, with_path, listed, numbered, next_number, with_flag, with_value, with_change, with_delta, blank}
 use Rattle.ae_words.specs.Table.{row}
-use Rattle.ae_words.specs.Formed.{AreKinds}
+use Rattle.ae_words.specs.Formed.{first_change, last_change, AreKinds}
 use Rattle.ae_words.specs.Grammar.{reads, then_read}
 use Rattle.ae_words.specs.declared.command.Command.{Command}
 use Rattle.ae_words.specs.declared.table.Function.{Function}
@@ -54,12 +55,7 @@ plain_kinds rows.NewTest c d w e h = path_kinds c d w (none_if _ (with_path c w)
 plain_kinds rows.Report c d w e h = path_kinds c d w (else_none _ (with_path c w) d e).1 h
 plain_kinds rows.Listing c d w e h = listed_kinds c d (listing_named w) (none_if _ (listed c (listing_named w)) d e).1 h
 plain_kinds rows.Numbers c d w e h = numbered_kinds c d (next_number (length c.numbers) w) e h
-plain_kinds rows.Attributes c d w e h = absurd cc
-plain_kinds rows.ChangeAttributes c d w e h = absurd cc
-plain_kinds rows.Change c d w e h = absurd cc
-plain_kinds rows.Test c d w e h = absurd cc
-plain_kinds rows.Nothing c d w e h = absurd cc
-plain_kinds rows.Alone c d w e h = absurd cc
+plain_kinds _ c d w e h = absurd cc
 
 -- ---- options
 
@@ -67,13 +63,13 @@ change_kinds : (c d : Command) (v : List ℕ) (o : Option ℕ) → change_number
 change_kinds c d v None n e h = absurd cc
 change_kinds c d v (Some x) n e h =
     let same : record c { change = Some x } ≡ d = cc in
-    along (record c { change = Some x }) d same (record { project = h.project; change = within 10 10 1999 v x n; attributes = h.attributes; delta = h.delta; name = h.name })
+    along (record c { change = Some x }) d same (record { project = h.project; change = within 10 first_change last_change v x n; attributes = h.attributes; delta = h.delta; name = h.name })
 
 delta_kinds : (c d : Command) (v : List ℕ) (o : Option ℕ) → delta_number v ≡ o → with_delta c o ≡ Some d → AreKinds c → AreKinds d
 delta_kinds c d v None n e h = absurd cc
 delta_kinds c d v (Some x) n e h =
     let same : record c { delta = Some x } ≡ d = cc in
-    let low : nat_le x 1990 ≡ true = (and_parts (nat_le 0 x) (nat_le x 1990) (within 10 0 1990 v x n)).1 in
+    let low : nat_le x most_deltas ≡ true = (and_parts (nat_le 0 x) (nat_le x most_deltas) (within 10 0 most_deltas v x n)).1 in
     along (record c { delta = Some x }) d same (record { project = h.project; change = h.change; attributes = h.attributes; delta = low; name = h.name })
 
 value_kinds : (o : Setting) (c d : Command) (v : List ℕ) → with_value o c v ≡ Some d → AreKinds c → AreKinds d
@@ -85,18 +81,11 @@ value_kinds setting.File c d v e h =
     along (record c { attributes = Some v }) d k.1 (record { project = h.project; change = h.change; attributes = k.0; delta = h.delta; name = h.name })
 value_kinds setting.Change c d v e h = change_kinds c d v (change_number v) refl e h
 value_kinds setting.Delta c d v e h = delta_kinds c d v (delta_number v) refl e h
-value_kinds setting.Overwriting c d v e h = absurd cc
-value_kinds setting.Baseline c d v e h = absurd cc
-value_kinds setting.Regression c d v e h = absurd cc
+value_kinds _ c d v e h = absurd cc
 
 flag_kinds : (o : Setting) (c : Command) → AreKinds c → AreKinds (with_flag o c)
 flag_kinds setting.Overwriting c h = record { project = h.project; change = h.change; attributes = h.attributes; delta = h.delta; name = h.name }
-flag_kinds setting.Baseline c h = record { project = h.project; change = h.change; attributes = h.attributes; delta = h.delta; name = h.name }
-flag_kinds setting.Regression c h = record { project = h.project; change = h.change; attributes = h.attributes; delta = h.delta; name = h.name }
-flag_kinds setting.Project c h = h
-flag_kinds setting.File c h = h
-flag_kinds setting.Change c h = h
-flag_kinds setting.Delta c h = h
+flag_kinds _ c h = record { project = h.project; change = h.change; attributes = h.attributes; delta = h.delta; name = h.name }
 
 -- ---- items
 

@@ -5,9 +5,13 @@ use Rattle.ae_words.specs.declared.command.Command.{Command}
 use Rattle.ae_words.specs.declared.read.WordsError.{WordsError}
 use Rattle.ae_words.specs.declared.read.WordsError.TheVariants as error
 
--- a place above 4,294,967,295 is told as that
+-- the last place that is told
+abbrev pub last_place : ℕ
+last_place = 4294967295
+
+-- a place past it is told as that
 abbrev pub told : ℕ → ℕ
-told place = if nat_le place 4294967295 then place else 4294967295
+told place = if nat_le place last_place then place else last_place
 
 -- a command only where the words are that command, a place only where it is the first bad one
 abbrev pub IsAnswer : List (List ℕ) → Result Command WordsError → Type 0

@@ -6,7 +6,7 @@ use Rattle.ae_base.specs.Limits.{most_deltas}
 use Rattle.ae_words.specs.Spelling.{is_empty}
 use Rattle.ae_base.specs.Names.{is_user, is_project_name, is_path}
 use Rattle.ae_words.specs.Table.{row, allows}
-use Rattle.ae_words.specs.Meaning.{is_config, is_whole}
+use Rattle.ae_words.specs.Meaning.{most, last_start, most_generated_changes, most_generated_files, is_config, is_whole}
 use Rattle.ae_words.specs.declared.command.Command.{Command}
 use Rattle.ae_words.specs.declared.table.Listing.{Listing}
 use Rattle.ae_words.specs.declared.table.Setting.{Setting}
@@ -34,11 +34,11 @@ is_no_config p = not (is_config p)
 
 -- at most 1,000 users
 abbrev pub are_users : List (List ℕ) → Bool
-are_users us = list_all is_user us && nat_le (length us) 1000
+are_users us = list_all is_user us && nat_le (length us) most
 
 -- at most 1,000 paths
 abbrev pub are_paths : List (List ℕ) → Bool
-are_paths ps = list_all is_path ps && nat_le (length ps) 1000
+are_paths ps = list_all is_path ps && nat_le (length ps) most
 
 -- at most 1,000 paths that may be tests
 abbrev pub are_tests : List (List ℕ) → Bool
@@ -53,9 +53,10 @@ is_path_at_most (p ∷ q ∷ ps) = false
 -- the start, the number of changes and the number of files, as far as they are there
 abbrev pub are_numbers : List ℕ → Bool
 are_numbers [] = true
-are_numbers (s ∷ []) = nat_le s 18446744073709551615
-are_numbers (s ∷ n ∷ []) = nat_le s 18446744073709551615 && nat_le 1 n && nat_le n 200
-are_numbers (s ∷ n ∷ f ∷ []) = nat_le s 18446744073709551615 && nat_le 1 n && nat_le n 200 && nat_le 1 f && nat_le f 99
+are_numbers (s ∷ []) = nat_le s last_start
+are_numbers (s ∷ n ∷ []) = nat_le s last_start && nat_le 1 n && nat_le n most_generated_changes
+are_numbers (s ∷ n ∷ f ∷ []) =
+    nat_le s last_start && nat_le 1 n && nat_le n most_generated_changes && nat_le 1 f && nat_le f most_generated_files
 are_numbers (s ∷ n ∷ f ∷ x ∷ xs) = false
 
 -- plain words stand where the row has them, and nowhere else
@@ -80,9 +81,16 @@ abbrev pub fits : {A : Type 0} → (A → Bool) → Option A → Bool
 fits test None = true
 fits test (Some x) = test x
 
+-- the numbers of a project's changes begin and end with these
+abbrev pub first_change : ℕ
+first_change = 10
+
+abbrev pub last_change : ℕ
+last_change = 1999
+
 -- 10 to 1999
 abbrev pub is_change_number : ℕ → Bool
-is_change_number n = nat_le 10 n && nat_le n 1999
+is_change_number n = nat_le first_change n && nat_le n last_change
 
 -- 0 to 1990
 abbrev pub is_delta_number : ℕ → Bool

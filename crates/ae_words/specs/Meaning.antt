@@ -22,6 +22,22 @@ blank f = record { function = f; project = None; change = None; attributes = Non
 abbrev pub most : ℕ
 most = 1000
 
+-- so many digits may write a number of the generator
+abbrev pub most_digits : ℕ
+most_digits = 20
+
+-- up to this number it may start
+abbrev pub last_start : ℕ
+last_start = 18446744073709551615
+
+-- so many changes it may make
+abbrev pub most_generated_changes : ℕ
+most_generated_changes = 200
+
+-- and so many files of each
+abbrev pub most_generated_files : ℕ
+most_generated_files = 99
+
 -- ---- plain words
 
 -- a project's name, once
@@ -60,9 +76,9 @@ with_listing c w = if is_some c.listing then None else listed c (listing_named w
 -- the number that a word writes after so many: the start, the number of changes, the number of files
 abbrev pub next_number : ℕ → List ℕ → Option ℕ
 next_number n w =
-    if n == 0 then number_within 20 0 18446744073709551615 w
-    else if n == 1 then number_within 20 1 200 w
-    else if n == 2 then number_within 20 1 99 w
+    if n == 0 then number_within most_digits 0 last_start w
+    else if n == 1 then number_within most_digits 1 most_generated_changes w
+    else if n == 2 then number_within most_digits 1 most_generated_files w
     else None
 
 -- the command with the number after those before, if there is one

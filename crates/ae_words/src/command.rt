@@ -62,6 +62,15 @@ impl From<AllocError> for Stop {
 /// More users or paths are too many.
 const MOST: usize = 1000;
 
+/// A number has at most so many digits.
+const MOST_DIGITS: usize = 20;
+
+/// More changes aren't generated.
+const MOST_GENERATED_CHANGES: u64 = 200;
+
+/// More files of a change aren't generated.
+const MOST_GENERATED_FILES: u64 = 99;
+
 #[tactic(auto, unfolding(crate::specs::Meaning::blank))]
 fn blank(alloc: Global, function: Function) -> Command
     ensures { result ≡ blank function }
@@ -327,11 +336,11 @@ fn next_number(before: usize, word: &[u8]) -> Option<u64>
     ensures { result ≡ next_number before word.now }
 {
     if before == 0 {
-        read_number(20, 0, u64::MAX, word)
+        read_number(MOST_DIGITS, 0, u64::MAX, word)
     } else if before == 1 {
-        read_number(20, 1, 200, word)
+        read_number(MOST_DIGITS, 1, MOST_GENERATED_CHANGES, word)
     } else if before == 2 {
-        read_number(20, 1, 99, word)
+        read_number(MOST_DIGITS, 1, MOST_GENERATED_FILES, word)
     } else {
         None
     }

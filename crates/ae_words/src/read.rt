@@ -18,13 +18,16 @@ pub enum WordsError {
     Memory,
 }
 
+/// A place past it is told as this one.
+const LAST_PLACE: usize = 4_294_967_295;
+
 fn told(place: usize) -> u32
     ensures { result ≡ told place }
 {
-    if place <= 4_294_967_295 {
+    if place <= LAST_PLACE {
         place as u32
     } else {
-        4_294_967_295
+        LAST_PLACE as u32
     }
 }
 
