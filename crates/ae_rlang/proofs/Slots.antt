@@ -8,16 +8,16 @@ use Rattle.ae_rlang.specs.declared.operand.Bound.{Bound}
 use Rattle.ae_rlang.specs.declared.statement.Block.{Block}
 use Rattle.ae_rlang.specs.declared.statement.State.{State}
 use Rattle.ae_rlang.specs.declared.statement.Stop.{Stop}
-use Rattle.ae_rlang.specs.Steps.{Gives, blocks_seen, scope_seen}
+use Rattle.ae_rlang.specs.Steps.{Gives, blocks_seen}
 
 pub blocks_length : (bs : List Block) → length (blocks_seen bs) ≡ length bs
 blocks_length bs = grind (arith, common_steps)
 
 -- the turn of a token, where the names that are bound and the level were looked up before
 pub same_turn : (totals : List (List ℕ)) (around : Around) (bound : List Bound) (level : ℕ) (groups : List Group) (ps : List Pending) (point : Point) (p : Lexeme) (t : Turn)
-    → bound ≡ around.bound → length around.blocks ≡ level → turn (scope_seen totals bound) level groups ps point p ≡ t → turn (scope_at totals around) (length around.blocks) groups ps point p ≡ t
+    → bound ≡ around.bound → length around.blocks ≡ level → turn (record { totals = totals; bound = bound }) level groups ps point p ≡ t → turn (scope_at totals around) (length around.blocks) groups ps point p ≡ t
 same_turn totals around bound level groups ps point p t names deep e =
-    ap (λ (n : ℕ). turn (scope_at totals around) n groups ps point p) deep ∙ ap (λ (b : List Bound). turn (scope_seen totals b) level groups ps point p) (sym names) ∙ e
+    ap (λ (n : ℕ). turn (scope_at totals around) n groups ps point p) deep ∙ ap (λ (b : List Bound). turn (record { totals = totals; bound = b }) level groups ps point p) (sym names) ∙ e
 
 pub goes_on : (around : Around) (slot : Slot) (p : Lexeme) (t : Turn) (gs : List Group) (ws : List Pending) (pt : Point) (r : Result State Stop)
     → t ≡ goes gs ws pt → Gives r (moved around (in_expression slot gs ws pt)) → Gives r (turned around slot p t)

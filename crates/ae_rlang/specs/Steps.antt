@@ -1,5 +1,5 @@
 -- The reader's values as those of the definitions.
-use Rattle.std.specs.Prelude.{◌≡◌, ℕ, List, map, reverse, Result, Ok, Err, Option, Some, None, option_map}
+use Rattle.std.specs.Prelude.{◌≡◌, List, map, reverse, Result, Ok, Err, Option, Some, None, option_map}
 use Rattle.ae_rlang.specs.View.{meaning, cells_seen, deeds_seen}
 use Rattle.ae_rlang.specs.Token as tokens
 use Rattle.ae_rlang.specs.Scope as scope
@@ -8,7 +8,7 @@ use Rattle.ae_rlang.specs.Machine as spec
 use Rattle.ae_rlang.specs.declared.token.Token.{Token}
 use Rattle.ae_rlang.specs.declared.token.Token.TheVariants as token_is
 use Rattle.ae_rlang.specs.declared.token.Lexeme.{Lexeme}
-use Rattle.ae_rlang.specs.declared.operand.Bound.{Bound}
+use Rattle.ae_rlang.specs.declared.operand.Scope.{Scope}
 use Rattle.ae_rlang.specs.declared.operand.Operand.{Operand}
 use Rattle.ae_rlang.specs.declared.expression.Pending.{Pending}
 use Rattle.ae_rlang.specs.declared.expression.Pending.TheVariants as pending_is
@@ -43,8 +43,8 @@ lexeme_of p = record { line = p.line; token = token_of p.token }
 abbrev pub lexemes_seen : List Lexeme → List tokens.Lexeme
 lexemes_seen ps = map lexeme_of ps
 
-abbrev pub scope_seen : List (List ℕ) → List Bound → scope.Scope
-scope_seen totals bound = record { totals = totals; bound = bound }
+abbrev pub scope_seen : Scope → scope.Scope
+scope_seen s = record { totals = s.totals.now; bound = s.bound.now }
 
 abbrev pub value_seen : Operand → values.Value
 value_seen v = record { node = meaning v.expr; kind = v.kind; bad = v.bad }
@@ -89,7 +89,7 @@ blocks_seen bs = reverse (map block_seen bs)
 abbrev pub slot_seen : Slot → spec.Slot
 slot_seen (slot_is.Cell cells line) = spec.for_cell (cells_seen cells.items) line
 slot_seen (slot_is.Total line name) = spec.for_total line name
-slot_seen (slot_is.Test name table line word_line) = spec.for_test name table line word_line
+slot_seen (slot_is.Test head word_line) = spec.for_test head.name head.table head.bad word_line
 slot_seen (slot_is.Choice line) = spec.for_choice line
 
 abbrev pub place_seen : Place → spec.Place
@@ -99,11 +99,11 @@ place_seen (place_is.AtTitleEnd text) = spec.at_title_end text
 place_seen (place_is.AtTotalName line) = spec.at_total_name line
 place_seen (place_is.AtTotalEquals line name) = spec.at_total_equals line name
 place_seen (place_is.AtForName line) = spec.at_for_name line
-place_seen (place_is.AtIn line name_line name) = spec.at_in line name_line name
-place_seen (place_is.AtTable line name_line name) = spec.at_table line name_line name
-place_seen (place_is.AtWhere name table line) = spec.at_where name table line
-place_seen (place_is.InExpression slot groups pendings point) =
-    spec.in_expression (slot_seen slot) (groups_seen groups.items) (pendings_seen pendings.items) (point_seen point)
+place_seen (place_is.AtIn front) = spec.at_in front.line front.name_line front.name
+place_seen (place_is.AtTable front) = spec.at_table front.line front.name_line front.name
+place_seen (place_is.AtWhere head) = spec.at_where head.name head.table head.bad
+place_seen (place_is.InExpression r) =
+    spec.in_expression (slot_seen r.slot) (groups_seen r.groups.items) (pendings_seen r.pendings.items) (point_seen r.point)
 place_seen (place_is.AtWidth cells line v) = spec.at_width (cells_seen cells.items) line (value_seen v)
 place_seen (place_is.AtRight cells line v width) = spec.at_right (cells_seen cells.items) line (value_seen v) width
 place_seen (place_is.AtComma cells line) = spec.at_comma (cells_seen cells.items) line

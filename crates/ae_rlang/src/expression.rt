@@ -4,12 +4,12 @@ ghost use Rattle.ae_rlang.specs.Operator.{left_binds};
 ghost use Rattle.ae_rlang.specs.Bad.{max_level};
 ghost use Rattle.ae_rlang.specs.Values.{within_where};
 ghost use Rattle.ae_rlang.specs.Machine.{pending_binds, wanted, taken, reduced, whole, timed_where, closed_value, level_in, is_close, token_operator, operator_turn, behind_turn, having_turn, no, waiting_turn, is_dot, named_turn, dotted_turn, timing_turn, turn};
-ghost use Rattle.ae_rlang.specs.Steps.{TurnIs, group_seen, groups_seen, pending_seen, pendings_seen, point_seen, scope_seen, token_of, value_seen};
+ghost use Rattle.ae_rlang.specs.Steps.{TurnIs, group_seen, groups_seen, pending_seen, pendings_seen, point_seen, scope_seen, lexeme_of, token_of, value_seen};
 
 use crate::operand;
-use crate::operand::{Bound, Operand};
+use crate::operand::{Operand, Scope};
 use crate::operator::{Operator, operator_of};
-use crate::token::{Mark, Token};
+use crate::token::{Lexeme, Mark, Token};
 use ae_base::Text;
 use std::alloc::{AllocError, Global};
 
@@ -235,11 +235,11 @@ fn having_turn(
     groups: Vec<Group>,
     pendings: Vec<Pending>,
     operand: Operand,
-    line: u32,
-    token: Token,
+    lexeme: Lexeme,
 ) -> Result<Turn, AllocError>
-    ensures { IfOk result (TurnIs (token_of token) (having_turn level (groups_seen groups.items) (pendings_seen pendings.items) (value_seen operand) (record { line = line; token = token_of token }))) }
+    ensures { IfOk result (TurnIs (token_of lexeme.token) (having_turn level (groups_seen groups.items) (pendings_seen pendings.items) (value_seen operand) (lexeme_of lexeme))) }
 {
+    let Lexeme { line, token } = lexeme;
     match token_operator(&token) {
         Some(operator) => operator_turn(alloc, groups, pendings, operand, line, operator),
         None => behind_turn(alloc, level, groups, pendings, operand, token),
@@ -278,11 +278,11 @@ fn waiting_turn(
     alloc: Global,
     groups: Vec<Group>,
     pendings: Vec<Pending>,
-    line: u32,
-    token: Token,
+    lexeme: Lexeme,
 ) -> Result<Turn, AllocError>
-    ensures { IfOk result (TurnIs (token_of token) (waiting_turn (groups_seen groups.items) (pendings_seen pendings.items) line (token_of token))) }
+    ensures { IfOk result (TurnIs (token_of lexeme.token) (waiting_turn (groups_seen groups.items) (pendings_seen pendings.items) lexeme.line (token_of lexeme.token))) }
 {
+    let Lexeme { line, token } = lexeme;
     match token {
         Token::Name(name) => Ok(Turn::Goes(groups, pendings, Point::Named(line, name))),
         Token::Number(n) => {
@@ -323,41 +323,37 @@ fn waiting_turn(
 // Behind a name.
 fn named_turn(
     alloc: Global,
-    totals: &[Text],
-    bound: &[Bound],
-    level: usize,
+    scope: Scope<'_>,
     groups: Vec<Group>,
     pendings: Vec<Pending>,
     name_line: u32,
     name: Text,
-    line: u32,
-    token: Token,
+    lexeme: Lexeme,
 ) -> Result<Turn, AllocError>
-    ensures { IfOk result (TurnIs (token_of token) (named_turn (scope_seen totals.now bound.now) level (groups_seen groups.items) (pendings_seen pendings.items) name_line name (record { line = line; token = token_of token }))) }
+    ensures { IfOk result (TurnIs (token_of lexeme.token) (named_turn (scope_seen scope.entry) scope.entry.level (groups_seen groups.items) (pendings_seen pendings.items) name_line name (lexeme_of lexeme))) }
 {
-    if is_dot(&token) {
+    if is_dot(&lexeme.token) {
         return Ok(Turn::Goes(groups, pendings, Point::Dotted(name_line, name)));
     }
-    let value = operand::total(totals, bound, name_line, name);
-    having_turn(alloc, level, groups, pendings, value, line, token)
+    let value = operand::total(scope, name_line, name);
+    having_turn(alloc, scope.level, groups, pendings, value, lexeme)
 }
 
 // Behind a name and `.`.
 fn dotted_turn(
-    totals: &[Text],
-    bound: &[Bound],
+    scope: Scope<'_>,
     groups: Vec<Group>,
     pendings: Vec<Pending>,
     name_line: u32,
     name: Text,
-    line: u32,
-    token: Token,
+    lexeme: Lexeme,
 ) -> Result<Turn, AllocError>
-    ensures { IfOk result (TurnIs (token_of token) (dotted_turn (scope_seen totals.now bound.now) (groups_seen groups.items) (pendings_seen pendings.items) name_line name line (token_of token))) }
+    ensures { IfOk result (TurnIs (token_of lexeme.token) (dotted_turn (scope_seen scope.entry) (groups_seen groups.items) (pendings_seen pendings.items) name_line name lexeme.line (token_of lexeme.token))) }
 {
+    let Lexeme { line, token } = lexeme;
     match token {
         Token::Name(field) => {
-            let value = operand::field(totals, bound, name_line, name, line, field);
+            let value = operand::field(scope, name_line, name, line, field);
             Ok(Turn::Goes(groups, pendings, Point::Having(value)))
         }
         _ => Ok(Turn::Stuck),
@@ -370,11 +366,11 @@ fn timing_turn(
     groups: Vec<Group>,
     pendings: Vec<Pending>,
     time: u32,
-    line: u32,
-    token: Token,
+    lexeme: Lexeme,
 ) -> Result<Turn, AllocError>
-    ensures { IfOk result (TurnIs (token_of token) (timing_turn (groups_seen groups.items) (pendings_seen pendings.items) time line (token_of token))) }
+    ensures { IfOk result (TurnIs (token_of lexeme.token) (timing_turn (groups_seen groups.items) (pendings_seen pendings.items) time lexeme.line (token_of lexeme.token))) }
 {
+    let Lexeme { line, token } = lexeme;
     match token {
         Token::Mark(Mark::OpenGroup) => {
             let groups = with_group(groups, pendings, Some(time), line)?;
@@ -384,33 +380,28 @@ fn timing_turn(
     }
 }
 
-/// A token in an expression, inside so many blocks.
+/// A token in an expression.
 pub(crate) fn take_token(
     alloc: Global,
-    totals: &[Text],
-    bound: &[Bound],
-    level: usize,
+    scope: Scope<'_>,
     groups: Vec<Group>,
     pendings: Vec<Pending>,
     point: Point,
-    line: u32,
-    token: Token,
+    lexeme: Lexeme,
 ) -> Result<Turn, AllocError>
-    ensures { IfOk result (TurnIs (token_of token) (turn (scope_seen totals.now bound.now) level (groups_seen groups.items) (pendings_seen pendings.items) (point_seen point) (record { line = line; token = token_of token }))) }
+    ensures { IfOk result (TurnIs (token_of lexeme.token) (turn (scope_seen scope.entry) scope.entry.level (groups_seen groups.items) (pendings_seen pendings.items) (point_seen point) (lexeme_of lexeme))) }
 {
     match point {
-        Point::Waiting => waiting_turn(alloc, groups, pendings, line, token),
-        Point::Named(name_line, name) => named_turn(
-            alloc, totals, bound, level, groups, pendings, name_line, name, line, token,
-        ),
-        Point::Dotted(name_line, name) => {
-            dotted_turn(
-                totals, bound, groups, pendings, name_line, name, line, token,
-            )
+        Point::Waiting => waiting_turn(alloc, groups, pendings, lexeme),
+        Point::Named(name_line, name) => {
+            named_turn(alloc, scope, groups, pendings, name_line, name, lexeme)
         }
-        Point::Timing(time) => timing_turn(alloc, groups, pendings, time, line, token),
+        Point::Dotted(name_line, name) => {
+            dotted_turn(scope, groups, pendings, name_line, name, lexeme)
+        }
+        Point::Timing(time) => timing_turn(alloc, groups, pendings, time, lexeme),
         Point::Having(operand) => {
-            having_turn(alloc, level, groups, pendings, operand, line, token)
+            having_turn(alloc, scope.level, groups, pendings, operand, lexeme)
         }
     }
 }

@@ -24,6 +24,14 @@ pub struct Bound {
     pub table: Option<Table>,
 }
 
+/// Where an expression stands: the names that are known there, and how many blocks are around it.
+#[derive(Clone, Copy)]
+pub(crate) struct Scope<'a> {
+    pub(crate) totals: &'a [Text],
+    pub(crate) bound: &'a [Bound],
+    pub(crate) level: usize,
+}
+
 /// An expression, the kind of its value where that is known, and its first bad line.
 #[derive(Drop)]
 pub(crate) struct Operand {
@@ -132,10 +140,10 @@ pub(crate) fn flag(line: u32, flag: bool) -> Operand
 }
 
 /// A name alone, which is to be a total.
-pub(crate) fn total(totals: &[Text], bound: &[Bound], line: u32, name: Text) -> Operand
-    ensures { value_seen result ≡ total_value (scope_seen totals.now bound.now) line name }
+pub(crate) fn total(scope: Scope<'_>, line: u32, name: Text) -> Operand
+    ensures { value_seen result ≡ total_value (scope_seen scope.entry) line name }
 {
-    let known = is_among(&name, totals);
+    let known = is_among(&name, scope.totals);
     let kind = if known { Some(Kind::Number) } else { None };
     Operand {
         expr: Expr {
@@ -189,16 +197,15 @@ fn field_or_any(field: Option<RowField>) -> RowField
 
 /// A name, `.` and a field.
 pub(crate) fn field(
-    totals: &[Text],
-    bound: &[Bound],
+    scope: Scope<'_>,
     line: u32,
     name: Text,
     field_line: u32,
     field: Text,
 ) -> Operand
-    ensures { value_seen result ≡ field_value (scope_seen totals.now bound.now) line name field_line field }
+    ensures { value_seen result ≡ field_value (scope_seen scope.entry) line name field_line field }
 {
-    let table = table_bound(&name, bound);
+    let table = table_bound(&name, scope.bound);
     let found = field_or_any(field_within(table, &field));
     let kind = kind_within(table, &field);
     let bad = bad_field(table, line, field_line, &field);

@@ -11,7 +11,7 @@ ghost use Rattle.ae_rlang.specs.declared.statement.Stop.TheVariants.{Memory};
 
 use crate::expression;
 use crate::expression::{Group, Pending, Point, Turn};
-use crate::operand::{Bound, Operand, bad_level, is_among, table_bound};
+use crate::operand::{Bound, Operand, Scope, bad_level, is_among, table_bound};
 use crate::operator::{Kind, bad_where, earlier, is_other};
 use crate::report::{Cell, CellList, Expr, Statement, StatementList};
 use crate::table::{Table, table_of};
@@ -35,6 +35,22 @@ pub(crate) enum Block {
     Else(Body, Expr, Vec<Statement>, Option<u32>),
 }
 
+/// The front of a `for`: its line, and its name with the line of that.
+#[derive(Drop)]
+pub(crate) struct Front {
+    pub(crate) line: u32,
+    pub(crate) name_line: u32,
+    pub(crate) name: Text,
+}
+
+/// The head of a `for`: its name, its table, and its first bad line.
+#[derive(Drop)]
+pub(crate) struct Head {
+    pub(crate) name: Text,
+    pub(crate) table: Option<Table>,
+    pub(crate) bad: Option<u32>,
+}
+
 /// What an expression is read for.
 #[derive(Drop)]
 pub(crate) enum Slot {
@@ -42,10 +58,19 @@ pub(crate) enum Slot {
     Cell(Vec<Cell>, Option<u32>),
     /// The line of `total`, and the name.
     Total(u32, Text),
-    /// The name and table of a `for`, its first bad line, and the line of `where`.
-    Test(Text, Option<Table>, Option<u32>, u32),
+    /// The head of a `for`, and the line of `where`.
+    Test(Head, u32),
     /// The line of `if`.
     Choice(u32),
+}
+
+/// An expression that is being read: what for, what is open in it, and where in it the reader is.
+#[derive(Drop)]
+pub(crate) struct Reading {
+    pub(crate) slot: Slot,
+    pub(crate) groups: Vec<Group>,
+    pub(crate) pendings: Vec<Pending>,
+    pub(crate) point: Point,
 }
 
 /// What may stand next.
@@ -58,11 +83,11 @@ pub(crate) enum Place {
     AtTotalName(u32),
     AtTotalEquals(u32, Text),
     AtForName(u32),
-    AtIn(u32, u32, Text),
-    AtTable(u32, u32, Text),
+    AtIn(Front),
+    AtTable(Front),
     /// `where`, or the body.
-    AtWhere(Text, Option<Table>, Option<u32>),
-    InExpression(Slot, Vec<Group>, Vec<Pending>, Point),
+    AtWhere(Head),
+    InExpression(Reading),
     AtWidth(Vec<Cell>, Option<u32>, Operand),
     /// `right`, or the end of the cell.
     AtRight(Vec<Cell>, Option<u32>, Operand, u32),
@@ -256,8 +281,16 @@ fn moved(around: Around, place: Place) -> Result<State, Stop>
 fn begun(alloc: Global, around: Around, slot: Slot) -> Result<State, Stop>
     ensures { Gives result (moved (around_seen around) (in_expression (slot_seen slot) [] [] waiting)) }
 {
-    let place = Place::InExpression(slot, Vec::new(alloc), Vec::new(alloc), Point::Waiting);
-    Ok(State { around, place })
+    let reading = Reading {
+        slot,
+        groups: Vec::new(alloc),
+        pendings: Vec::new(alloc),
+        point: Point::Waiting,
+    };
+    Ok(State {
+        around,
+        place: Place::InExpression(reading),
+    })
 }
 
 fn end(around: Around) -> Result<State, Stop>
@@ -332,23 +365,24 @@ fn for_name(around: Around, line: u32, name_line: u32, token: Token) -> Result<S
     ensures { Gives result (for_name_step (around_seen around) line name_line (token_of token)) }
 {
     match token {
-        Token::Name(name) => moved(around, Place::AtIn(line, name_line, name)),
+        Token::Name(name) => {
+            let front = Front {
+                line,
+                name_line,
+                name,
+            };
+            moved(around, Place::AtIn(front))
+        }
         _ => Err(Stop::Wrong),
     }
 }
 
 // The `in` of a `for`.
-fn within(
-    around: Around,
-    line: u32,
-    name_line: u32,
-    name: Text,
-    token: Token,
-) -> Result<State, Stop>
-    ensures { Gives result (in_step (around_seen around) line name_line name (token_of token)) }
+fn within(around: Around, front: Front, token: Token) -> Result<State, Stop>
+    ensures { Gives result (in_step (around_seen around) front.line front.name_line front.name (token_of token)) }
 {
     match token {
-        Token::Mark(Mark::In) => moved(around, Place::AtTable(line, name_line, name)),
+        Token::Mark(Mark::In) => moved(around, Place::AtTable(front)),
         _ => Err(Stop::Wrong),
     }
 }
@@ -360,42 +394,43 @@ const MAX_FORS: usize = 2;
 fn header_bad(
     totals: &[Text],
     bound: &[Bound],
-    line: u32,
-    name_line: u32,
-    name: &Text,
+    front: &Front,
     table_line: u32,
     table: Option<Table>,
 ) -> Option<u32>
-    ensures { result ≡ earlier (earlier (bad_where (nat_le max_fors (length bound.now)) line) (bad_where (is_among name.now totals.now || is_some (table_bound name.now bound.now)) name_line)) (bad_where (not (is_some table)) table_line) }
+    ensures { result ≡ earlier (earlier (bad_where (nat_le max_fors (length bound.now)) front.now.line) (bad_where (is_among front.now.name totals.now || is_some (table_bound front.now.name bound.now)) front.now.name_line)) (bad_where (not (is_some table)) table_line) }
 {
-    let known = is_among(name, totals) || table_bound(name, bound).is_some();
-    let front = earlier(
-        bad_where(bound.len() >= MAX_FORS, line),
-        bad_where(known, name_line),
+    let known = is_among(&front.name, totals) || table_bound(&front.name, bound).is_some();
+    let bad = earlier(
+        bad_where(bound.len() >= MAX_FORS, front.line),
+        bad_where(known, front.name_line),
     );
-    earlier(front, bad_where(table.is_none(), table_line))
+    earlier(bad, bad_where(table.is_none(), table_line))
 }
 
 fn table(
     alloc: Global,
     totals: &[Text],
     mut around: Around,
-    line: u32,
-    name_line: u32,
-    name: Text,
-    table_line: u32,
-    token: Token,
+    front: Front,
+    lexeme: Lexeme,
 ) -> Result<State, Stop>
-    ensures { Gives result (table_step totals.now (around_seen around) line name_line name table_line (token_of token)) }
+    ensures { Gives result (table_step totals.now (around_seen around) front.line front.name_line front.name lexeme.line (token_of lexeme.token)) }
 {
+    let Lexeme { line, token } = lexeme;
     match token {
         Token::Name(word) => {
             let table = table_of(word.bytes());
             let bound = around.bound.as_slice();
-            let bad = header_bad(totals, bound, line, name_line, &name, table_line, table);
+            let bad = header_bad(totals, bound, &front, line, table);
+            let Front {
+                line: _,
+                name_line: _,
+                name,
+            } = front;
             let copy = name.copy(alloc)?;
             around.bound.insert(0, Bound { name: copy, table })?;
-            moved(around, Place::AtWhere(name, table, bad))
+            moved(around, Place::AtWhere(Head { name, table, bad }))
         }
         _ => Err(Stop::Wrong),
     }
@@ -411,17 +446,16 @@ fn opening_bad(blocks: &[Block], bad: Option<u32>, line: u32) -> Option<u32>
 fn where_or_body(
     alloc: Global,
     around: Around,
-    name: Text,
-    table: Option<Table>,
-    bad: Option<u32>,
+    head: Head,
     line: u32,
     token: Token,
 ) -> Result<State, Stop>
-    ensures { Gives result (where_step (around_seen around) name table bad line (token_of token)) }
+    ensures { Gives result (where_step (around_seen around) head.name head.table head.bad line (token_of token)) }
 {
     match token {
-        Token::Mark(Mark::Where) => begun(alloc, around, Slot::Test(name, table, bad, line)),
+        Token::Mark(Mark::Where) => begun(alloc, around, Slot::Test(head, line)),
         Token::Mark(Mark::OpenBlock) => {
+            let Head { name, table, bad } = head;
             let bad = opening_bad(around.blocks.as_slice(), earlier(bad, None), line);
             let Around {
                 bound,
@@ -444,12 +478,11 @@ fn end_total(
     word_line: u32,
     name: Text,
     value: Operand,
-    line: u32,
-    token: Token,
+    lexeme: Lexeme,
 ) -> Result<State, Stop>
-    ensures { Gives result (slot_step (around_seen around) (for_total word_line name) (value_seen value) line (token_of token)) }
+    ensures { Gives result (slot_step (around_seen around) (for_total word_line name) (value_seen value) lexeme.line (token_of lexeme.token)) }
 {
-    match token {
+    match lexeme.token {
         Token::Mark(Mark::Semicolon) => {
             let wrong = is_other(value.kind, Kind::Number);
             let bad = earlier(value.bad, bad_where(wrong, word_line));
@@ -462,23 +495,21 @@ fn end_total(
 fn end_test(
     alloc: Global,
     around: Around,
-    name: Text,
-    table: Option<Table>,
-    bad: Option<u32>,
+    head: Head,
     word_line: u32,
     value: Operand,
-    line: u32,
-    token: Token,
+    lexeme: Lexeme,
 ) -> Result<State, Stop>
-    ensures { Gives result (slot_step (around_seen around) (for_test name table bad word_line) (value_seen value) line (token_of token)) }
+    ensures { Gives result (slot_step (around_seen around) (for_test head.name head.table head.bad word_line) (value_seen value) lexeme.line (token_of lexeme.token)) }
 {
-    match token {
+    match lexeme.token {
         Token::Mark(Mark::OpenBlock) => {
+            let Head { name, table, bad } = head;
             let own = earlier(
                 value.bad,
                 bad_where(is_other(value.kind, Kind::Flag), word_line),
             );
-            let bad = opening_bad(around.blocks.as_slice(), earlier(bad, own), line);
+            let bad = opening_bad(around.blocks.as_slice(), earlier(bad, own), lexeme.line);
             let Around {
                 bound,
                 blocks,
@@ -496,18 +527,17 @@ fn end_choice(
     around: Around,
     word_line: u32,
     value: Operand,
-    line: u32,
-    token: Token,
+    lexeme: Lexeme,
 ) -> Result<State, Stop>
-    ensures { Gives result (slot_step (around_seen around) (for_choice word_line) (value_seen value) line (token_of token)) }
+    ensures { Gives result (slot_step (around_seen around) (for_choice word_line) (value_seen value) lexeme.line (token_of lexeme.token)) }
 {
-    match token {
+    match lexeme.token {
         Token::Mark(Mark::OpenBlock) => {
             let own = earlier(
                 value.bad,
                 bad_where(is_other(value.kind, Kind::Flag), word_line),
             );
-            let bad = opening_bad(around.blocks.as_slice(), own, line);
+            let bad = opening_bad(around.blocks.as_slice(), own, lexeme.line);
             let Around {
                 bound,
                 blocks,
@@ -524,12 +554,11 @@ fn end_cell(
     cells: Vec<Cell>,
     bad: Option<u32>,
     value: Operand,
-    line: u32,
-    token: Token,
+    lexeme: Lexeme,
 ) -> Result<State, Stop>
-    ensures { Gives result (slot_step (around_seen around) (for_cell (cells_seen cells.items) bad) (value_seen value) line (token_of token)) }
+    ensures { Gives result (slot_step (around_seen around) (for_cell (cells_seen cells.items) bad) (value_seen value) lexeme.line (token_of lexeme.token)) }
 {
-    match token {
+    match lexeme.token {
         Token::Mark(Mark::Colon) => moved(around, Place::AtWidth(cells, bad, value)),
         _ => Err(Stop::Wrong),
     }
@@ -541,20 +570,15 @@ fn end_expression(
     around: Around,
     slot: Slot,
     value: Operand,
-    line: u32,
-    token: Token,
+    lexeme: Lexeme,
 ) -> Result<State, Stop>
-    ensures { Gives result (slot_step (around_seen around) (slot_seen slot) (value_seen value) line (token_of token)) }
+    ensures { Gives result (slot_step (around_seen around) (slot_seen slot) (value_seen value) lexeme.line (token_of lexeme.token)) }
 {
     match slot {
-        Slot::Cell(cells, bad) => end_cell(around, cells, bad, value, line, token),
-        Slot::Total(word_line, name) => end_total(around, word_line, name, value, line, token),
-        Slot::Test(name, table, bad, word_line) => {
-            end_test(
-                alloc, around, name, table, bad, word_line, value, line, token,
-            )
-        }
-        Slot::Choice(word_line) => end_choice(alloc, around, word_line, value, line, token),
+        Slot::Cell(cells, bad) => end_cell(around, cells, bad, value, lexeme),
+        Slot::Total(word_line, name) => end_total(around, word_line, name, value, lexeme),
+        Slot::Test(head, word_line) => end_test(alloc, around, head, word_line, value, lexeme),
+        Slot::Choice(word_line) => end_choice(alloc, around, word_line, value, lexeme),
     }
 }
 
@@ -562,28 +586,39 @@ fn in_expression(
     alloc: Global,
     totals: &[Text],
     around: Around,
-    slot_of: Slot,
-    groups: Vec<Group>,
-    pendings: Vec<Pending>,
-    point: Point,
-    line: u32,
-    token: Token,
+    reading: Reading,
+    lexeme: Lexeme,
 ) -> Result<State, Stop>
-    ensures { Gives result (place_step totals.now (around_seen around) (in_expression (slot_seen slot_of) (groups_seen groups.items) (pendings_seen pendings.items) (point_seen point)) (record { line = line; token = token_of token })) }
+    ensures { Gives result (place_step totals.now (around_seen around) (place_seen (Place.InExpression reading)) (lexeme_of lexeme)) }
 {
+    let line = lexeme.line;
+    let Reading {
+        slot,
+        groups,
+        pendings,
+        point,
+    } = reading;
     let level = around.blocks.len();
     let bound = around.bound.as_slice();
-    let turn = expression::take_token(
-        alloc, totals, bound, level, groups, pendings, point, line, token,
-    )?;
+    let scope = Scope {
+        totals,
+        bound,
+        level,
+    };
+    let turn = expression::take_token(alloc, scope, groups, pendings, point, lexeme)?;
     match turn {
         Turn::Goes(groups, pendings, point) => {
-            moved(
-                around,
-                Place::InExpression(slot_of, groups, pendings, point),
-            )
+            let reading = Reading {
+                slot,
+                groups,
+                pendings,
+                point,
+            };
+            moved(around, Place::InExpression(reading))
         }
-        Turn::Ended(value, token) => end_expression(alloc, around, slot_of, value, line, token),
+        Turn::Ended(value, token) => {
+            end_expression(alloc, around, slot, value, Lexeme { line, token })
+        }
         Turn::Stuck => Err(Stop::Wrong),
     }
 }
@@ -684,18 +719,17 @@ fn else_or_statement(
     test: Expr,
     first: Vec<Statement>,
     bad: Option<u32>,
-    line: u32,
-    token: Token,
+    lexeme: Lexeme,
 ) -> Result<State, Stop>
-    ensures { Gives result (else_step (around_seen around) (meaning test) (deeds_seen first.items) bad line (token_of token)) }
+    ensures { Gives result (else_step (around_seen around) (meaning test) (deeds_seen first.items) bad lexeme.line (token_of lexeme.token)) }
 {
-    if is_else(&token) {
+    if is_else(&lexeme.token) {
         return moved(around, Place::AtElseBody(test, first, bad));
     }
     let second = StatementList::of(Vec::new(alloc));
     let choose = Statement::If(test, StatementList::of(first), second);
     let around = with_statement(around, choose, bad)?;
-    statement(alloc, around, line, token)
+    statement(alloc, around, lexeme.line, lexeme.token)
 }
 
 fn else_body(
@@ -704,14 +738,13 @@ fn else_body(
     test: Expr,
     first: Vec<Statement>,
     bad: Option<u32>,
-    line: u32,
-    token: Token,
+    lexeme: Lexeme,
 ) -> Result<State, Stop>
-    ensures { Gives result (else_body_step (around_seen around) (meaning test) (deeds_seen first.items) bad line (token_of token)) }
+    ensures { Gives result (else_body_step (around_seen around) (meaning test) (deeds_seen first.items) bad lexeme.line (token_of lexeme.token)) }
 {
-    match token {
+    match lexeme.token {
         Token::Mark(Mark::OpenBlock) => {
-            let bad = opening_bad(around.blocks.as_slice(), bad, line);
+            let bad = opening_bad(around.blocks.as_slice(), bad, lexeme.line);
             let Around {
                 bound,
                 blocks,
@@ -734,42 +767,29 @@ pub(crate) fn step(
     ensures { Gives result (step totals.now (state_seen state) (lexeme_of lexeme)) }
 {
     let State { around, place } = state;
-    let Lexeme { line, token } = lexeme;
     match place {
-        Place::AtStatement => statement(alloc, around, line, token),
-        Place::AtTitle => title(around, token),
-        Place::AtTitleEnd(text) => title_end(around, text, token),
-        Place::AtTotalName(word_line) => total_name(around, word_line, token),
+        Place::AtStatement => statement(alloc, around, lexeme.line, lexeme.token),
+        Place::AtTitle => title(around, lexeme.token),
+        Place::AtTitleEnd(text) => title_end(around, text, lexeme.token),
+        Place::AtTotalName(word_line) => total_name(around, word_line, lexeme.token),
         Place::AtTotalEquals(word_line, name) => {
-            total_equals(alloc, around, word_line, name, token)
+            total_equals(alloc, around, word_line, name, lexeme.token)
         }
-        Place::AtForName(word_line) => for_name(around, word_line, line, token),
-        Place::AtIn(word_line, name_line, name) => {
-            within(around, word_line, name_line, name, token)
-        }
-        Place::AtTable(word_line, name_line, name) => {
-            table(
-                alloc, totals, around, word_line, name_line, name, line, token,
-            )
-        }
-        Place::AtWhere(name, of, bad) => {
-            where_or_body(alloc, around, name, of, bad, line, token)
-        }
-        Place::InExpression(slot, groups, pendings, point) => {
-            in_expression(
-                alloc, totals, around, slot, groups, pendings, point, line, token,
-            )
-        }
-        Place::AtWidth(cells, bad, value) => width(around, cells, bad, value, token),
+        Place::AtForName(word_line) => for_name(around, word_line, lexeme.line, lexeme.token),
+        Place::AtIn(front) => within(around, front, lexeme.token),
+        Place::AtTable(front) => table(alloc, totals, around, front, lexeme),
+        Place::AtWhere(head) => where_or_body(alloc, around, head, lexeme.line, lexeme.token),
+        Place::InExpression(reading) => in_expression(alloc, totals, around, reading, lexeme),
+        Place::AtWidth(cells, bad, value) => width(around, cells, bad, value, lexeme.token),
         Place::AtRight(cells, bad, value, width) => {
-            right_or_comma(alloc, around, cells, bad, value, width, token)
+            right_or_comma(alloc, around, cells, bad, value, width, lexeme.token)
         }
-        Place::AtComma(cells, bad) => comma(alloc, around, cells, bad, token),
+        Place::AtComma(cells, bad) => comma(alloc, around, cells, bad, lexeme.token),
         Place::AtElse(test, first, bad) => {
-            else_or_statement(alloc, around, test, first, bad, line, token)
+            else_or_statement(alloc, around, test, first, bad, lexeme)
         }
         Place::AtElseBody(test, first, bad) => {
-            else_body(alloc, around, test, first, bad, line, token)
+            else_body(alloc, around, test, first, bad, lexeme)
         }
         Place::Done => Err(Stop::Wrong),
     }
