@@ -67,6 +67,13 @@ pub record IsRefusedAt (wanted : Want) (image : Image) (name : Option (List ℕ)
   pub shown : ShownAt wanted image files o
   pub refused : refuses_project name o ≡ Some refusal
 
+-- the store is opened where these changes are wanted: the project that is there, why it isn't taken, or which file is damaged;
+-- what a disk doesn't tell isn't claimed
+abbrev pub Opens : Want → Type 0 → Image → Option (List ℕ) → Type 0 → Result Observation DistError → Type 0
+Opens wanted tells image name disk_rose result =
+    Answers (λ (o : Observation). tells → IsOpened wanted image name o) (λ (refusal : Refusal). tells → IsRefusedAt wanted image name refusal)
+    (λ (damaged : List ℕ). tells → IsDamagedAt wanted image damaged) disk_rose result
+
 -- what the opening of a store leaves, where nothing is put: each moment has the files of an image at the start, and the files
 -- that are read are those before
 pub record LeavesStore (base disk : DiskState) : Type 0 where
@@ -184,6 +191,13 @@ pub record IsFound (image : Image) (name : Option (List ℕ)) (number : ℕ) (fo
   pub o : Observation
   pub opened : IsOpened (want.One number) image name o
   pub sendable : IsSendable o number (Ok found)
+
+-- the change is looked up in the store: what is there, why it isn't sent, or which file is damaged
+abbrev pub Finds : Type 0 → Image → Option (List ℕ) → ℕ → Type 0 → Result (Head × Vec Row) DistError → Type 0
+Finds tells image name number disk_rose result =
+    Answers (λ (found : Head × Vec Row). tells → IsFound image name number found)
+    (λ (refusal : Refusal). tells → RefusesSending image name number refusal)
+    (λ (damaged : List ℕ). tells → IsDamagedAt (want.One number) image damaged) disk_rose result
 
 -- what a change set asks of rows is so of these, and their versions end in the region
 pub record AreGood (head : Head) (rows : List Row) : Type 0 where

@@ -7,7 +7,7 @@ ghost use Rattle.ae_base.specs.declared.want.Want.{Want};
 ghost use Rattle.ae_store.specs.Records.{Shown};
 ghost use Rattle.ae_vault.specs.Commit.{IsClean};
 ghost use Rattle.ae_vault.specs.Vault.{effective};
-ghost use Rattle.ae_dist.specs.Answers.{Answers, IsDamagedAt, IsOpened, IsRefusedAt, IsTaken, LeavesStore, Stops};
+ghost use Rattle.ae_dist.specs.Answers.{Answers, IsDamagedAt, IsTaken, LeavesStore, Opens, Stops};
 ghost use Rattle.ae_dist.specs.Sending.{is_other};
 
 use crate::DistError;
@@ -79,10 +79,7 @@ pub(crate) fn open_project<D: Disk>(
     want: Want,
     name: Option<&ProjectName>,
 ) -> Result<State, DistError>
-    ensures answer { Answers (λ o. D.tells → IsOpened want (reads (D.state disk.old)) (option_copied name.entry) o)
-        (λ refusal. D.tells → IsRefusedAt want (reads (D.state disk.old)) (option_copied name.entry) refusal)
-        (λ damaged. D.tells → IsDamagedAt want (reads (D.state disk.old)) damaged)
-        (HasRisen (D.faults disk.old) (D.faults disk.new)) result }
+    ensures answer { Opens want D.tells (reads (D.state disk.old)) (option_copied name.entry) (HasRisen (D.faults disk.old) (D.faults disk.new)) result }
     ensures clean { OnOk result (D.tells → IsClean (D.state disk.new)) }
     ensures disk { D.tells → LeavesStore (D.state disk.old) (D.state disk.new) }
     ensures later { D.faults disk.old ≤ D.faults disk.new }

@@ -15,7 +15,7 @@ ghost use Rattle.ae_history.specs.Packed.{AreOf, bytes_at};
 ghost use Rattle.ae_bundle.specs.Bundled.{Fits};
 ghost use Rattle.ae_dist.specs.declared.rows.Row.{Row};
 ghost use Rattle.ae_dist.specs.Sending.{sent_file, versions_of};
-ghost use Rattle.ae_dist.specs.Answers.{Answers, AreGood, AreKept, AreReadFrom, DamagedSending, IsDamagedAt, IsFound, IsHead, IsInside, IsKept, IsLostAmong, IsSendable, LeavesStore, RefusesSending, Sends, Stops, file_key, row_key};
+ghost use Rattle.ae_dist.specs.Answers.{Answers, AreGood, AreKept, AreReadFrom, DamagedSending, Finds, IsHead, IsInside, IsKept, IsLostAmong, IsSendable, LeavesStore, RefusesSending, Sends, Stops, file_key, row_key};
 
 use crate::DistError;
 use crate::naming::damaged;
@@ -85,10 +85,7 @@ fn find<D: Disk>(
     project: Option<&ProjectName>,
     change: ChangeNo,
 ) -> Result<(Head, Vec<Row>), DistError>
-    ensures answer { Answers (λ found. D.tells → IsFound (reads (D.state disk.old)) (option_copied project.entry) change found)
-        (λ refusal. D.tells → RefusesSending (reads (D.state disk.old)) (option_copied project.entry) change refusal)
-        (λ name. D.tells → IsDamagedAt (Want.One change) (reads (D.state disk.old)) name)
-        (HasRisen (D.faults disk.old) (D.faults disk.new)) result }
+    ensures answer { Finds D.tells (reads (D.state disk.old)) (option_copied project.entry) change (HasRisen (D.faults disk.old) (D.faults disk.new)) result }
     ensures good { IfOk result (λ found. AreGood found.0 found.1.items) }
     ensures clean { OnOk result (D.tells → IsClean (D.state disk.new)) }
     ensures disk { D.tells → LeavesStore (D.state disk.old) (D.state disk.new) }
