@@ -33,49 +33,8 @@ use Rattle.ae_script.proofs.Stepping.{fresh, StepDone}
 
 -- a command that may stand in a script is one command
 pub part_is_one : (f : Function) → is_part_of_script f ≡ true → is_one_command f ≡ true
-part_is_one function.NewProject is = refl
-part_is_one function.NewAdministrator is = refl
-part_is_one function.RemoveAdministrator is = refl
-part_is_one function.NewDeveloper is = refl
-part_is_one function.RemoveDeveloper is = refl
-part_is_one function.NewReviewer is = refl
-part_is_one function.RemoveReviewer is = refl
-part_is_one function.NewIntegrator is = refl
-part_is_one function.RemoveIntegrator is = refl
-part_is_one function.ProjectAttributes is = refl
-part_is_one function.NewChange is = refl
-part_is_one function.ChangeAttributes is = refl
-part_is_one function.NewChangeUndo is = refl
-part_is_one function.DevelopBegin is = refl
-part_is_one function.DevelopBeginUndo is = refl
-part_is_one function.Build is = refl
-part_is_one function.DevelopEnd is = refl
-part_is_one function.DevelopEndUndo is = refl
-part_is_one function.ReviewBegin is = refl
-part_is_one function.ReviewBeginUndo is = refl
-part_is_one function.ReviewPass is = refl
-part_is_one function.ReviewPassUndo is = refl
-part_is_one function.ReviewFail is = refl
-part_is_one function.IntegrateBegin is = refl
-part_is_one function.IntegrateBeginUndo is = refl
-part_is_one function.IntegratePass is = refl
-part_is_one function.IntegrateFail is = refl
-part_is_one function.CopyFile is = refl
-part_is_one function.CopyFileUndo is = refl
-part_is_one function.NewFile is = refl
-part_is_one function.NewFileUndo is = refl
-part_is_one function.NewTest is = refl
-part_is_one function.NewTestUndo is = refl
-part_is_one function.RemoveFile is = refl
-part_is_one function.RemoveFileUndo is = refl
-part_is_one function.Test is = refl
-part_is_one function.List is = refl
 part_is_one function.Script is = is
-part_is_one function.Generate is = is
-part_is_one function.Audit is = is
-part_is_one function.Report is = is
-part_is_one function.DistributionSend is = is
-part_is_one function.DistributionReceive is = is
+part_is_one _ is = is
 
 -- ---- a disk that isn't called
 

@@ -1,5 +1,6 @@
 -- What words ask for, once.
-use Rattle.std.proofs.Common.{◌≡◌, ℕ, List, true, false, Result, Err, refl, sym, ap, subst, ◌∙◌}
+use Rattle.std.proofs.Common.{◌≡◌, ℕ, List, true, false, not, Result, Err, refl, sym, ap, subst, ◌∙◌}
+use Rattle.std.proofs.lemmas.Bool.{not-true}
 use Rattle.ae_words.specs.Answer.{IsAnswer, told}
 use Rattle.ae_words.specs.declared.command.Command.{Command}
 use Rattle.ae_words.specs.declared.read.WordsError.{WordsError}
@@ -36,11 +37,9 @@ good_bad words who now place command (bad_word first may none is told) asks said
 
 -- a function that is one command is there
 one_is_there : (f : Function) → is_one_command f ≡ true → is_to_come f ≡ false
-one_is_there function.Audit one = absurd (let both : false ≡ true = one in cc)
-one_is_there function.Report one = absurd (let both : false ≡ true = one in cc)
-one_is_there function.DistributionSend one = absurd (let both : false ≡ true = one in cc)
-one_is_there function.DistributionReceive one = absurd (let both : false ≡ true = one in cc)
-one_is_there _ one = refl
+one_is_there function.Script one = refl
+one_is_there function.Generate one = refl
+one_is_there f one = not-true (is_to_come f) one
 
 pub never_both_asked : NeverBoth
 never_both_asked words who now place bad = record {
@@ -73,49 +72,9 @@ not_both_kinds words a b is_a is_b script made = absurd (let both : function.Scr
 
 -- a function that is there, and is neither a script nor the generator, is one command
 pub one_of_others : (f : Function) → (f ≡ function.Script → ⊥) → (f ≡ function.Generate → ⊥) → is_to_come f ≡ false → is_one_command f ≡ true
-one_of_others function.Build no_script no_made there = refl
-one_of_others function.ChangeAttributes no_script no_made there = refl
-one_of_others function.CopyFile no_script no_made there = refl
-one_of_others function.CopyFileUndo no_script no_made there = refl
-one_of_others function.DevelopBegin no_script no_made there = refl
-one_of_others function.DevelopBeginUndo no_script no_made there = refl
-one_of_others function.DevelopEnd no_script no_made there = refl
-one_of_others function.DevelopEndUndo no_script no_made there = refl
-one_of_others function.Generate no_script no_made there = absurd (no_made refl)
-one_of_others function.Audit no_script no_made there = absurd (let both : true ≡ false = there in cc)
-one_of_others function.Report no_script no_made there = absurd (let both : true ≡ false = there in cc)
-one_of_others function.DistributionSend no_script no_made there = absurd (let both : true ≡ false = there in cc)
-one_of_others function.DistributionReceive no_script no_made there = absurd (let both : true ≡ false = there in cc)
-one_of_others function.IntegrateBegin no_script no_made there = refl
-one_of_others function.IntegrateBeginUndo no_script no_made there = refl
-one_of_others function.IntegrateFail no_script no_made there = refl
-one_of_others function.IntegratePass no_script no_made there = refl
-one_of_others function.List no_script no_made there = refl
-one_of_others function.NewAdministrator no_script no_made there = refl
-one_of_others function.NewChange no_script no_made there = refl
-one_of_others function.NewChangeUndo no_script no_made there = refl
-one_of_others function.NewDeveloper no_script no_made there = refl
-one_of_others function.NewFile no_script no_made there = refl
-one_of_others function.NewFileUndo no_script no_made there = refl
-one_of_others function.NewIntegrator no_script no_made there = refl
-one_of_others function.NewProject no_script no_made there = refl
-one_of_others function.NewReviewer no_script no_made there = refl
-one_of_others function.NewTest no_script no_made there = refl
-one_of_others function.NewTestUndo no_script no_made there = refl
-one_of_others function.ProjectAttributes no_script no_made there = refl
-one_of_others function.RemoveAdministrator no_script no_made there = refl
-one_of_others function.RemoveDeveloper no_script no_made there = refl
-one_of_others function.RemoveFile no_script no_made there = refl
-one_of_others function.RemoveFileUndo no_script no_made there = refl
-one_of_others function.RemoveIntegrator no_script no_made there = refl
-one_of_others function.RemoveReviewer no_script no_made there = refl
-one_of_others function.ReviewBegin no_script no_made there = refl
-one_of_others function.ReviewBeginUndo no_script no_made there = refl
-one_of_others function.ReviewFail no_script no_made there = refl
-one_of_others function.ReviewPass no_script no_made there = refl
-one_of_others function.ReviewPassUndo no_script no_made there = refl
 one_of_others function.Script no_script no_made there = absurd (no_script refl)
-one_of_others function.Test no_script no_made there = refl
+one_of_others function.Generate no_script no_made there = absurd (no_made refl)
+one_of_others f no_script no_made there = ap not there
 
 -- ---- what is read
 

@@ -35,93 +35,12 @@ use Rattle.ae_session.specs.Summary.{MakesRuns, builds_by, builds_in, is_test, t
 
 build_none : (f : Function) → makes_runs f ≡ false → builds_by f ≡ 0
 build_none function.Build is = absurd (let both : true ≡ false = is in cc)
-build_none function.ChangeAttributes is = refl
-build_none function.CopyFile is = refl
-build_none function.CopyFileUndo is = refl
-build_none function.DevelopBegin is = refl
-build_none function.DevelopBeginUndo is = refl
-build_none function.DevelopEnd is = refl
-build_none function.DevelopEndUndo is = refl
-build_none function.Generate is = refl
-build_none function.Audit is = refl
-build_none function.Report is = refl
-build_none function.DistributionSend is = refl
-build_none function.DistributionReceive is = refl
-build_none function.IntegrateBegin is = refl
-build_none function.IntegrateBeginUndo is = refl
-build_none function.IntegrateFail is = refl
-build_none function.IntegratePass is = refl
-build_none function.List is = refl
-build_none function.NewAdministrator is = refl
-build_none function.NewChange is = refl
-build_none function.NewChangeUndo is = refl
-build_none function.NewDeveloper is = refl
-build_none function.NewFile is = refl
-build_none function.NewFileUndo is = refl
-build_none function.NewIntegrator is = refl
-build_none function.NewProject is = refl
-build_none function.NewReviewer is = refl
-build_none function.NewTest is = refl
-build_none function.NewTestUndo is = refl
-build_none function.ProjectAttributes is = refl
-build_none function.RemoveAdministrator is = refl
-build_none function.RemoveDeveloper is = refl
-build_none function.RemoveFile is = refl
-build_none function.RemoveFileUndo is = refl
-build_none function.RemoveIntegrator is = refl
-build_none function.RemoveReviewer is = refl
-build_none function.ReviewBegin is = refl
-build_none function.ReviewBeginUndo is = refl
-build_none function.ReviewFail is = refl
-build_none function.ReviewPass is = refl
-build_none function.ReviewPassUndo is = refl
-build_none function.Script is = refl
-build_none function.Test is = absurd (let both : true ≡ false = is in cc)
+build_none _ is = refl
 
 only_builds : (f : Function) → makes_runs f ≡ true → tests_by f ≡ false → f ≡ function.Build
 only_builds function.Build is other = refl
-only_builds function.ChangeAttributes is other = absurd (let both : false ≡ true = is in cc)
-only_builds function.CopyFile is other = absurd (let both : false ≡ true = is in cc)
-only_builds function.CopyFileUndo is other = absurd (let both : false ≡ true = is in cc)
-only_builds function.DevelopBegin is other = absurd (let both : false ≡ true = is in cc)
-only_builds function.DevelopBeginUndo is other = absurd (let both : false ≡ true = is in cc)
-only_builds function.DevelopEnd is other = absurd (let both : false ≡ true = is in cc)
-only_builds function.DevelopEndUndo is other = absurd (let both : false ≡ true = is in cc)
-only_builds function.Generate is other = absurd (let both : false ≡ true = is in cc)
-only_builds function.Audit is other = absurd (let both : false ≡ true = is in cc)
-only_builds function.Report is other = absurd (let both : false ≡ true = is in cc)
-only_builds function.DistributionSend is other = absurd (let both : false ≡ true = is in cc)
-only_builds function.DistributionReceive is other = absurd (let both : false ≡ true = is in cc)
-only_builds function.IntegrateBegin is other = absurd (let both : false ≡ true = is in cc)
-only_builds function.IntegrateBeginUndo is other = absurd (let both : false ≡ true = is in cc)
-only_builds function.IntegrateFail is other = absurd (let both : false ≡ true = is in cc)
-only_builds function.IntegratePass is other = absurd (let both : false ≡ true = is in cc)
-only_builds function.List is other = absurd (let both : false ≡ true = is in cc)
-only_builds function.NewAdministrator is other = absurd (let both : false ≡ true = is in cc)
-only_builds function.NewChange is other = absurd (let both : false ≡ true = is in cc)
-only_builds function.NewChangeUndo is other = absurd (let both : false ≡ true = is in cc)
-only_builds function.NewDeveloper is other = absurd (let both : false ≡ true = is in cc)
-only_builds function.NewFile is other = absurd (let both : false ≡ true = is in cc)
-only_builds function.NewFileUndo is other = absurd (let both : false ≡ true = is in cc)
-only_builds function.NewIntegrator is other = absurd (let both : false ≡ true = is in cc)
-only_builds function.NewProject is other = absurd (let both : false ≡ true = is in cc)
-only_builds function.NewReviewer is other = absurd (let both : false ≡ true = is in cc)
-only_builds function.NewTest is other = absurd (let both : false ≡ true = is in cc)
-only_builds function.NewTestUndo is other = absurd (let both : false ≡ true = is in cc)
-only_builds function.ProjectAttributes is other = absurd (let both : false ≡ true = is in cc)
-only_builds function.RemoveAdministrator is other = absurd (let both : false ≡ true = is in cc)
-only_builds function.RemoveDeveloper is other = absurd (let both : false ≡ true = is in cc)
-only_builds function.RemoveFile is other = absurd (let both : false ≡ true = is in cc)
-only_builds function.RemoveFileUndo is other = absurd (let both : false ≡ true = is in cc)
-only_builds function.RemoveIntegrator is other = absurd (let both : false ≡ true = is in cc)
-only_builds function.RemoveReviewer is other = absurd (let both : false ≡ true = is in cc)
-only_builds function.ReviewBegin is other = absurd (let both : false ≡ true = is in cc)
-only_builds function.ReviewBeginUndo is other = absurd (let both : false ≡ true = is in cc)
-only_builds function.ReviewFail is other = absurd (let both : false ≡ true = is in cc)
-only_builds function.ReviewPass is other = absurd (let both : false ≡ true = is in cc)
-only_builds function.ReviewPassUndo is other = absurd (let both : false ≡ true = is in cc)
-only_builds function.Script is other = absurd (let both : false ≡ true = is in cc)
 only_builds function.Test is other = absurd (let both : true ≡ false = other in cc)
+only_builds _ is other = absurd (let both : false ≡ true = is in cc)
 
 -- ---- a build that is done
 
