@@ -171,11 +171,8 @@ at-other path (Some file) files own up q other =
 at-other path None files own up q other = at-without path q files up ∙ ap (λ b. cond b None (file_in files q)) other
 
 pub made-own : (f : Function) (call : Call) (path : List ℕ) → IsOwn path (file_made f call path)
-made-own function.CopyFile call path = refl
-made-own function.NewFile call path = refl
-made-own function.NewTest call path = refl
-made-own function.RemoveFile call path = refl
-made-own _ call path = tt
+made-own function.List call path = tt
+made-own _ call path = assumption
 
 -- where the files were clear, a clash after the path has the path in it
 pub clear-with : (o : Observation) (path : List ℕ) (made : Option ChangeFile) (files : List ChangeFile) → Sound o → Ascends by_text file_path files → IsOwn path made → are_clear o files ≡ None → IsClearBut path o (files_with path made files)
@@ -201,8 +198,5 @@ first-none-of None b e = refl
 
 -- where a function asks for clashes and nothing is refused, the files are clear
 pub asked-clear : (f : Function) (o : Observation) (files : List ChangeFile) → asked_behind f o files ≡ None → asks_for_clashes f ≡ true → are_clear o files ≡ None
-asked-clear function.CopyFile o files e asks = first-none-of (are_clear o files) (are_few files) e
-asked-clear function.NewFile o files e asks = first-none-of (are_clear o files) (are_few files) e
-asked-clear function.NewTest o files e asks = first-none-of (are_clear o files) (are_few files) e
-asked-clear function.RemoveFileUndo o files e asks = e
-asked-clear _ o files e asks = absurd (false≢true asks)
+asked-clear function.List o files e asks = cc
+asked-clear _ o files e asks = let first = first-none-of (are_clear o files) (are_few files) in search

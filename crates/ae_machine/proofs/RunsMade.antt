@@ -53,6 +53,15 @@ same-refusal : (given : Given) (change : Change) (runs : List Needed) → first_
 same-refusal given change [] = refl
 same-refusal given change (run ∷ runs) = ap (option_or (refusal_in (command_of given change run))) (same-refusal given change runs)
 
+-- the kinds of a function with runs are its runs, of the change that is named
+pub kinds-are : (given : Given) (f : Function) → makes_runs f ≡ true → kinds_of f given ≡ runs given (change_of given.call)
+kinds-are given function.Build e = refl
+kinds-are given _ e = cc
+
+number-is : (given : Given) (f : Function) → makes_runs f ≡ true → change_of_events f given.call ≡ given.call.command.change
+number-is given function.Build e = refl
+number-is given _ e = cc
+
 module _ (given : Given) (change : Change) where
   abbrev told : Needed → Result (List ℕ) Refusal
   told = command_told given.call.stands.project.name change (delta_of_run given.call change) (config_read (config_seen given.call.stands change given.view))
@@ -81,23 +90,13 @@ module _ (given : Given) (change : Change) where
   map-both f g h e [] = refl
   map-both f g h e (x ∷ xs) = λ i. e x i ∷ map-both f g h e xs i
 
-  kinds-are : (f : Function) → makes_runs f ≡ true → kinds_of f given ≡ runs given (change_of given.call)
-  kinds-are function.Build e = refl
-  kinds-are function.Test e = refl
-  kinds-are _ e = cc
-
-  number-is : (f : Function) → makes_runs f ≡ true → change_of_events f given.call ≡ given.call.command.change
-  number-is function.Build e = refl
-  number-is function.Test e = refl
-  number-is _ e = cc
-
   pub events-made : makes_runs given.call.command.function ≡ true → change_of given.call ≡ Some change → config_bytes given change ≡ config_seen given.call.stands change given.view
       → map (event_of given.call.who given.when given.call.command.change) (map on.Run (map recorded given.view.runs)) ≡ events_of given
   events-made makes is seen =
       ap (map (event_of given.call.who given.when given.call.command.change))
       (map-both recorded on.Run (λ run. on.Run (run_event given change run)) (λ run. ap on.Run (recorded-is seen run)) given.view.runs
-      ∙ sym (ap (runs given) is) ∙ sym (kinds-are given.call.command.function makes))
-      ∙ ap (λ n. map (event_of given.call.who given.when n) (kinds_of given.call.command.function given)) (sym (number-is given.call.command.function makes))
+      ∙ sym (ap (runs given) is) ∙ sym (kinds-are given given.call.command.function makes))
+      ∙ ap (λ n. map (event_of given.call.who given.when n) (kinds_of given.call.command.function given)) (sym (number-is given given.call.command.function makes))
 
 -- ---- as they were made
 
@@ -152,10 +151,5 @@ nothing-named given makes is =
     not-refused (right_files given) (configured given) [] (ap (option_and_then _) is) (ap (option_and_then _) is)
     ∙ ap (answer (first_of (right_files ∷ configured ∷ []) given)) none
   where
-    kinds-none : (f : Function) → makes_runs f ≡ true → kinds_of f given ≡ runs given (change_of given.call)
-    kinds-none function.Build e = refl
-    kinds-none function.Test e = refl
-    kinds-none _ e = cc
-
     none : [] ≡ events_of given
-    none = ap (map (event_of given.call.who given.when (change_of_events given.call.command.function given.call))) (sym (kinds-none given.call.command.function makes ∙ ap (runs given) is))
+    none = ap (map (event_of given.call.who given.when (change_of_events given.call.command.function given.call))) (sym (kinds-are given given.call.command.function makes ∙ ap (runs given) is))

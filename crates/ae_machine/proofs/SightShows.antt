@@ -32,7 +32,6 @@ Read = List (List ℕ × Content)
 
 pub reads-too : (f : Function) → makes_runs f ≡ true → reads_files f ≡ true
 reads-too function.Build e = refl
-reads-too function.Test e = refl
 reads-too _ e = cc
 
 not-kept : (files : List ChangeFile) → list_any is_config (map file_path files) ≡ false → list_any is_config (kept files) ≡ false

@@ -1,15 +1,12 @@
 -- The paths that stand after a legal log are paths, since each File event of an accepted command has one that words can say.
-use Rattle.std.proofs.Common.{◌≡◌, inl, inr, ℕ, refl, sym, ◌∙◌, ap, subst, List, [], ◌∷◌, map, Option, Some, None, Bool, true, false, not, ◌&&◌}
+use Rattle.std.proofs.Common.{◌≡◌, inl, inr, ℕ, refl, sym, subst, List, [], ◌∷◌, map, Option, Some, None, Bool, true, false, not, ◌&&◌}
 use Rattle.std.specs.Prelude.{All, filter, filter_map, if◌then◌else◌, length, nat_le}
 use Rattle.std.specs.List.{list_all}
-use Rattle.std.specs.Option.{is_none, option_and_then}
 use Rattle.std.specs.declared.cmp.Ordering.{Ordering}
 use Rattle.std.specs.declared.cmp.Ordering.TheVariants as ordering
 use Rattle.std.specs.FinMap.Entries.{by_order}
 use Rattle.std.proofs.lemmas.List.Elements.{All-map, All-nil}
 use Rattle.std.proofs.lemmas.Bool.{and_parts}
-use Rattle.ae_words.proofs.Formed.{third}
-use Rattle.ae_base.specs.declared.words.Role.TheVariants.{Administrator, Developer, Reviewer, Integrator}
 use Rattle.ae_base.specs.Names.{is_path, IsPath}
 use Rattle.ae_base.specs.Rows.{text_cmp}
 use Rattle.ae_types.specs.declared.change.Change.{Change}
@@ -19,38 +16,32 @@ use Rattle.ae_types.specs.Observation.{Observation}
 use Rattle.ae_types.specs.Ordered.{put_by, itself}
 use Rattle.ae_types.specs.Phases.{is_integrating, is_remove}
 use Rattle.ae_types.specs.Trees.{TreeRow, baseline_of, candidate_of, frozen_row, last_delta, put_rows, tree_path, tree_row}
-use Rattle.ae_types.proofs.Members.{In, in-map, some-in}
+use Rattle.ae_types.proofs.Members.{In, all-in, in-map, some-in}
 use Rattle.ae_types.proofs.Ordered.{none-some}
-use Rattle.ae_log.specs.declared.event.Event.{Event}
 use Rattle.ae_log.specs.declared.event.EventKind.{EventKind}
 use Rattle.ae_log.specs.declared.event.EventKind.TheVariants as on
-use Rattle.ae_log.specs.Applies.{IsProject}
 use Rattle.ae_log.specs.Baseline.{past}
-use Rattle.ae_log.specs.Files.{course_paths, paths, paths_after, version_bytes}
-use Rattle.ae_log.specs.Log.{Course, Happened, Log, continued, course, followed, is_of}
-use Rattle.ae_log.specs.Observed.{change_file, change_files, file_row, observation}
+use Rattle.ae_log.specs.Files.{course_paths, paths, paths_after}
+use Rattle.ae_log.specs.Log.{Course, Happened, Log, continued, course, is_of}
+use Rattle.ae_log.specs.Observed.{change_file, change_files, file_row}
 use Rattle.ae_log.proofs.Listed.{own_file, own_row}
 use Rattle.ae_log.proofs.PassedTree.{frozen_own, tree_own}
 use Rattle.ae_log.proofs.Steps.{attributes-of}
 use Rattle.ae_words.specs.declared.command.Command.{Command}
+use Rattle.ae_words.specs.declared.table.Row.{Row}
+use Rattle.ae_words.specs.declared.table.Row.TheVariants as rows
+use Rattle.ae_words.specs.Formed.{are_paths, are_plain, is_path_at_most}
+use Rattle.ae_words.specs.Spelling.{is_empty}
+use Rattle.ae_words.specs.Table.{row}
 use Rattle.ae_words.specs.declared.table.Function.{Function}
 use Rattle.ae_words.specs.declared.table.Function.TheVariants as function
-use Rattle.ae_words.specs.Formed.{IsFormed, are_paths, are_tests, is_no_config}
-use Rattle.ae_words.specs.Spelling.{is_empty}
-use Rattle.ae_machine.specs.declared.verdict.Verdict.TheVariants.{Accept}
-use Rattle.ae_machine.specs.declared.view.View.{View}
-use Rattle.ae_machine.specs.Accepted.{AreStart, decided}
-use Rattle.ae_machine.specs.Call.{Given, call_of, change_named, given_of}
+use Rattle.ae_machine.specs.Call.{call_of, change_named}
 use Rattle.ae_machine.specs.Fits.{paths_asked, reads_files}
-use Rattle.ae_machine.specs.Legal.{Legal, nothing, more}
-use Rattle.ae_machine.specs.Paths.{file_made, kind_made, path_event}
-use Rattle.ae_machine.specs.Runs.{run_event}
+use Rattle.ae_machine.specs.Legal.{Legal, MayCome, Occasion}
 use Rattle.ae_machine.specs.Sight.{kept_paths, paths_read}
-use Rattle.ae_machine.specs.Space.{placing}
 use Rattle.ae_machine.specs.TypedPaths.{ArePaths, LegalHasPaths, PathsAskedAre}
-use Rattle.ae_machine.specs.Verdict.{event_of, ends, runs}
-use Rattle.ae_machine.proofs.Accepted.{IsPassed, accepted-passes, with_function}
-use Rattle.ae_machine.proofs.AcceptedLogs.{accepted-starts}
+use Rattle.ae_machine.proofs.KindsMade.{Each, HasEachKind, maker_of, project-maker}
+use Rattle.ae_machine.proofs.LegalKinds.{given_after, legal-each}
 use Rattle.ae_machine.proofs.CandidateStands.{is-of}
 use Rattle.ae_machine.proofs.Lists.{all-members, filter-in, members-all}
 
@@ -61,113 +52,55 @@ abbrev HasPath : EventKind → Type 0
 HasPath (on.File path action usage origin) = IsPath path
 HasPath _ = Unit {0}
 
--- each of these events has
-abbrev HavePaths : List Event → Type 0
-HavePaths [] = Unit {0}
-HavePaths (event ∷ events) = HasPath event.what × HavePaths events
+-- what comes alone is no File
+of-alone : (kind : EventKind) (f : Function) → maker_of kind ≡ Some f → HasPath kind
+of-alone (on.File path action usage origin) f maker = cc
+of-alone _ f maker = tt
 
--- events that are no Files
-alike : {A : Type 0} (make : A → EventKind) → ((a : A) → HasPath (make a)) → (xs : List A) (who : List ℕ) (when : ℕ) (number : Option ℕ) → HavePaths (map (event_of who when number) (map make xs))
-alike make have [] who when number = tt
-alike make have (a ∷ xs) who when number = (have a, alike make have xs who when number)
+-- ---- the paths that a command names
 
-of-path : (path : List ℕ) (file : Option ChangeFile) → IsPath path → HasPath (kind_made path file)
-of-path path (Some file) is = is
-of-path path None is = tt
+left : (a b : Bool) → (a && b) ≡ true → a ≡ true
+left a b is = (and_parts a b is).0
 
-of-end : (given : Given) (change : Option Change) (who : List ℕ) (when : ℕ) (number : Option ℕ) → HavePaths (map (event_of who when number) (ends given change))
-of-end given (Some change) who when number = (tt, tt)
-of-end given None who when number = tt
+right : (a b : Bool) → (a && b) ≡ true → b ≡ true
+right a b is = (and_parts a b is).1
 
-of-runs : (given : Given) (change : Option Change) (who : List ℕ) (when : ℕ) (number : Option ℕ) → HavePaths (map (event_of who when number) (runs given change))
-of-runs given (Some change) who when number = alike (λ run. on.Run (run_event given change run)) (λ run. tt) given.view.runs who when number
-of-runs given None who when number = tt
+of-paths : (paths : List (List ℕ)) → are_paths paths ≡ true → (path : List ℕ) → In paths path → IsPath path
+of-paths paths are = all-in is_path paths (left (list_all is_path paths) (nat_le (length paths) 1000) are)
 
--- ---- the functions
+of-one : (paths : List (List ℕ)) → is_path_at_most paths ≡ true → (path : List ℕ) → In paths path → IsPath path
+of-one [] is path there = absurd there
+of-one (only ∷ []) is path (inl same) = subst IsPath same is
+of-one (only ∷ []) is path (inr none) = absurd none
+of-one (first ∷ second ∷ paths) is path there = cc
 
-module _ (log : Log) (o : Observation) (c : Command) (who : List ℕ) (when : ℕ) (view : View) (events : List Event) where
-  abbrev is_given : Function → Given
-  is_given g = given_of placing o (version_bytes log) (with_function g c) who when view
+of-none : (paths : List (List ℕ)) → is_empty paths ≡ true → (path : List ℕ) → In paths path → IsPath path
+of-none [] is path there = absurd there
+of-none (first ∷ paths) is path there = cc
 
-  these : (made : List Event) → made ≡ events → HavePaths made → HavePaths events
-  these made is have = subst HavePaths is have
-
-  -- what holds of the paths where no other plain word stands
-  plain : (are : Bool) → (is_none c.name && is_empty c.users && are && is_none c.listing && is_empty c.numbers) ≡ true → are ≡ true
-  plain are is = third (is_none c.name) (is_empty c.users) are (is_none c.listing) (is_empty c.numbers) is
-
-  paths-have : (g : Function) → are_paths c.paths ≡ true → HavePaths (map (event_of who when c.change) (map (path_event (is_given g).call) c.paths))
-  paths-have g are = go c.paths (and_parts (list_all is_path c.paths) (nat_le (length c.paths) 1000) are).0
-    where
-      go : (ps : List (List ℕ)) → list_all is_path ps ≡ true → HavePaths (map (event_of who when c.change) (map (path_event (is_given g).call) ps))
-      go [] are = tt
-      go (p ∷ ps) are =
-          let both = and_parts (is_path p) (list_all is_path ps) are in
-          (of-path p (file_made g (is_given g).call p) both.0, go ps both.1)
-
-  have-by : (g : Function) → IsFormed (with_function g c) → IsPassed (is_given g) events → HavePaths events
-  have-by function.NewAdministrator formed p = these _ p.these (alike (on.RoleAdd Administrator) (λ u. tt) c.users who when c.change)
-  have-by function.NewDeveloper formed p = these _ p.these (alike (on.RoleAdd Developer) (λ u. tt) c.users who when c.change)
-  have-by function.NewReviewer formed p = these _ p.these (alike (on.RoleAdd Reviewer) (λ u. tt) c.users who when c.change)
-  have-by function.NewIntegrator formed p = these _ p.these (alike (on.RoleAdd Integrator) (λ u. tt) c.users who when c.change)
-  have-by function.RemoveAdministrator formed p = these _ p.these (alike (on.RoleDrop Administrator) (λ u. tt) c.users who when c.change)
-  have-by function.RemoveDeveloper formed p = these _ p.these (alike (on.RoleDrop Developer) (λ u. tt) c.users who when c.change)
-  have-by function.RemoveReviewer formed p = these _ p.these (alike (on.RoleDrop Reviewer) (λ u. tt) c.users who when c.change)
-  have-by function.RemoveIntegrator formed p = these _ p.these (alike (on.RoleDrop Integrator) (λ u. tt) c.users who when c.change)
-  have-by function.Build formed p = these _ p.these (of-runs (is_given function.Build) (option_and_then (change_at o) c.change) who when c.change)
-  have-by function.Test formed p = these _ p.these (of-runs (is_given function.Test) (option_and_then (change_at o) c.change) who when c.change)
-  have-by function.DevelopEnd formed p = these _ p.these (of-end (is_given function.DevelopEnd) (option_and_then (change_at o) c.change) who when c.change)
-  have-by function.CopyFile formed p = these _ p.these (paths-have function.CopyFile (plain (are_paths c.paths) formed.plain))
-  have-by function.CopyFileUndo formed p = these _ p.these (paths-have function.CopyFileUndo (plain (are_paths c.paths) formed.plain))
-  have-by function.NewFile formed p = these _ p.these (paths-have function.NewFile (plain (are_paths c.paths) formed.plain))
-  have-by function.NewFileUndo formed p = these _ p.these (paths-have function.NewFileUndo (plain (are_paths c.paths) formed.plain))
-  have-by function.NewTest formed p = these _ p.these (paths-have function.NewTest (and_parts (list_all is_no_config c.paths) (are_paths c.paths) (plain (are_tests c.paths) formed.plain)).1)
-  have-by function.NewTestUndo formed p = these _ p.these (paths-have function.NewTestUndo (plain (are_paths c.paths) formed.plain))
-  have-by function.RemoveFile formed p = these _ p.these (paths-have function.RemoveFile (plain (are_paths c.paths) formed.plain))
-  have-by function.RemoveFileUndo formed p = these _ p.these (paths-have function.RemoveFileUndo (plain (are_paths c.paths) formed.plain))
-  have-by function.ProjectAttributes formed p = these (_ ∷ []) p.these (tt, tt)
-  have-by function.NewChange formed p = these (_ ∷ []) p.these (tt, tt)
-  have-by function.NewChangeUndo formed p = these (_ ∷ []) p.these (tt, tt)
-  have-by function.ChangeAttributes formed p = these (_ ∷ []) p.these (tt, tt)
-  have-by function.DevelopBegin formed p = these (_ ∷ []) p.these (tt, tt)
-  have-by function.DevelopBeginUndo formed p = these (_ ∷ []) p.these (tt, tt)
-  have-by function.DevelopEndUndo formed p = these (_ ∷ []) p.these (tt, tt)
-  have-by function.ReviewBegin formed p = these (_ ∷ []) p.these (tt, tt)
-  have-by function.ReviewBeginUndo formed p = these (_ ∷ []) p.these (tt, tt)
-  have-by function.ReviewPass formed p = these (_ ∷ []) p.these (tt, tt)
-  have-by function.ReviewPassUndo formed p = these (_ ∷ []) p.these (tt, tt)
-  have-by function.ReviewFail formed p = these (_ ∷ []) p.these (tt, tt)
-  have-by function.IntegrateBegin formed p = these (_ ∷ []) p.these (tt, tt)
-  have-by function.IntegrateBeginUndo formed p = these (_ ∷ []) p.these (tt, tt)
-  have-by function.IntegratePass formed p = these (_ ∷ []) p.these (tt, tt)
-  have-by function.IntegrateFail formed p = these (_ ∷ []) p.these (tt, tt)
-  have-by _ formed p = these [] p.these tt
+-- they are paths, whatever words the row of its function takes
+of-plain : (row : Row) (command : Command) → are_plain row command ≡ true → (path : List ℕ) → In command.paths path → IsPath path
+of-plain rows.Copy command is = of-paths command.paths (search (left, right))
+of-plain rows.Paths command is = of-paths command.paths (search (left, right))
+of-plain rows.NewTest command is = of-paths command.paths (search (left, right))
+of-plain rows.Report command is = of-one command.paths (search (left, right))
+of-plain _ command is = of-none command.paths (search (left, right))
 
 -- ---- the log
 
-of-project : (kind : EventKind) → IsProject kind → HasPath kind
-of-project (on.File path action usage origin) is = absurd is
-of-project _ is = tt
+have-each : (log : Log) (o : Observation) (occasion : Occasion) → MayCome log occasion → HasEachKind HasPath occasion.command.function (given_after log o occasion)
+have-each log o occasion may = record {
+  added = λ role user. tt;
+  dropped = λ role user. tt;
+  filed = λ path there file. of-plain (row occasion.command.function) occasion.command may.formed.plain path there;
+  unfiled = λ path. tt;
+  ran = λ makes change there run is. tt;
+  ended = λ is change there. tt;
+  alone = λ kind maker only. of-alone kind occasion.command.function maker;
+}
 
-of-start : (events : List Event) → AreStart events → HavePaths events
-of-start events start = subst HavePaths (sym start.only) (of-project start.event.what start.starts.project, tt)
-
-with-these : (events : List Event) (log : Log) → HavePaths events → HavePaths log → HavePaths (followed log events)
-with-these [] log have there = there
-with-these (event ∷ events) log have there = with-these events (event ∷ log) have.1 (have.0, there)
-
-legal-have : (log : Log) → Legal log → HavePaths log
-legal-have log nothing = tt
-legal-have log (more before next occasion events legal may accepted is) =
-    subst HavePaths (sym is) (with-these events before (go (observation before) refl) (legal-have before legal))
-  where
-    answered : (v : Option Observation) → observation before ≡ v → decided v (version_bytes before) occasion ≡ Accept events
-    answered v stood = ap (λ (v : Option Observation). decided v (version_bytes before) occasion) (sym stood) ∙ accepted
-
-    go : (v : Option Observation) → observation before ≡ v → HavePaths events
-    go (Some o) stood =
-        have-by before o occasion.command occasion.who occasion.when occasion.view events occasion.command.function may.formed (accepted-passes o (version_bytes before) occasion events (answered (Some o) stood))
-    go None stood = of-start events (accepted-starts (version_bytes before) occasion events (answered None stood))
+legal-have : (log : Log) → Legal log → Each HasPath log
+legal-have = legal-each HasPath (λ kind is. of-alone kind function.NewProject (project-maker kind is)) have-each
 
 -- ---- rows whose keys are paths
 
@@ -213,7 +146,7 @@ paths-after : (kind : EventKind) (ps : List (List ℕ)) → HasPath kind → Key
 paths-after (on.File path action usage origin) ps has are = put itself path ps has are
 paths-after kind ps has are = are
 
-of-log : (log : Log) → HavePaths log → KeysArePaths itself (paths log)
+of-log : (log : Log) → Each HasPath log → KeysArePaths itself (paths log)
 of-log [] have = λ p h. absurd h
 of-log (event ∷ log) have = paths-after event.what (paths log) have.0 (of-log log have.1)
 
@@ -222,7 +155,7 @@ one-more (on.New attributes) happened ss has are = paths-after happened.event.wh
 one-more on.NewUndo happened ss has are = λ p h. absurd h
 one-more kind happened ss has are = paths-after happened.event.what (course_paths ss) has are
 
-of-course : (log : Log) (number : ℕ) → HavePaths log → KeysArePaths itself (course_paths (course log number))
+of-course : (log : Log) (number : ℕ) → Each HasPath log → KeysArePaths itself (course_paths (course log number))
 of-course [] number have = λ p h. absurd h
 of-course (event ∷ log) number have = go (is_of number event) (of-course log number have.1)
   where
@@ -234,7 +167,7 @@ of-course (event ∷ log) number have = go (is_of number event) (of-course log n
 pub legal-paths : LegalHasPaths
 legal-paths log o legal stood = record { files = of-files; table = of-table }
   where
-    have : HavePaths log
+    have : Each HasPath log
     have = legal-have log legal
 
     of-files : (number : ℕ) (change : Change) → change_at o number ≡ Some change → All IsPath (map file_path change.files)
