@@ -1,5 +1,5 @@
 -- The versions of a legal log are bytes, since what a command sees is of its types.
-use Rattle.std.proofs.Common.{◌≡◌, inl, inr, ℕ, ◌-◌, refl, sym, ◌∙◌, ap, subst, List, [], ◌∷◌, map, length, get_or, Option, Some, None, Bool, true, false}
+use Rattle.std.proofs.Common.{◌≡◌, inl, inr, ℕ, ◌-◌, refl, sym, subst, List, [], ◌∷◌, map, length, get_or, Option, Some, None, Bool, true, false}
 use Rattle.std.specs.Prelude.{All, IfSome, find, if◌then◌else◌}
 use Rattle.std.proofs.lemmas.Bool.{cases_lt}
 use Rattle.std.proofs.lemmas.List.{get_or_past}
@@ -8,37 +8,25 @@ use Rattle.std.proofs.lemmas.Option.{unwrap_or-slice_get}
 use Rattle.std.specs.Str.{bytes_eq}
 use Rattle.ae_base.specs.Bytes.{AreBytes}
 use Rattle.ae_base.specs.Rows.{Row, Rows}
-use Rattle.ae_base.specs.declared.words.Role.TheVariants.{Administrator, Developer, Reviewer, Integrator}
 use Rattle.ae_outside.specs.declared.dir.Content.{Content}
 use Rattle.ae_outside.specs.declared.dir.Content.TheVariants.{Absent, Bytes, TooLong}
-use Rattle.ae_types.specs.declared.change.Change.{Change}
 use Rattle.ae_types.specs.declared.change.ChangeFile.{ChangeFile}
 use Rattle.ae_types.specs.Observation.{Observation}
 use Rattle.ae_types.specs.Phases.{is_remove}
 use Rattle.ae_types.specs.Frozen.{present}
-use Rattle.ae_log.specs.declared.event.Event.{Event}
 use Rattle.ae_log.specs.declared.event.EventKind.{EventKind}
 use Rattle.ae_log.specs.declared.event.EventKind.TheVariants as on
-use Rattle.ae_log.specs.Applies.{IsProject}
 use Rattle.ae_log.specs.Files.{version_bytes, versions, versions_after}
-use Rattle.ae_log.specs.Log.{Log, followed}
-use Rattle.ae_log.specs.Observed.{observation}
+use Rattle.ae_log.specs.Log.{Log}
 use Rattle.ae_words.specs.declared.table.Function.{Function}
 use Rattle.ae_words.specs.declared.table.Function.TheVariants as function
-use Rattle.ae_machine.specs.declared.verdict.Verdict.TheVariants.{Accept}
 use Rattle.ae_machine.specs.declared.view.View.{View}
-use Rattle.ae_machine.specs.Accepted.{AreStart, decided}
-use Rattle.ae_machine.specs.Call.{Call, Given, change_of, given_of}
-use Rattle.ae_machine.specs.Legal.{Legal, nothing, more}
-use Rattle.ae_machine.specs.Paths.{file_made, kind_made, path_event}
-use Rattle.ae_machine.specs.Runs.{run_event}
+use Rattle.ae_machine.specs.Legal.{Legal, MayCome, Occasion}
 use Rattle.ae_evidence.specs.Directories.{bytes_of}
 use Rattle.ae_machine.specs.Sight.{bytes_read, content_of, read_at}
-use Rattle.ae_machine.specs.Space.{placing}
 use Rattle.ae_machine.specs.Typed.{IsContent, IsReadFile}
-use Rattle.ae_machine.specs.Verdict.{change_of_events, ends, event_of, kinds_of, runs}
-use Rattle.ae_machine.proofs.Accepted.{accepted-passes}
-use Rattle.ae_machine.proofs.AcceptedLogs.{accepted-starts}
+use Rattle.ae_machine.proofs.KindsMade.{Each, HasEachKind, maker_of, project-maker}
+use Rattle.ae_machine.proofs.LegalKinds.{given_after, legal-each}
 use Rattle.ae_machine.proofs.Lists.{all-members, found-so}
 
 -- ---- what is read
@@ -76,87 +64,23 @@ abbrev FreezesBytes : EventKind → Type 0
 FreezesBytes (on.End tree to places) = All HasBytes tree
 FreezesBytes _ = Unit {0}
 
-abbrev FreezeBytes : List Event → Type 0
-FreezeBytes [] = Unit {0}
-FreezeBytes (event ∷ events) = FreezesBytes event.what × FreezeBytes events
+of-alone : (kind : EventKind) (f : Function) → maker_of kind ≡ Some f → FreezesBytes kind
+of-alone (on.End tree to places) f maker = cc
+of-alone _ f maker = tt
 
--- events that are no Ends
-alike : {A : Type 0} (make : A → EventKind) → ((a : A) → FreezesBytes (make a)) → (xs : List A) (who : List ℕ) (when : ℕ) (number : Option ℕ) → FreezeBytes (map (event_of who when number) (map make xs))
-alike make have [] who when number = tt
-alike make have (a ∷ xs) who when number = (have a, alike make have xs who when number)
+have-each : (log : Log) (o : Observation) (occasion : Occasion) → MayCome log occasion → HasEachKind FreezesBytes occasion.command.function (given_after log o occasion)
+have-each log o occasion may = record {
+  added = λ role user. tt;
+  dropped = λ role user. tt;
+  filed = λ path there file. tt;
+  unfiled = λ path. tt;
+  ran = λ makes change there run among. tt;
+  ended = λ ends change there. of-tree occasion.view change.files may.seen.develop;
+  alone = λ kind maker only. of-alone kind occasion.command.function maker;
+}
 
-of-path : (call : Call) (path : List ℕ) → FreezesBytes (path_event call path)
-of-path call path = go (file_made call.command.function call path)
-  where
-    go : (made : Option ChangeFile) → FreezesBytes (kind_made path made)
-    go (Some file) = tt
-    go None = tt
-
-of-end : (given : Given) (c : Option Change) (who : List ℕ) (when : ℕ) (number : Option ℕ) → All IsReadFile given.view.develop → FreezeBytes (map (event_of who when number) (ends given c))
-of-end given (Some change) who when number typed = (of-tree given.view change.files typed, tt)
-of-end given None who when number typed = tt
-
-of-runs : (given : Given) (c : Option Change) (who : List ℕ) (when : ℕ) (number : Option ℕ) → FreezeBytes (map (event_of who when number) (runs given c))
-of-runs given (Some change) who when number = alike (λ run. on.Run (run_event given change run)) (λ run. tt) given.view.runs who when number
-of-runs given None who when number = tt
-
-bytes-by : (f : Function) (given : Given) (who : List ℕ) (when : ℕ) (c : Option ℕ) → All IsReadFile given.view.develop → FreezeBytes (map (event_of who when c) (kinds_of f given))
-bytes-by function.NewAdministrator given who when c typed = alike (on.RoleAdd Administrator) (λ user. tt) given.call.command.users who when c
-bytes-by function.NewDeveloper given who when c typed = alike (on.RoleAdd Developer) (λ user. tt) given.call.command.users who when c
-bytes-by function.NewReviewer given who when c typed = alike (on.RoleAdd Reviewer) (λ user. tt) given.call.command.users who when c
-bytes-by function.NewIntegrator given who when c typed = alike (on.RoleAdd Integrator) (λ user. tt) given.call.command.users who when c
-bytes-by function.RemoveAdministrator given who when c typed = alike (on.RoleDrop Administrator) (λ user. tt) given.call.command.users who when c
-bytes-by function.RemoveDeveloper given who when c typed = alike (on.RoleDrop Developer) (λ user. tt) given.call.command.users who when c
-bytes-by function.RemoveReviewer given who when c typed = alike (on.RoleDrop Reviewer) (λ user. tt) given.call.command.users who when c
-bytes-by function.RemoveIntegrator given who when c typed = alike (on.RoleDrop Integrator) (λ user. tt) given.call.command.users who when c
-bytes-by function.CopyFile given who when c typed = alike (path_event given.call) (of-path given.call) given.call.command.paths who when c
-bytes-by function.CopyFileUndo given who when c typed = alike (path_event given.call) (of-path given.call) given.call.command.paths who when c
-bytes-by function.NewFile given who when c typed = alike (path_event given.call) (of-path given.call) given.call.command.paths who when c
-bytes-by function.NewFileUndo given who when c typed = alike (path_event given.call) (of-path given.call) given.call.command.paths who when c
-bytes-by function.NewTest given who when c typed = alike (path_event given.call) (of-path given.call) given.call.command.paths who when c
-bytes-by function.NewTestUndo given who when c typed = alike (path_event given.call) (of-path given.call) given.call.command.paths who when c
-bytes-by function.RemoveFile given who when c typed = alike (path_event given.call) (of-path given.call) given.call.command.paths who when c
-bytes-by function.RemoveFileUndo given who when c typed = alike (path_event given.call) (of-path given.call) given.call.command.paths who when c
-bytes-by function.Build given who when c typed = of-runs given (change_of given.call) who when c
-bytes-by function.Test given who when c typed = of-runs given (change_of given.call) who when c
-bytes-by function.DevelopEnd given who when c typed = of-end given (change_of given.call) who when c typed
-bytes-by function.List given who when c typed = tt
-bytes-by function.NewProject given who when c typed = tt
-bytes-by function.Script given who when c typed = tt
-bytes-by function.Generate given who when c typed = tt
-bytes-by function.Audit given who when c typed = tt
-bytes-by function.Report given who when c typed = tt
-bytes-by function.DistributionSend given who when c typed = tt
-bytes-by function.DistributionReceive given who when c typed = tt
-bytes-by _ given who when c typed = (tt, tt)
-
--- ---- the log
-
-of-project : (kind : EventKind) → IsProject kind → FreezesBytes kind
-of-project (on.End tree to places) is = absurd is
-of-project _ is = tt
-
-of-start : (events : List Event) → AreStart events → FreezeBytes events
-of-start events start = subst FreezeBytes (sym start.only) (of-project start.event.what start.starts.project, tt)
-
-with-these : (events : List Event) (log : Log) → FreezeBytes events → FreezeBytes log → FreezeBytes (followed log events)
-with-these [] log have there = there
-with-these (event ∷ events) log have there = with-these events (event ∷ log) have.1 (have.0, there)
-
-legal-freeze : (log : Log) → Legal log → FreezeBytes log
-legal-freeze log nothing = tt
-legal-freeze log (more before next occasion events legal may accepted is) =
-    subst FreezeBytes (sym is) (with-these events before (go (observation before) refl) (legal-freeze before legal))
-  where
-    answered : (v : Option Observation) → observation before ≡ v → decided v (version_bytes before) occasion ≡ Accept events
-    answered v stood = ap (λ (v : Option Observation). decided v (version_bytes before) occasion) (sym stood) ∙ accepted
-
-    go : (v : Option Observation) → observation before ≡ v → FreezeBytes events
-    go (Some o) stood =
-        let given : Given = given_of placing o (version_bytes before) occasion.command occasion.who occasion.when occasion.view in
-        subst FreezeBytes (accepted-passes o (version_bytes before) occasion events (answered (Some o) stood)).these
-        (bytes-by given.call.command.function given given.call.who given.when (change_of_events given.call.command.function given.call) may.seen.develop)
-    go None stood = of-start events (accepted-starts (version_bytes before) occasion events (answered None stood))
+legal-freeze : (log : Log) → Legal log → Each FreezesBytes log
+legal-freeze = legal-each FreezesBytes (λ kind is. of-alone kind function.NewProject (project-maker kind is)) have-each
 
 -- ---- the versions
 
@@ -169,7 +93,7 @@ of-kind : (kind : EventKind) (made : List (List ℕ)) → FreezesBytes kind → 
 of-kind (on.End tree to places) made have all = All-append AreBytes made (present tree) all (of-present tree have)
 of-kind _ made have all = all
 
-of-log : (log : Log) → FreezeBytes log → All AreBytes (versions log)
+of-log : (log : Log) → Each FreezesBytes log → All AreBytes (versions log)
 of-log [] have = All-nil AreBytes
 of-log (event ∷ log) have = of-kind event.what (versions log) have.0 (of-log log have.1)
 

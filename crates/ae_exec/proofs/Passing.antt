@@ -2,11 +2,9 @@
 use Rattle.std.specs.Prelude.{◌≡◌, ℕ, false, List, [], ◌∷◌, map, Option, Some, None, IsSomeAnd}
 use Rattle.std.proofs.Common.{refl, sym, ap, subst, ◌∙◌, inl, inr}
 use Rattle.std.proofs.lemmas.Bool.{false≢true}
-use Rattle.ae_base.specs.declared.words.Role.TheVariants.{Administrator, Developer, Reviewer, Integrator}
-use Rattle.ae_types.specs.declared.change.Change.{Change}
-use Rattle.ae_types.specs.declared.change.ChangeFile.{ChangeFile}
+use Rattle.std.proofs.lemmas.Option.{same_Some}
 use Rattle.ae_types.specs.Observation.{Observation}
-use Rattle.ae_types.proofs.Members.{In, in-map, map-in}
+use Rattle.ae_types.proofs.Members.{In, in-map}
 use Rattle.ae_words.specs.declared.table.Function.{Function}
 use Rattle.ae_words.specs.declared.table.Function.TheVariants as function
 use Rattle.ae_log.specs.declared.event.Event.{Event}
@@ -19,18 +17,18 @@ use Rattle.ae_log.specs.Log.{Log, course, followed}
 use Rattle.ae_log.specs.Observed.{observation, change}
 use Rattle.ae_machine.specs.declared.verdict.Verdict.TheVariants.{Accept}
 use Rattle.ae_machine.specs.Accepted.{decided}
-use Rattle.ae_machine.specs.Call.{Call, Given, change_of, given_of}
+use Rattle.ae_machine.specs.Call.{Given, given_of}
 use Rattle.ae_machine.specs.Called.{Called, occasion_after}
 use Rattle.ae_machine.specs.Fits.{makes_runs}
 use Rattle.ae_machine.specs.Legal.{Legal, Occasion}
-use Rattle.ae_machine.specs.Paths.{file_made, kind_made, path_event}
 use Rattle.ae_machine.specs.Provenance.{IsProvided, ProvidedAt}
-use Rattle.ae_machine.specs.Runs.{run_event}
 use Rattle.ae_machine.specs.Space.{placing}
-use Rattle.ae_machine.specs.Verdict.{change_of_events, ends, event_of, events_of, kinds_of, runs}
+use Rattle.ae_machine.specs.Verdict.{change_of_events, event_of, events_of, kinds_of}
 use Rattle.ae_machine.proofs.Accepted.{accepted-passes}
 use Rattle.ae_machine.proofs.AcceptedLogs.{accepted-starts}
+use Rattle.ae_machine.proofs.KindsMade.{kinds-all, maker_of}
 use Rattle.ae_machine.proofs.LegalRightly.{legal-provided}
+use Rattle.ae_machine.proofs.Lists.{all-members}
 use Rattle.ae_exec.specs.Holding.{BaselineIsProvided, MayGive}
 use Rattle.ae_exec.specs.Step.{log_after, step}
 use Rattle.ae_exec.proofs.Legally.{unrun-legal}
@@ -38,60 +36,23 @@ use Rattle.ae_exec.proofs.Shown.{in-list}
 
 -- ---- the events of a function
 
--- none of these events is one
-none-passes : {A : Type 0} {P : Type 0} (make : A → EventKind) → ((a : A) → make a ≡ on.IPass → ⊥) → (xs : List A) → In (map make xs) on.IPass → P
-none-passes make not xs there = let made = map-in make xs on.IPass there in absurd (not made.0 made.2)
+-- a pass has no other kind beside it, and is of a function without runs
+abbrev PassesAlone : Function → Given → EventKind → Type 0
+PassesAlone f given kind = kind ≡ on.IPass → (makes_runs f ≡ false) × (kinds_of f given ≡ on.IPass ∷ [])
 
-path-passes : (call : Call) (path : List ℕ) → path_event call path ≡ on.IPass → ⊥
-path-passes call path = go (file_made call.command.function call path)
-  where
-    go : (made : Option ChangeFile) → kind_made path made ≡ on.IPass → ⊥
-    go (Some file) is = cc
-    go None is = cc
-
-end-passes : {P : Type 0} (given : Given) (c : Option Change) → In (ends given c) on.IPass → P
-end-passes given (Some change) (inl is) = cc
-end-passes given (Some change) (inr there) = absurd there
-end-passes given None there = absurd there
-
-run-passes : {P : Type 0} (given : Given) (c : Option Change) → In (runs given c) on.IPass → P
-run-passes given (Some change) there = none-passes (λ run. on.Run (run_event given change run)) (λ run is. cc) given.view.runs there
-run-passes given None there = absurd there
-
--- and one event alone
-single : (kind : EventKind) → In (kind ∷ []) on.IPass → kind ∷ [] ≡ on.IPass ∷ []
-single kind (inl is) = ap (λ (k : EventKind). k ∷ []) is
-single kind (inr none) = absurd none
+passes-quietly : (f : Function) → maker_of on.IPass ≡ Some f → makes_runs f ≡ false
+passes-quietly f maker = ap makes_runs (sym (same_Some function.IntegratePass f maker))
 
 pass-alone : (f : Function) (given : Given) → In (kinds_of f given) on.IPass → (makes_runs f ≡ false) × (kinds_of f given ≡ on.IPass ∷ [])
-pass-alone function.NewAdministrator given there = none-passes (on.RoleAdd Administrator) (λ user is. cc) given.call.command.users there
-pass-alone function.NewDeveloper given there = none-passes (on.RoleAdd Developer) (λ user is. cc) given.call.command.users there
-pass-alone function.NewReviewer given there = none-passes (on.RoleAdd Reviewer) (λ user is. cc) given.call.command.users there
-pass-alone function.NewIntegrator given there = none-passes (on.RoleAdd Integrator) (λ user is. cc) given.call.command.users there
-pass-alone function.RemoveAdministrator given there = none-passes (on.RoleDrop Administrator) (λ user is. cc) given.call.command.users there
-pass-alone function.RemoveDeveloper given there = none-passes (on.RoleDrop Developer) (λ user is. cc) given.call.command.users there
-pass-alone function.RemoveReviewer given there = none-passes (on.RoleDrop Reviewer) (λ user is. cc) given.call.command.users there
-pass-alone function.RemoveIntegrator given there = none-passes (on.RoleDrop Integrator) (λ user is. cc) given.call.command.users there
-pass-alone function.CopyFile given there = none-passes (path_event given.call) (path-passes given.call) given.call.command.paths there
-pass-alone function.CopyFileUndo given there = none-passes (path_event given.call) (path-passes given.call) given.call.command.paths there
-pass-alone function.NewFile given there = none-passes (path_event given.call) (path-passes given.call) given.call.command.paths there
-pass-alone function.NewFileUndo given there = none-passes (path_event given.call) (path-passes given.call) given.call.command.paths there
-pass-alone function.NewTest given there = none-passes (path_event given.call) (path-passes given.call) given.call.command.paths there
-pass-alone function.NewTestUndo given there = none-passes (path_event given.call) (path-passes given.call) given.call.command.paths there
-pass-alone function.RemoveFile given there = none-passes (path_event given.call) (path-passes given.call) given.call.command.paths there
-pass-alone function.RemoveFileUndo given there = none-passes (path_event given.call) (path-passes given.call) given.call.command.paths there
-pass-alone function.Build given there = run-passes given (change_of given.call) there
-pass-alone function.Test given there = run-passes given (change_of given.call) there
-pass-alone function.DevelopEnd given there = end-passes given (change_of given.call) there
-pass-alone function.List given there = absurd there
-pass-alone function.NewProject given there = absurd there
-pass-alone function.Script given there = absurd there
-pass-alone function.Generate given there = absurd there
-pass-alone function.Audit given there = absurd there
-pass-alone function.Report given there = absurd there
-pass-alone function.DistributionSend given there = absurd there
-pass-alone function.DistributionReceive given there = absurd there
-pass-alone _ given there = (refl, single _ there)
+pass-alone f given there = all-members (PassesAlone f given) (kinds_of f given) (kinds-all (PassesAlone f given) f given (record {
+  added = λ role user is. cc;
+  dropped = λ role user is. cc;
+  filed = λ path there file is. cc;
+  unfiled = λ path is. cc;
+  ran = λ makes change there run among is. cc;
+  ended = λ ends change there is. cc;
+  alone = λ kind maker only is. (passes-quietly f (ap maker_of (sym is) ∙ maker), only ∙ ap (λ (k : EventKind). k ∷ []) is);
+})) on.IPass there refl
 
 -- ---- the events of an answer
 

@@ -5,7 +5,6 @@ use Rattle.std.specs.Option.{option_and_then, option_map, option_or}
 use Rattle.std.specs.Str.{bytes_eq}
 use Rattle.std.proofs.Common.{refl, sym, ap, subst, ◌∙◌, inl, inr}
 use Rattle.std.proofs.lemmas.List.{append-nil}
-use Rattle.std.proofs.lemmas.Bool.{false≢true}
 use Rattle.ae_machine.proofs.SightShows.{reads-too}
 use Rattle.ae_base.specs.Rows.{paths_of}
 use Rattle.ae_base.specs.declared.refusal.Refusal.{Refusal}
@@ -74,8 +73,7 @@ same-refused seen other tree one two all (path ∷ paths) is same among = λ i. 
 
 first-files : (f : Function) (given : Given) → makes_runs f ≡ true → first_of (asked_of_sight f) given ≡ option_or (right_files given) (option_or (configured given) None)
 first-files function.Build given makes = refl
-first-files function.Test given makes = refl
-first-files _ given makes = absurd (false≢true makes)
+first-files _ given makes = cc
 
 -- where the files are refused that is the answer
 pub files-answer : (o : Observation) (bytes : ℕ → List ℕ) (command : Command) (who : List ℕ) (when : ℕ) (seen : View) (refusal : Refusal) → makes_runs command.function ≡ true → refused_before (Some o) command who ≡ None

@@ -14,6 +14,7 @@ use Rattle.ae_types.specs.Runs.{Needed}
 use Rattle.ae_words.specs.declared.command.Command.{Command}
 use Rattle.ae_words.specs.declared.table.Function.{Function}
 use Rattle.ae_words.specs.declared.table.Function.TheVariants as function
+use Rattle.ae_words.specs.declared.table.Listing.{Listing}
 use Rattle.ae_words.specs.Formed.{IsFormed}
 use Rattle.ae_words.specs.Table.{needs_change, row}
 use Rattle.ae_evidence.specs.declared.directories.DirChange.{DirChange}
@@ -45,14 +46,13 @@ passed-before o command who none = go (is_new_project command.function) none
     go true e = cc
     go false e = passed (right_project ∷ right_change ∷ asked command.function) (call_of o command who) e
 
-runs-name : (f : Function) (command : Command) → command.function ≡ f → makes_runs f ≡ true → needs_change (row command.function) command.listing ≡ true
-runs-name function.Build command e makes = ap (λ (f : Function). needs_change (row f) command.listing) e
-runs-name function.Test command e makes = ap (λ (f : Function). needs_change (row f) command.listing) e
-runs-name _ command e makes = absurd (false≢true makes)
+runs-name : (f : Function) (listing : Option Listing) → makes_runs f ≡ true → needs_change (row f) listing ≡ true
+runs-name function.Build listing makes = refl
+runs-name _ listing makes = cc
 
 -- the change that is named is there
 pub named-there : (o : Observation) (command : Command) (who : List ℕ) → IsFormed command → makes_runs command.function ≡ true → refused_before (Some o) command who ≡ None → (change : Change) × (change_named o command.change ≡ Some change)
-named-there o command who formed makes none = some-found (change_named o command.change) (go command.change (change-there command formed.whole (runs-name command.function command refl makes)) (tested (is_none command.change || is_some (option_and_then (change_at o) command.change)) NoSuchChange (passed-before o command who none).1.0))
+named-there o command who formed makes none = some-found (change_named o command.change) (go command.change (change-there command formed.whole (runs-name command.function command.listing makes)) (tested (is_none command.change || is_some (option_and_then (change_at o) command.change)) NoSuchChange (passed-before o command who none).1.0))
   where
     go : (n : Option ℕ) → is_some n ≡ true → (is_none n || is_some (option_and_then (change_at o) n)) ≡ true → is_some (option_and_then (change_at o) n) ≡ true
     go (Some n) is there = there

@@ -34,7 +34,6 @@ use Rattle.ae_machine.proofs.Lists.{filter-in}
 use Rattle.std.specs.Prelude.{All}
 use Rattle.std.proofs.lemmas.List.{append-nil}
 use Rattle.std.proofs.lemmas.List.Elements.{All-cons, All-nil}
-use Rattle.std.proofs.lemmas.Bool.{false≢true}
 use Rattle.ae_exec.specs.Bytes.{HaveBytes, bytes_at, row_version, rows_at}
 use Rattle.ae_machine.specs.Sight.{with_bytes}
 use Rattle.ae_exec.specs.Reading.{candidate_named, compared_for, AreKept, IsInside, asked_of, reads_of, versions_by, versions_for_answer, versions_for_runs, versions_of}
@@ -293,8 +292,7 @@ both-kept files (v ∷ xs) ys one other = (one.0, both-kept files xs ys one.1 ot
 
 pub runs-read : (f : Function) (command : Command) (o : Observation) → makes_runs f ≡ true → versions_by f command o ≡ versions_for_answer command o ++ versions_for_runs command o
 runs-read function.Build command o is = refl
-runs-read function.Test command o is = refl
-runs-read _ command o is = absurd (false≢true is)
+runs-read _ command o is = cc
 
 -- of a command without runs the answer depends on none
 quiet-none : (command : Command) (o : Observation) → makes_runs command.function ≡ false → versions_for_answer command o ≡ []
