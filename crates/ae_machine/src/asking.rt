@@ -19,8 +19,8 @@ ghost use Rattle.ae_machine.specs.Sight.{config_below, config_path, has_config, 
 ghost use Rattle.ae_machine.specs.Versions.{config_version, files_refused, rows_based, rows_refreshed};
 
 use crate::View;
+use crate::call::change_of;
 use crate::reading::{contents_refused, paths_read};
-use crate::refusing::change_of;
 use crate::runs::{delta_of_run, is_integrating, kind_of, last_delta};
 use ae_base::{ChangeNo, Kind, PathList, Refusal};
 use ae_files::tree_at;

@@ -1,6 +1,6 @@
 // The least path that would clash with another one, where a change has these files. No list of the project's paths is made:
 // a path clashes where a folder on the way to another path is a path too, and these are looked up.
-ghost use Rattle.std.specs.Prelude.{◌≡◌, None, is_some, IfOk, option_copied};
+ghost use Rattle.std.specs.Prelude.{◌≡◌, None, is_some, option_copied};
 ghost use Rattle.std.specs.Ordering.{is_lt};
 ghost use Rattle.ae_types.specs.Found.{file_path};
 ghost use Rattle.ae_types.specs.Ordered.{Ascends};
@@ -8,12 +8,16 @@ ghost use Rattle.ae_types.specs.Phases.{is_remove};
 ghost use Rattle.ae_types.specs.Trees.{last_delta, tree_row};
 ghost use Rattle.ae_base.specs.Rows.{text_cmp};
 ghost use Rattle.ae_machine.specs.Filing.{are_clear};
+ghost use Rattle.ae_machine.specs.Freezing.{leaves_no_clash};
 ghost use Rattle.ae_machine.specs.LeastClash.{file_folder, folder_in, least_folder, lesser, path_in, row_folder, row_stays, rows_folder, standing_path};
 ghost use Rattle.ae_machine.specs.Paths.{paths_with};
+ghost use Rattle.ae_machine.specs.Refused.{Answers};
 
+use crate::call::Call;
+use crate::refused::Refused;
 use ae_base::{Action, Path, Refusal};
 use ae_types::{ChangeFile, FileRow, State, entry_at, file_in, row_in};
-use std::alloc::{AllocError, Global};
+use std::alloc::Global;
 
 // Whether the row's file is in the baseline.
 fn is_in_baseline(state: &State, row: &FileRow) -> bool
@@ -153,18 +157,28 @@ fn least_folder<'a>(state: &'a State, files: &'a [ChangeFile]) -> Option<&'a Pat
     least
 }
 
-/// Why a project with these files of a change would have paths that clash.
-pub(crate) fn clash_refused(
-    alloc: Global,
-    state: &State,
-    files: &[ChangeFile],
-) -> Result<Option<Refusal>, AllocError>
+/// A project with these files of a change has no paths that clash.
+pub(crate) fn are_clear(alloc: Global, state: &State, files: &[ChangeFile]) -> Result<(), Refused>
     requires { Ascends text_cmp file_path files.now }
-    ensures { IfOk result (λ refusal. refusal ≡ are_clear state.now files.now) }
+    ensures { Answers (are_clear state.now files.now) result }
 {
     state.note_sound();
     match least_folder(state, files) {
-        Some(path) => Ok(Some(Refusal::PathClash(path.copy(alloc)?))),
-        None => Ok(None),
+        Some(path) => {
+            let path = path.copy(alloc)?;
+            Err(Refused::Because(Refusal::PathClash(path)))
+        }
+        None => Ok(()),
+    }
+}
+
+/// With the change no path of the project clashes with another.
+pub(crate) fn leaves_no_clash(alloc: Global, call: &Call) -> Result<(), Refused>
+    ensures { Answers (leaves_no_clash call.now) result }
+{
+    call.note_sound();
+    match call.change() {
+        Some(change) => are_clear(alloc, call.state(), change.files.as_slice()),
+        None => Ok(()),
     }
 }

@@ -1,188 +1,133 @@
 // Why the development of a change isn't ended, by what asks nothing of the directories.
-ghost use Rattle.std.specs.Prelude.{◌≡◌, ◌∷◌, [], ℕ, List, IfOk};
-ghost use Rattle.std.specs.Option.{option_map, option_or};
-ghost use Rattle.ae_base.specs.Rows.{text_cmp};
-ghost use Rattle.ae_base.specs.declared.refusal.Refusal.TheVariants.{FileLocked};
-ghost use Rattle.ae_types.specs.Found.{file_path, locked_of};
-ghost use Rattle.ae_types.specs.Ordered.{Ascends};
-ghost use Rattle.ae_words.specs.declared.command.Command.{Command};
-ghost use Rattle.ae_machine.specs.Call.{call_of, first_of};
-ghost use Rattle.ae_machine.specs.Freezing.{change_has_files, change_leaves_no_clash, file_is_current, file_is_new, file_may_end, files_are_ready, files_may_end, has_a_file, leaves_no_clash, other_holder, versions_have_room};
-ghost use Rattle.ae_machine.specs.Permission.{caller_develops, caller_is_developer, right_phase};
+ghost use Rattle.std.specs.Prelude.{◌≡◌};
+ghost use Rattle.ae_policy.specs.Making.{IsPermission};
+ghost use Rattle.ae_machine.specs.Call.{first_of};
+ghost use Rattle.ae_machine.specs.Freezing.{change_has_files, file_is_current, file_is_free, file_is_new, file_may_end, files_are_ready, files_may_end, versions_have_room};
+ghost use Rattle.ae_machine.specs.Refused.{Answers};
 ghost use Rattle.ae_machine.specs.Verdict.{asked};
 
-use crate::clashes::clash_refused;
+use crate::call::Call;
+use crate::clashes::leaves_no_clash;
 use crate::paths::is_in_baseline;
-use crate::refusing::{
-    change_of, no_room_in_history, not_developer, not_its_developer, phase_refused,
-};
+use crate::refused::Refused;
+use crate::refusing::{caller_develops, caller_is_developer, history_has_room, right_phase};
 use ae_base::limits::MOST_VERSIONS;
-use ae_base::{Action, ChangeNo, Path, Refusal, User, Which};
+use ae_base::{Action, Refusal, Which};
 use ae_files::{edit, locked};
-use ae_types::{Change, ChangeFile, State};
-use ae_words::{Command, Function};
-use std::alloc::{AllocError, Global};
+use ae_types::{Change, ChangeFile};
+use ae_words::Function;
+use std::alloc::Global;
 
-// Why a path that another change holds is refused.
-fn held_by_other(
+// ---- the files of the change
+
+// No other change holds the file.
+fn file_is_free(
     alloc: Global,
-    state: &State,
-    number: ChangeNo,
-    path: &Path,
-) -> Result<Option<Refusal>, AllocError>
-    ensures { IfOk result (λ refusal. refusal ≡ option_map (FileLocked path.now) (other_holder number (locked_of state.now path.now))) }
+    call: &Call,
+    change: &Change,
+    file: &ChangeFile,
+) -> Result<(), Refused>
+    ensures { Answers (file_is_free call.now change.now file.now) result }
 {
-    match locked(state, path) {
-        Some(holder) if number != holder => {
-            Ok(Some(Refusal::FileLocked(path.copy(alloc)?, holder)))
+    match locked(call.state(), &file.path) {
+        Some(holder) if change.number != holder => {
+            let path = file.path.copy(alloc)?;
+            Err(Refused::Because(Refusal::FileLocked(path, holder)))
         }
-        _ => Ok(None),
+        _ => Ok(()),
     }
 }
 
-// Why a new file whose path is in the baseline is refused.
-fn not_new(alloc: Global, state: &State, file: &ChangeFile) -> Result<Option<Refusal>, AllocError>
-    ensures { (command : Command) (who : List ℕ) → IfOk result (λ refusal. refusal ≡ file_is_new (call_of state.now command who) file.now) }
+// A new file isn't in the baseline.
+fn file_is_new(alloc: Global, call: &Call, file: &ChangeFile) -> Result<(), Refused>
+    ensures { Answers (file_is_new call.now file.now) result }
 {
-    if file.action == Action::Create && is_in_baseline(state, &file.path) {
-        Ok(Some(Refusal::FileInProject(file.path.copy(alloc)?)))
+    if file.action == Action::Create && is_in_baseline(call.state(), &file.path) {
+        let path = file.path.copy(alloc)?;
+        Err(Refused::Because(Refusal::FileInProject(path)))
     } else {
-        Ok(None)
+        Ok(())
     }
 }
 
-// Why a file that didn't begin from the edit that its path has now is refused.
-fn out_of_date(
-    alloc: Global,
-    state: &State,
-    file: &ChangeFile,
-) -> Result<Option<Refusal>, AllocError>
-    ensures { (command : Command) (who : List ℕ) → IfOk result (λ refusal. refusal ≡ file_is_current (call_of state.now command who) file.now) }
+// The file began from the edit that its path has now.
+fn file_is_current(alloc: Global, call: &Call, file: &ChangeFile) -> Result<(), Refused>
+    ensures { Answers (file_is_current call.now file.now) result }
 {
-    let now = edit(state, &file.path);
+    let now = edit(call.state(), &file.path);
     if file.origin == now {
-        Ok(None)
-    } else {
-        Ok(Some(Refusal::OutOfDate(file.path.copy(alloc)?, file.origin, now)))
+        return Ok(());
     }
+    let path = file.path.copy(alloc)?;
+    Err(Refused::Because(Refusal::OutOfDate(path, file.origin, now)))
 }
 
-// Why a file of the change may not be frozen.
-fn file_refused(
+fn file_may_end(
     alloc: Global,
-    state: &State,
+    call: &Call,
     change: &Change,
     file: &ChangeFile,
-) -> Result<Option<Refusal>, AllocError>
-    ensures { (command : Command) (who : List ℕ) → IfOk result (λ refusal. refusal ≡ file_may_end (call_of state.now command who) change.now file.now) }
+) -> Result<(), Refused>
+    ensures { Answers (file_may_end call.now change.now file.now) result }
 {
-    if let Some(refusal) = held_by_other(alloc, state, change.number, &file.path)? {
-        return Ok(Some(refusal));
-    }
-    if let Some(refusal) = not_new(alloc, state, file)? {
-        return Ok(Some(refusal));
-    }
-    out_of_date(alloc, state, file)
+    file_is_free(alloc, call, change, file)?;
+    file_is_new(alloc, call, file)?;
+    file_is_current(alloc, call, file)
 }
 
-// Why one of the files of the change may not be frozen.
-fn files_refused(
-    alloc: Global,
-    state: &State,
-    change: &Change,
-) -> Result<Option<Refusal>, AllocError>
-    ensures { (command : Command) (who : List ℕ) → IfOk result (λ refusal. refusal ≡ files_are_ready (call_of state.now command who) change.now) }
+fn files_are_ready(alloc: Global, call: &Call, change: &Change) -> Result<(), Refused>
+    ensures { Answers (files_are_ready call.now change.now) result }
 {
     for file in change.files.as_slice() {
-        if let Some(refusal) = file_refused(alloc, state, change, file)? {
-            return Ok(Some(refusal));
-        }
+        file_may_end(alloc, call, change, file)?;
     }
-    Ok(None)
+    Ok(())
 }
 
-// Why the change has no files that may be frozen together.
-fn change_refused(
-    alloc: Global,
-    state: &State,
-    change: &Change,
-) -> Result<Option<Refusal>, AllocError>
-    requires { Ascends text_cmp file_path change.now.files }
-    ensures { (command : Command) (who : List ℕ) → let call = call_of state.now command who in
-        IfOk result (λ refusal. refusal ≡ option_or (has_a_file call change.now) (option_or (files_are_ready call change.now) (change_leaves_no_clash call change.now))) }
+fn files_may_end(alloc: Global, call: &Call) -> Result<(), Refused>
+    ensures { Answers (files_may_end call.now) result }
 {
-    if change.files.len() == 0 {
-        return Ok(Some(Refusal::NoFiles));
-    }
-    if let Some(refusal) = files_refused(alloc, state, change)? {
-        return Ok(Some(refusal));
-    }
-    clash_refused(alloc, state, change.files.as_slice())
-}
-
-// The same of the change that is named.
-fn named_refused(
-    alloc: Global,
-    state: &State,
-    command: &Command,
-) -> Result<Option<Refusal>, AllocError>
-    ensures { (who : List ℕ) → IfOk result (λ refusal. refusal ≡ first_of (change_has_files ∷ files_may_end ∷ leaves_no_clash ∷ []) (call_of state.now command.now who)) }
-{
-    state.note_sound();
-    match change_of(state, command) {
-        Some(change) => change_refused(alloc, state, change),
-        None => Ok(None),
+    match call.change() {
+        Some(change) => files_are_ready(alloc, call, change),
+        None => Ok(()),
     }
 }
 
-// Why there are no numbers for more versions.
-fn no_room_for_versions(state: &State) -> Option<Refusal>
-    ensures { (command : Command) (who : List ℕ) → result ≡ versions_have_room (call_of state.now command who) }
+fn change_has_files(call: &Call) -> Result<(), Refusal>
+    ensures { IsPermission (change_has_files call.now) result }
 {
-    if state.project().next_version < MOST_VERSIONS {
-        None
+    match call.change() {
+        Some(change) if change.files.len() == 0 => Err(Refusal::NoFiles),
+        _ => Ok(()),
+    }
+}
+
+// ---- room
+
+// The numbers of versions aren't used up.
+fn versions_have_room(call: &Call) -> Result<(), Refusal>
+    ensures { IsPermission (versions_have_room call.now) result }
+{
+    if call.state().project().next_version < MOST_VERSIONS {
+        Ok(())
     } else {
-        Some(Refusal::Limit(Which::Versions, Which::Versions.most()))
+        Err(Refusal::Limit(Which::Versions, Which::Versions.most()))
     }
 }
 
-// Why the user doesn't end the development of the change, or not in this phase.
-fn ender_refused(
-    alloc: Global,
-    state: &State,
-    command: &Command,
-    who: &User,
-) -> Result<Option<Refusal>, AllocError>
-    requires end { command.now.function ≡ Function.DevelopEnd }
-    ensures { IfOk result (λ refusal. refusal ≡ first_of (right_phase ∷ caller_is_developer ∷ caller_develops ∷ []) (call_of state.now command.now who.now)) }
-{
-    if let Some(refusal) = phase_refused(state, command) {
-        return Ok(Some(refusal));
-    }
-    if let Some(refusal) = not_developer(state.project(), who) {
-        return Ok(Some(refusal));
-    }
-    not_its_developer(alloc, state, command, who)
-}
+// ---- the function
 
-/// Why the development of the change isn't ended, by what asks nothing of the directories.
-pub(crate) fn end_refused(
-    alloc: Global,
-    state: &State,
-    command: &Command,
-    who: &User,
-) -> Result<Option<Refusal>, AllocError>
-    requires end { command.now.function ≡ Function.DevelopEnd }
-    ensures { IfOk result (λ refusal. refusal ≡ first_of (asked Function.DevelopEnd) (call_of state.now command.now who.now)) }
+pub(crate) fn develop_end(alloc: Global, call: &Call) -> Result<(), Refused>
+    requires end { call.now.command.function ≡ Function.DevelopEnd }
+    ensures { Answers (first_of (asked Function.DevelopEnd) call.now) result }
 {
-    if let Some(refusal) = ender_refused(alloc, state, command, who)? {
-        return Ok(Some(refusal));
-    }
-    if let Some(refusal) = named_refused(alloc, state, command)? {
-        return Ok(Some(refusal));
-    }
-    if let Some(refusal) = no_room_in_history(state, command) {
-        return Ok(Some(refusal));
-    }
-    Ok(no_room_for_versions(state))
+    right_phase(call)?;
+    caller_is_developer(call)?;
+    caller_develops(alloc, call)?;
+    change_has_files(call)?;
+    files_may_end(alloc, call)?;
+    leaves_no_clash(alloc, call)?;
+    history_has_room(call)?;
+    versions_have_room(call)?;
+    Ok(())
 }

@@ -6,6 +6,7 @@ ghost use Rattle.ae_evidence.specs.declared.runs.Job.{Job};
 ghost use Rattle.ae_machine.specs.declared.verdict.Verdict.TheVariants.{Accept};
 ghost use Rattle.ae_machine.specs.Call.{Placing, given_in, given_of};
 ghost use Rattle.ae_machine.specs.Commands.{AnswersRun, AnswersRuns, GivesCommands, command_told, config_read, config_seen, run_told};
+ghost use Rattle.ae_machine.specs.Deciding.{given_to};
 ghost use Rattle.ae_machine.specs.Jobs.{AnswersJobs};
 ghost use Rattle.ae_conf.specs.Values.{IsCommand};
 ghost use Rattle.ae_machine.specs.Fits.{makes_runs};
@@ -13,51 +14,51 @@ ghost use Rattle.ae_machine.specs.Runs.{needed_of};
 ghost use Rattle.ae_machine.specs.Verdict.{event_of, events_of};
 ghost use Rattle.ae_machine.specs.Versions.{ShowsVersions};
 
+use crate::call::Call;
 use crate::commands::{ConfigRead, command_from, config_read};
 use crate::events::push_event;
 use crate::reading::{config_seen, subject};
 use crate::runs::{delta_of_run, group, named_copy, part_of, values_of};
 use crate::{Verdict, View};
-use ae_base::{ChangeNo, Delta, Kind, Path, ProjectName, Refusal, Snapshot, Text, User};
+use ae_base::{ChangeNo, Delta, Kind, Path, ProjectName, Refusal, Snapshot, Text};
 use ae_evidence::{Job, JobList, RunKey, RunRow};
 use ae_log::{EventKind, EventList, RunEvent};
 use ae_types::{Change, Rows, State};
 use ae_words::Command;
 use std::alloc::{AllocError, Global};
 
+// What the commands of the runs of a change are made of.
+#[derive(Drop)]
+struct Told<'a> {
+    project: &'a ProjectName,
+    change: &'a Change,
+    delta: Delta,
+    read: &'a ConfigRead,
+}
+
 // The command of a run of this kind and path, or why there is none.
 fn command_told(
     alloc: Global,
-    project: &ProjectName,
-    change: &Change,
-    delta: Delta,
-    read: &ConfigRead,
+    told: &Told,
     kind: Kind,
     path: Option<&Path>,
 ) -> Result<Result<Text, Refusal>, AllocError>
-    requires { GivesCommands read.now }
-    ensures command { IfOk result (λ command. command ≡ command_told project.now change.now delta read.now (record { kind = kind; path = option_copied path.entry })) }
+    requires { GivesCommands told.now.read.now }
+    ensures command { IfOk result (λ command. command ≡ command_told told.now.project.now told.now.change.now told.now.delta told.now.read.now (record { kind = kind; path = option_copied path.entry })) }
     ensures may_run { IfOk result (λ command. IfOk command IsCommand) }
 {
-    let values = values_of(alloc, project, change, delta, path)?;
-    command_from(alloc, read, kind, &values)
+    let values = values_of(alloc, told.project, told.change, told.delta, path)?;
+    command_from(alloc, told.read, kind, &values)
 }
 
 // The run with its command, or why it has none.
-fn make_job(
-    alloc: Global,
-    project: &ProjectName,
-    change: &Change,
-    delta: Delta,
-    read: &ConfigRead,
-    run: &RunKey,
-) -> Result<Result<Job, Refusal>, AllocError>
-    requires { GivesCommands read.now }
-    ensures job { IfOk result (AnswersRun (command_told project.now change.now delta read.now) run.now) }
+fn make_job(alloc: Global, told: &Told, run: &RunKey) -> Result<Result<Job, Refusal>, AllocError>
+    requires { GivesCommands told.now.read.now }
+    ensures job { IfOk result (AnswersRun (command_told told.now.project.now told.now.change.now told.now.delta told.now.read.now) run.now) }
     ensures command { IfOk result (λ job. IfOk job (λ (job : Job). IsCommand job.command)) }
 {
     let path = run.path.as_ref();
-    match command_told(alloc, project, change, delta, read, run.kind, path)? {
+    match command_told(alloc, told, run.kind, path)? {
         Ok(command) => Ok(Ok(Job {
             kind: run.kind,
             path: named_copy(alloc, path)?,
@@ -70,19 +71,16 @@ fn make_job(
 // The runs, each with its command, or why the first that has none has none.
 fn make_jobs(
     alloc: Global,
-    project: &ProjectName,
-    change: &Change,
-    delta: Delta,
-    read: &ConfigRead,
+    told: &Told,
     runs: &[RunKey],
 ) -> Result<Result<JobList, Refusal>, AllocError>
-    requires { GivesCommands read.now }
-    ensures jobs { IfOk result (AnswersRuns (command_told project.now change.now delta read.now) runs.now) }
+    requires { GivesCommands told.now.read.now }
+    ensures jobs { IfOk result (AnswersRuns (command_told told.now.project.now told.now.change.now told.now.delta told.now.read.now) runs.now) }
     ensures commands { IfOk result (λ jobs. IfOk jobs (All (λ (job : Job). IsCommand job.command))) }
 {
     let mut jobs = JobList::new(alloc);
     for run in runs {
-        match make_job(alloc, project, change, delta, read, run)? {
+        match make_job(alloc, told, run)? {
             Ok(job) => jobs.push(job)?,
             Err(refusal) => return Ok(Err(refusal)),
         }
@@ -127,7 +125,13 @@ pub(crate) fn jobs_of(
     let runs = group(alloc, state, command, change)?;
     let read = config_of(alloc, state, number, change, view)?;
     let delta = delta_of_run(state, change);
-    make_jobs(alloc, &project.name, change, delta, &read, runs.as_slice())
+    let told = Told {
+        project: &project.name,
+        change,
+        delta,
+        read: &read,
+    };
+    make_jobs(alloc, &told, runs.as_slice())
 }
 
 /// The runs that the command is to make, each with the command that aegis.conf gives for it, or why one has none. That file's
@@ -154,26 +158,11 @@ pub fn jobs_asked(
 }
 
 // The command with which a run was made, empty where none is given for it.
-fn command_run(
-    alloc: Global,
-    project: &ProjectName,
-    change: &Change,
-    delta: Delta,
-    read: &ConfigRead,
-    run: &RunRow,
-) -> Result<Text, AllocError>
-    requires { GivesCommands read.now }
-    ensures { IfOk result (λ command. command ≡ given_in (command_told project.now change.now delta read.now (needed_of run.now)) []) }
+fn command_run(alloc: Global, told: &Told, run: &RunRow) -> Result<Text, AllocError>
+    requires { GivesCommands told.now.read.now }
+    ensures { IfOk result (λ command. command ≡ given_in (command_told told.now.project.now told.now.change.now told.now.delta told.now.read.now (needed_of run.now)) []) }
 {
-    match command_told(
-        alloc,
-        project,
-        change,
-        delta,
-        read,
-        run.kind,
-        run.path.as_ref(),
-    )? {
+    match command_told(alloc, told, run.kind, run.path.as_ref())? {
         Ok(command) => Ok(command),
         Err(refusal) => {
             drop(refusal);
@@ -193,21 +182,18 @@ fn trees_of(alloc: Global, run: &RunRow) -> Result<(Snapshot, Snapshot), AllocEr
 // The run as it is recorded.
 fn run_event(
     alloc: Global,
-    project: &ProjectName,
-    change: &Change,
-    delta: Delta,
-    read: &ConfigRead,
+    told: &Told,
     subject: [u8; 32],
     run: &RunRow,
 ) -> Result<EventKind, AllocError>
-    requires { GivesCommands read.now }
-    ensures { IfOk result (λ kind. kind ≡ on.Run (run_told project.now change.now delta read.now subject run.now)) }
+    requires { GivesCommands told.now.read.now }
+    ensures { IfOk result (λ kind. kind ≡ on.Run (run_told told.now.project.now told.now.change.now told.now.delta told.now.read.now subject run.now)) }
 {
-    let command = command_run(alloc, project, change, delta, read, run)?;
+    let command = command_run(alloc, told, run)?;
     let path = named_copy(alloc, run.path.as_ref())?;
     let (before, after) = trees_of(alloc, run)?;
     Ok(EventKind::Run(RunEvent {
-        during: part_of(change.phase),
+        during: part_of(told.change.phase),
         kind: run.kind,
         path,
         command,
@@ -221,23 +207,27 @@ fn run_event(
 // Accepted, with an event for each run.
 fn accept_runs(
     alloc: Global,
-    command: &Command,
-    who: &User,
+    call: &Call,
     when: u64,
-    project: &ProjectName,
-    change: &Change,
-    delta: Delta,
-    read: &ConfigRead,
+    told: &Told,
     subject: [u8; 32],
     runs: &[RunRow],
 ) -> Result<Verdict, AllocError>
-    requires { GivesCommands read.now }
-    ensures { IfOk result (λ verdict. verdict ≡ Accept (map (event_of who.now when command.now.change) (map on.Run (map (run_told project.now change.now delta read.now subject) runs.now)))) }
+    requires { GivesCommands told.now.read.now }
+    ensures { let event_told = run_told told.now.project.now told.now.change.now told.now.delta told.now.read.now subject in
+        IfOk result (λ verdict. verdict ≡ Accept (map (event_of call.now.who when call.now.command.change) (map on.Run (map event_told runs.now)))) }
 {
     let mut events = EventList::new(alloc);
     for run in runs {
-        let what = run_event(alloc, project, change, delta, read, subject, run)?;
-        push_event(alloc, &mut events, who, when, command.change, what)?;
+        let what = run_event(alloc, told, subject, run)?;
+        push_event(
+            alloc,
+            &mut events,
+            call.who(),
+            when,
+            call.command().change,
+            what,
+        )?;
     }
     Ok(Verdict::Accept(events))
 }
@@ -245,27 +235,29 @@ fn accept_runs(
 /// Accepted, with an event for each run of the change that the command saw.
 pub(crate) fn accept_seen(
     alloc: Global,
-    state: &State,
-    command: &Command,
+    call: &Call,
     number: ChangeNo,
     change: &Change,
-    who: &User,
     when: u64,
     view: &View,
 ) -> Result<Verdict, AllocError>
-    requires runs { makes_runs command.now.function ≡ true }
-    requires names { command.now.change ≡ Some number }
-    requires named { change_at state.now number ≡ Some change.now }
-    ensures { (places : Placing) (bytes : ℕ → List ℕ) → ShowsVersions (Some state.now) bytes command.now who.now view.now →
-        IfOk result (λ verdict. verdict ≡ Accept (events_of (given_of places state.now bytes command.now who.now when view.now))) }
+    requires runs { makes_runs call.now.command.function ≡ true }
+    requires names { call.now.command.change ≡ Some number }
+    requires named { change_at call.now.stands number ≡ Some change.now }
+    ensures { (places : Placing) (bytes : ℕ → List ℕ) → ShowsVersions (Some call.now.stands) bytes call.now.command call.now.who view.now →
+        IfOk result (λ verdict. verdict ≡ Accept (events_of (given_to places call.now bytes when view.now))) }
 {
-    let project = state.project();
+    let state = call.state();
     let subject = subject(alloc, state, number, change, view)?;
     let read = config_of(alloc, state, number, change, view)?;
+    let project = state.project();
     let delta = delta_of_run(state, change);
-    let name = &project.name;
+    let told = Told {
+        project: &project.name,
+        change,
+        delta,
+        read: &read,
+    };
     let runs = view.runs.as_slice();
-    accept_runs(
-        alloc, command, who, when, name, change, delta, &read, subject, runs,
-    )
+    accept_runs(alloc, call, when, &told, subject, runs)
 }

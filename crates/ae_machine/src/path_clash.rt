@@ -2,7 +2,7 @@
 // has that path in it. So only the folders on the way to it are looked up, and of the other paths only those that lie in it
 // are gone over: they stand together, and are found by binary search. Of two paths of the project that don't clash, none
 // lies in both, so that for all clear paths of one command no row is gone over twice.
-ghost use Rattle.std.specs.Prelude.{◌≡◌, ◌≤◌, [], IfOk, drop, length, option_copied, true};
+ghost use Rattle.std.specs.Prelude.{◌≡◌, ◌≤◌, [], drop, length, option_copied, true};
 ghost use Rattle.std.specs.Ordering.{is_eq, is_lt};
 ghost use Rattle.ae_types.specs.Found.{file_path, row_path};
 ghost use Rattle.ae_types.specs.Ordered.{Ascends};
@@ -10,11 +10,13 @@ ghost use Rattle.ae_base.specs.Rows.{text_cmp};
 ghost use Rattle.ae_machine.specs.Filing.{are_clear};
 ghost use Rattle.ae_machine.specs.LeastClash.{row_stays};
 ghost use Rattle.ae_machine.specs.PathClash.{IsClearBut, any_in_folder, file_stays, from_folder, holds_paths, path_clash, place_to};
+ghost use Rattle.ae_machine.specs.Refused.{Answers};
 
-use crate::clashes::{clash_refused, folder_there, is_removed, path_there, row_stays};
+use crate::clashes::{are_clear, folder_there, is_removed, path_there, row_stays};
+use crate::refused::Refused;
 use ae_base::{Path, Refusal};
 use ae_types::{ChangeFile, FileRow, State};
-use std::alloc::{AllocError, Global};
+use std::alloc::Global;
 use std::cmp::Ordering;
 
 // Where what follows the folder stands to what lies in it.
@@ -128,40 +130,43 @@ fn path_clash<'a>(state: &'a State, files: &'a [ChangeFile], path: &[u8]) -> Opt
     }
 }
 
-// Why a project with these files of a change would have paths that clash, where of any two that do one is this path.
-fn path_clash_refused(
+// A project with these files of a change has no paths that clash, where of any two that do one is this path.
+fn path_is_clear(
     alloc: Global,
     state: &State,
     files: &[ChangeFile],
     path: &Path,
-) -> Result<Option<Refusal>, AllocError>
+) -> Result<(), Refused>
     requires ascend { Ascends text_cmp file_path files.now }
     requires clear { IsClearBut path.now state.now files.now }
-    ensures { IfOk result (λ refusal. refusal ≡ are_clear state.now files.now) }
+    ensures { Answers (are_clear state.now files.now) result }
 {
     state.note_sound();
     match path_clash(state, files, path.bytes()) {
-        Some(least) => Ok(Some(Refusal::PathClash(least.copy(alloc)?))),
-        None => Ok(None),
+        Some(least) => {
+            let least = least.copy(alloc)?;
+            Err(Refused::Because(Refusal::PathClash(least)))
+        }
+        None => Ok(()),
     }
 }
 
-/// Why a project with these files of a change would have paths that clash. Where the files were clear before this path was
-/// put or taken, it alone is tested.
-pub(crate) fn clash_refused_behind(
+/// A project with these files of a change has no paths that clash. Where the files were clear before this path was put or
+/// taken, it alone is tested.
+pub(crate) fn stay_clear(
     alloc: Global,
     state: &State,
     files: &[ChangeFile],
     path: &Path,
     were_clear: bool,
-) -> Result<Option<Refusal>, AllocError>
+) -> Result<(), Refused>
     requires ascend { Ascends text_cmp file_path files.now }
     requires clear { were_clear ≡ true → IsClearBut path.now state.now files.now }
-    ensures { IfOk result (λ refusal. refusal ≡ are_clear state.now files.now) }
+    ensures { Answers (are_clear state.now files.now) result }
 {
     if were_clear {
-        path_clash_refused(alloc, state, files, path)
+        path_is_clear(alloc, state, files, path)
     } else {
-        clash_refused(alloc, state, files)
+        are_clear(alloc, state, files)
     }
 }

@@ -1,31 +1,34 @@
 // The files that a command gives its change or takes away, path by path, each as if those before it were done.
-ghost use Rattle.std.specs.Prelude.{◌≡◌, ◌≤◌, ◌∷◌, [], ℕ, List, true, None, Some, map, filter, length, nat_le, is_some, IfOk, OnOk};
-ghost use Rattle.std.specs.Option.{option_map};
-ghost use Rattle.ae_base.specs.declared.words.Usage.TheVariants as usage;
-ghost use Rattle.ae_base.specs.declared.refusal.Refusal.TheVariants.{FileInChange, FileNotInChange, FileInProject, FileNotInProject};
+ghost use Rattle.std.specs.Prelude.{◌≡◌, ◌≤◌, ◌&&◌, ◌∷◌, [], true, None, Some, map, filter, length, nat_le, IfOk, OnOk};
+ghost use Rattle.std.specs.Option.{is_none, option_map};
+ghost use Rattle.ae_base.specs.declared.refusal.Refusal.TheVariants.{FileInChange};
+ghost use Rattle.ae_policy.specs.Making.{IsPermission};
 ghost use Rattle.ae_types.specs.declared.file_table.FileVersion.{FileVersion};
-ghost use Rattle.ae_types.specs.Found.{file_path, file_in, there_and};
+ghost use Rattle.ae_types.specs.Found.{file_path, file_in};
 ghost use Rattle.ae_types.specs.Ordered.{Ascends};
 ghost use Rattle.ae_types.specs.Trees.{baseline_of, tree_of};
 ghost use Rattle.ae_base.specs.Rows.{text_cmp};
 ghost use Rattle.ae_log.specs.After.{new_file};
 ghost use Rattle.ae_machine.specs.declared.verdict.Verdict.TheVariants.{Accept};
-ghost use Rattle.ae_machine.specs.Call.{call_of, unless};
+ghost use Rattle.ae_machine.specs.Call.{unless};
 ghost use Rattle.ae_machine.specs.Filing.{is_of_files, usage_of_row, asked_before, are_clear, are_few, asked_behind};
 ghost use Rattle.ae_machine.specs.PathClash.{IsClearBut, asks_for_clashes};
-ghost use Rattle.ae_machine.specs.Paths.{asked_of_path, edit_named, file_made, files_then, files_with, first_path_refused, is_in, path_event, path_refused, takes_away, usage_in_baseline, usage_of_new, in_trees, in_baseline, not_in_baseline, not_in_change, not_in_change_or_overwritten};
+ghost use Rattle.ae_machine.specs.Paths.{asked_of_path, edit_named, file_made, files_then, files_with, in_baseline, in_change_so, in_trees, is_in, is_in_baseline, not_in_baseline, not_in_change, not_in_change_or_overwritten, path_event, path_refused, paths_are_right, takes_away, tree_named, usage_in_baseline, usage_of_new};
+ghost use Rattle.ae_machine.specs.Refused.{Answers, UnlessMemory};
 ghost use Rattle.ae_machine.specs.Sight.{row_at};
 ghost use Rattle.ae_machine.specs.Verdict.{event_of};
 
 use crate::Verdict;
+use crate::call::Call;
 use crate::events::push_event;
-use crate::path_clash::clash_refused_behind;
+use crate::path_clash::stay_clear;
+use crate::refused::Refused;
 use ae_base::limits::MOST_CHANGE_FILES;
-use ae_base::{Action, ChangeNo, Delta, Path, PathList, Refusal, Usage, User, Which};
+use ae_base::{Action, Delta, Path, Refusal, Usage, Which};
 use ae_files::edit;
 use ae_log::{EventKind, EventList, put_file, take_file};
 use ae_types::{Change, ChangeFile, FileVersion, State, TryCopy, entry_at, file_in};
-use ae_words::{Command, Function};
+use ae_words::Function;
 use std::alloc::{AllocError, Global};
 
 // The usage of the path's file at a delta, where it is there.
@@ -56,11 +59,11 @@ pub(crate) fn is_in_baseline(state: &State, path: &Path) -> bool
 }
 
 // The usage that the path has in the baseline.
-fn usage_in_baseline(state: &State, command: &Command, path: &Path) -> Usage
-    ensures { (who : List ℕ) → result ≡ usage_in_baseline (call_of state.now command.now who) path.now }
+fn usage_in_baseline(call: &Call, path: &Path) -> Usage
+    ensures { result ≡ usage_in_baseline call.now path.now }
 {
-    let last = state.project().deltas.len();
-    match usage_at(state, last, path) {
+    let last = call.state().project().deltas.len();
+    match usage_at(call.state(), last, path) {
         Some(usage) => usage,
         None => Usage::Source,
     }
@@ -120,31 +123,27 @@ fn some_file(
 }
 
 // The file that the function makes of a path, and none where it takes one away.
-fn file_made(
-    alloc: Global,
-    state: &State,
-    command: &Command,
-    path: &Path,
-) -> Result<Option<ChangeFile>, AllocError>
-    requires { is_of_files command.now.function ≡ true }
-    ensures { (who : List ℕ) → IfOk result (λ made. made ≡ file_made command.now.function (call_of state.now command.now who) path.now) }
+fn file_made(alloc: Global, call: &Call, path: &Path) -> Result<Option<ChangeFile>, AllocError>
+    requires { is_of_files call.now.command.function ≡ true }
+    ensures { IfOk result (λ made. made ≡ file_made call.now.command.function call.now path.now) }
 {
-    match command.function {
+    match call.command().function {
         Function::CopyFile => {
-            let usage = usage_in_baseline(state, command, path);
-            let origin = edit_named(state, command.delta, path);
+            let usage = usage_in_baseline(call, path);
+            let origin = edit_named(call.state(), call.command().delta, path);
             some_file(alloc, path, Action::Modify, usage, origin)
         }
         Function::NewFile => {
             let usage = usage_of_new(path);
-            some_file(alloc, path, Action::Create, usage, edit(state, path))
+            some_file(alloc, path, Action::Create, usage, edit(call.state(), path))
         }
         Function::NewTest => {
-            some_file(alloc, path, Action::Create, Usage::Test, edit(state, path))
+            let origin = edit(call.state(), path);
+            some_file(alloc, path, Action::Create, Usage::Test, origin)
         }
         Function::RemoveFile => {
-            let usage = usage_in_baseline(state, command, path);
-            some_file(alloc, path, Action::Remove, usage, edit(state, path))
+            let usage = usage_in_baseline(call, path);
+            some_file(alloc, path, Action::Remove, usage, edit(call.state(), path))
         }
         _ => Ok(None),
     }
@@ -181,143 +180,146 @@ fn takes_away(function: Function, file: &ChangeFile) -> bool
     }
 }
 
-// Why a path whose file the change has, or hasn't, isn't taken.
-fn taking_refused(
+// The change has a file of the path that the function takes away.
+fn in_change_so(
     alloc: Global,
-    function: Function,
+    call: &Call,
     files: &[ChangeFile],
     path: &Path,
-) -> Result<Option<Refusal>, AllocError>
+) -> Result<(), Refused>
     requires { Ascends text_cmp file_path files.now }
-    ensures { IfOk result (λ refusal. refusal ≡ unless (there_and (file_in files.now path.now) (takes_away function)) (FileNotInChange path.now)) }
+    ensures { Answers (in_change_so call.now files.now path.now) result }
 {
     match file_in(files, path.bytes()) {
-        Some(file) if takes_away(function, file) => Ok(None),
-        _ => Ok(Some(Refusal::FileNotInChange(path.copy(alloc)?))),
+        Some(file) if takes_away(call.command().function, file) => Ok(()),
+        _ => Err(Refused::Because(Refusal::FileNotInChange(path.copy(alloc)?))),
     }
 }
 
-// Why the copy of a path isn't made.
-fn copy_refused(
-    alloc: Global,
-    state: &State,
-    command: &Command,
-    files: &[ChangeFile],
-    path: &Path,
-) -> Result<Option<Refusal>, AllocError>
+// The path isn't in the change.
+fn not_in_change(alloc: Global, files: &[ChangeFile], path: &Path) -> Result<(), Refused>
     requires { Ascends text_cmp file_path files.now }
-    ensures { (who : List ℕ) → IfOk result (λ refusal. refusal ≡ path_refused (in_trees ∷ not_in_change_or_overwritten ∷ []) (call_of state.now command.now who) files.now path.now) }
+    ensures { Answers (unless (is_none (file_in files.now path.now)) (FileInChange path.now)) result }
 {
-    if !is_in_baseline(state, path) {
-        return Ok(Some(Refusal::FileNotInProject(path.copy(alloc)?)));
+    if file_in(files, path.bytes()).is_none() {
+        return Ok(());
     }
-    if let Some(delta) = command.delta {
-        if !is_in_tree(state, usize::from(delta.number()), path) {
-            return Ok(Some(Refusal::FileNotInProject(path.copy(alloc)?)));
+    Err(Refused::Because(Refusal::FileInChange(path.copy(alloc)?)))
+}
+
+// Whether the path is in the baseline, and in the tree of the delta that is named.
+fn is_in_trees(call: &Call, path: &Path) -> bool
+    ensures { result ≡ is_in_baseline call.now path.now && is_in (tree_named call.now.stands call.now.command.delta) path.now }
+{
+    let state = call.state();
+    match call.command().delta {
+        Some(delta) => {
+            is_in_baseline(state, path) && is_in_tree(state, usize::from(delta.number()), path)
         }
+        None => is_in_baseline(state, path),
     }
-    if file_in(files, path.bytes()).is_some() && !command.overwriting {
-        return Ok(Some(Refusal::FileInChange(path.copy(alloc)?)));
-    }
-    Ok(None)
 }
 
-// Why a new file of a path isn't made.
-fn making_refused(
+// The path may be copied into the change.
+fn may_be_copied(
     alloc: Global,
-    state: &State,
-    command: &Command,
+    call: &Call,
     files: &[ChangeFile],
     path: &Path,
-) -> Result<Option<Refusal>, AllocError>
+) -> Result<(), Refused>
     requires { Ascends text_cmp file_path files.now }
-    ensures { (who : List ℕ) → IfOk result (λ refusal. refusal ≡ path_refused (not_in_change ∷ not_in_baseline ∷ []) (call_of state.now command.now who) files.now path.now) }
+    ensures { Answers (path_refused (in_trees ∷ not_in_change_or_overwritten ∷ []) call.now files.now path.now) result }
 {
-    if file_in(files, path.bytes()).is_some() {
-        return Ok(Some(Refusal::FileInChange(path.copy(alloc)?)));
+    if !is_in_trees(call, path) {
+        return Err(Refused::Because(Refusal::FileNotInProject(path.copy(alloc)?)));
     }
-    if is_in_baseline(state, path) {
-        return Ok(Some(Refusal::FileInProject(path.copy(alloc)?)));
+    if call.command().overwriting {
+        return Ok(());
     }
-    Ok(None)
+    not_in_change(alloc, files, path)
 }
 
-// Why a path isn't removed.
-fn removing_refused(
-    alloc: Global,
-    state: &State,
-    command: &Command,
-    files: &[ChangeFile],
-    path: &Path,
-) -> Result<Option<Refusal>, AllocError>
+// A new file of the path may be made.
+fn may_be_made(alloc: Global, call: &Call, files: &[ChangeFile], path: &Path) -> Result<(), Refused>
     requires { Ascends text_cmp file_path files.now }
-    ensures { (who : List ℕ) → IfOk result (λ refusal. refusal ≡ path_refused (in_baseline ∷ not_in_change ∷ []) (call_of state.now command.now who) files.now path.now) }
+    ensures { Answers (path_refused (not_in_change ∷ not_in_baseline ∷ []) call.now files.now path.now) result }
 {
-    if !is_in_baseline(state, path) {
-        return Ok(Some(Refusal::FileNotInProject(path.copy(alloc)?)));
+    not_in_change(alloc, files, path)?;
+    if is_in_baseline(call.state(), path) {
+        return Err(Refused::Because(Refusal::FileInProject(path.copy(alloc)?)));
     }
-    if file_in(files, path.bytes()).is_some() {
-        return Ok(Some(Refusal::FileInChange(path.copy(alloc)?)));
-    }
-    Ok(None)
+    Ok(())
 }
 
-// Why the path is refused before its file is made or taken away.
-fn refused_before(
+// The path may be removed.
+fn may_be_removed(
     alloc: Global,
-    state: &State,
-    command: &Command,
+    call: &Call,
     files: &[ChangeFile],
     path: &Path,
-) -> Result<Option<Refusal>, AllocError>
-    requires of_files { is_of_files command.now.function ≡ true }
+) -> Result<(), Refused>
+    requires { Ascends text_cmp file_path files.now }
+    ensures { Answers (path_refused (in_baseline ∷ not_in_change ∷ []) call.now files.now path.now) result }
+{
+    if !is_in_baseline(call.state(), path) {
+        return Err(Refused::Because(Refusal::FileNotInProject(path.copy(alloc)?)));
+    }
+    not_in_change(alloc, files, path)
+}
+
+// The path is as it is asked to be before its file is made or taken away.
+fn asked_before(
+    alloc: Global,
+    call: &Call,
+    files: &[ChangeFile],
+    path: &Path,
+) -> Result<(), Refused>
+    requires of_files { is_of_files call.now.command.function ≡ true }
     requires ascend { Ascends text_cmp file_path files.now }
-    ensures { (who : List ℕ) → IfOk result (λ refusal. refusal ≡ path_refused (asked_before command.now.function) (call_of state.now command.now who) files.now path.now) }
+    ensures { Answers (path_refused (asked_before call.now.command.function) call.now files.now path.now) result }
 {
-    match command.function {
-        Function::CopyFile => copy_refused(alloc, state, command, files, path),
-        Function::NewFile => making_refused(alloc, state, command, files, path),
-        Function::NewTest => making_refused(alloc, state, command, files, path),
-        Function::RemoveFile => removing_refused(alloc, state, command, files, path),
-        _ => taking_refused(alloc, command.function, files, path),
+    match call.command().function {
+        Function::CopyFile => may_be_copied(alloc, call, files, path),
+        Function::NewFile => may_be_made(alloc, call, files, path),
+        Function::NewTest => may_be_made(alloc, call, files, path),
+        Function::RemoveFile => may_be_removed(alloc, call, files, path),
+        _ => in_change_so(alloc, call, files, path),
     }
 }
 
-// Why so many files of a change are too many.
-fn room_refused(files: &[ChangeFile]) -> Option<Refusal>
-    ensures { result ≡ are_few files.now }
+// The files of a change are at most 1,000.
+fn are_few(files: &[ChangeFile]) -> Result<(), Refusal>
+    ensures { IsPermission (are_few files.now) result }
 {
     if files.len() <= MOST_CHANGE_FILES {
-        None
+        Ok(())
     } else {
-        Some(Refusal::Limit(Which::ChangeFiles, MOST_CHANGE_FILES as u64))
+        Err(Refusal::Limit(Which::ChangeFiles, MOST_CHANGE_FILES as u64))
     }
 }
 
-// Why the files that a path leaves are refused.
-fn refused_behind(
+// The files that a path leaves are as they are asked to be.
+fn asked_after(
     alloc: Global,
-    state: &State,
-    function: Function,
+    call: &Call,
     files: &[ChangeFile],
     path: &Path,
     were_clear: bool,
-) -> Result<Option<Refusal>, AllocError>
-    requires of_files { is_of_files function ≡ true }
+) -> Result<(), Refused>
+    requires of_files { is_of_files call.now.command.function ≡ true }
     requires ascend { Ascends text_cmp file_path files.now }
-    requires clear { were_clear ≡ true → IsClearBut path.now state.now files.now }
-    ensures { IfOk result (λ refusal. refusal ≡ asked_behind function state.now files.now) }
+    requires clear { were_clear ≡ true → IsClearBut path.now call.now.stands files.now }
+    ensures { Answers (asked_behind call.now.command.function call.now.stands files.now) result }
 {
-    match function {
+    match call.command().function {
         Function::CopyFile | Function::NewFile | Function::NewTest => {
-            match clash_refused_behind(alloc, state, files, path, were_clear)? {
-                Some(refusal) => Ok(Some(refusal)),
-                None => Ok(room_refused(files)),
-            }
+            stay_clear(alloc, call.state(), files, path, were_clear)?;
+            are_few(files)?;
+            Ok(())
         }
-        Function::RemoveFile => Ok(room_refused(files)),
-        Function::RemoveFileUndo => clash_refused_behind(alloc, state, files, path, were_clear),
-        _ => Ok(None),
+        Function::RemoveFile => Ok(are_few(files)?),
+        Function::RemoveFileUndo => stay_clear(alloc, call.state(), files, path, were_clear),
+        _ => Ok(()),
     }
 }
 
@@ -336,90 +338,69 @@ fn asks_for_clashes(function: Function) -> bool
 // clashes.
 fn step(
     alloc: Global,
-    state: &State,
-    command: &Command,
+    call: &Call,
     files: &mut Vec<ChangeFile>,
     path: &Path,
     known_clear: bool,
-) -> Result<Option<Refusal>, AllocError>
-    requires of_files { is_of_files command.now.function ≡ true }
+) -> Result<(), Refused>
+    requires of_files { is_of_files call.now.command.function ≡ true }
     requires ascend { Ascends text_cmp file_path files.old.items }
-    requires clear { known_clear ≡ true → are_clear state.now files.old.items ≡ None }
-    ensures refusal { (who : List ℕ) → IfOk result (λ refusal. refusal ≡ path_refused (asked_of_path command.now.function) (call_of state.now command.now who) files.old.items path.now) }
-    ensures files { (who : List ℕ) → IfOk result (λ refusal. refusal ≡ None → files.new.items ≡ files_then (call_of state.now command.now who) path.now files.old.items) }
-    ensures ascend { IfOk result (λ refusal. Ascends text_cmp file_path files.new.items) }
-    ensures clear { IfOk result (λ refusal. refusal ≡ None → asks_for_clashes command.now.function ≡ true → are_clear state.now files.new.items ≡ None) }
+    requires clear { known_clear ≡ true → are_clear call.now.stands files.old.items ≡ None }
+    ensures answer { Answers (path_refused (asked_of_path call.now.command.function) call.now files.old.items path.now) result }
+    ensures files { OnOk result (files.new.items ≡ files_then call.now path.now files.old.items) }
+    ensures ascend { UnlessMemory result (Ascends text_cmp file_path files.new.items) }
+    ensures clear { OnOk result (asks_for_clashes call.now.command.function ≡ true → are_clear call.now.stands files.new.items ≡ None) }
 {
-    state.note_sound();
-    if let Some(refusal) = refused_before(alloc, state, command, files.as_slice(), path)? {
-        return Ok(Some(refusal));
-    }
-    let made = file_made(alloc, state, command, path)?;
+    call.note_sound();
+    asked_before(alloc, call, files.as_slice(), path)?;
+    let made = file_made(alloc, call, path)?;
     set_file(files, path, made)?;
-    refused_behind(
-        alloc,
-        state,
-        command.function,
-        files.as_slice(),
-        path,
-        known_clear,
-    )
+    asked_after(alloc, call, files.as_slice(), path, known_clear)
 }
 
-/// Why the paths of a command are refused, each as if those before it were done.
-pub(crate) fn paths_refused(
-    alloc: Global,
-    state: &State,
-    command: &Command,
-    change: &Change,
-) -> Result<Option<Refusal>, AllocError>
-    requires of_files { is_of_files command.now.function ≡ true }
+/// The paths of the command are as its function asks, each as if those before it were done.
+pub(crate) fn paths_are_right(alloc: Global, call: &Call, change: &Change) -> Result<(), Refused>
+    requires of_files { is_of_files call.now.command.function ≡ true }
     requires ascend { Ascends text_cmp file_path change.now.files }
-    ensures { (who : List ℕ) → IfOk result (λ refusal. refusal ≡ first_path_refused (call_of state.now command.now who) command.now.paths change.now.files) }
+    ensures { Answers (paths_are_right call.now change.now) result }
 {
     let mut files = change.files.copy(alloc)?.into_vec();
     let mut known_clear = false;
-    for path in command.paths.as_slice() {
-        if let Some(refusal) = step(alloc, state, command, &mut files, path, known_clear)? {
-            return Ok(Some(refusal));
-        }
-        known_clear = asks_for_clashes(command.function);
+    for path in call.command().paths.as_slice() {
+        step(alloc, call, &mut files, path, known_clear)?;
+        known_clear = asks_for_clashes(call.command().function);
     }
-    Ok(None)
+    Ok(())
 }
 
 // What happens to a path.
-fn path_event(
-    alloc: Global,
-    state: &State,
-    command: &Command,
-    path: &Path,
-) -> Result<EventKind, AllocError>
-    requires { is_of_files command.now.function ≡ true }
-    ensures { (who : List ℕ) → IfOk result (λ kind. kind ≡ path_event (call_of state.now command.now who) path.now) }
+fn path_event(alloc: Global, call: &Call, path: &Path) -> Result<EventKind, AllocError>
+    requires { is_of_files call.now.command.function ≡ true }
+    ensures { IfOk result (λ kind. kind ≡ path_event call.now path.now) }
 {
     let path_copy = path.copy(alloc)?;
-    match file_made(alloc, state, command, path)? {
+    match file_made(alloc, call, path)? {
         Some(file) => Ok(EventKind::File(path_copy, file.action, file.usage, file.origin)),
         None => Ok(EventKind::Unfile(path_copy)),
     }
 }
 
 /// Accepted, with an event for each path.
-pub(crate) fn accept_files(
-    alloc: Global,
-    state: &State,
-    command: &Command,
-    who: &User,
-    when: u64,
-) -> Result<Verdict, AllocError>
-    requires { is_of_files command.now.function ≡ true }
-    ensures { IfOk result (λ verdict. verdict ≡ Accept (map (event_of who.now when command.now.change) (map (path_event (call_of state.now command.now who.now)) command.now.paths))) }
+pub(crate) fn accept_files(alloc: Global, call: &Call, when: u64) -> Result<Verdict, AllocError>
+    requires { is_of_files call.now.command.function ≡ true }
+    ensures { IfOk result (λ verdict. verdict ≡ Accept (map (event_of call.now.who when call.now.command.change) (map (path_event call.now) call.now.command.paths))) }
 {
     let mut events = EventList::new(alloc);
-    for path in command.paths.as_slice() {
-        let what = path_event(alloc, state, command, path)?;
-        push_event(alloc, &mut events, who, when, command.change, what)?;
+    for path in call.command().paths.as_slice() {
+        let what = path_event(alloc, call, path)?;
+        push_event(
+            alloc,
+            &mut events,
+            call.who(),
+            when,
+            call.command().change,
+            what,
+        )?;
     }
     Ok(Verdict::Accept(events))
 }

@@ -1,14 +1,17 @@
 // Who may give a command, and on what.
-ghost use Rattle.std.specs.Prelude.{◌≡◌, IfOk, false};
-ghost use Rattle.ae_policy.specs.Making.{refuses_making};
+ghost use Rattle.std.specs.Prelude.{◌≡◌, false};
+ghost use Rattle.ae_policy.specs.Answers.{IsAnswer};
 ghost use Rattle.ae_types.specs.Roles.{users_of};
-ghost use Rattle.ae_machine.specs.Permission.{may_come_in, all_added, all_dropped};
+ghost use Rattle.ae_machine.specs.Permission.{may_come_in, all_added, all_dropped, may_be_added, may_be_dropped};
+ghost use Rattle.ae_machine.specs.Refused.{Answers};
 
-use ae_base::{Phase, Refusal, Role, User, UserList};
-use ae_policy::{PolicyError, add_user, drop_user, may_create};
-use ae_types::{Change, Project, TryCopy};
+use crate::call::Call;
+use crate::refused::Refused;
+use ae_base::{Phase, Role, User};
+use ae_policy::{PolicyError, add_user, drop_user};
+use ae_types::{Project, TryCopy};
 use ae_words::Function;
-use std::alloc::{AllocError, Global};
+use std::alloc::Global;
 
 /// Whether the function may come in this phase of its change; of no change it never may.
 pub(crate) fn may_come_in(function: Function, phase: Phase) -> bool
@@ -46,33 +49,19 @@ pub(crate) fn may_come_in(function: Function, phase: Phase) -> bool
     }
 }
 
-/// Why the user may not make changes.
-pub(crate) fn making_refused(project: &Project, who: &User) -> Option<Refusal>
-    ensures { result ≡ refuses_making project.now who.now }
-{
-    match may_create(project, who) {
-        Ok(()) => None,
-        Err(refusal) => Some(refusal),
-    }
-}
-
 // Adds the users to the role, one after another, up to the first who is refused.
 fn add_users(
     alloc: Global,
     project: &mut Project,
     role: Role,
     users: &[User],
-) -> Result<Option<Refusal>, AllocError>
-    ensures { IfOk result (λ refusal. refusal ≡ all_added users.now (users_of role project.old)) }
+) -> Result<(), PolicyError>
+    ensures { IsAnswer (all_added users.now (users_of role project.old)) result }
 {
     for user in users {
-        match add_user(project, role, user.copy(alloc)?) {
-            Ok(()) => {}
-            Err(PolicyError::Refused(refusal)) => return Ok(Some(refusal)),
-            Err(PolicyError::Memory) => return Err(AllocError),
-        }
+        add_user(project, role, user.copy(alloc)?)?;
     }
-    Ok(None)
+    Ok(())
 }
 
 // Drops the users from the role, one after another, up to the first who is refused.
@@ -81,45 +70,33 @@ fn drop_users(
     project: &mut Project,
     role: Role,
     users: &[User],
-) -> Result<Option<Refusal>, AllocError>
-    ensures { IfOk result (λ refusal. refusal ≡ all_dropped role users.now (users_of role project.old)) }
+) -> Result<(), PolicyError>
+    ensures { IsAnswer (all_dropped role users.now (users_of role project.old)) result }
 {
     for user in users {
-        match drop_user(alloc, project, role, user) {
-            Ok(()) => {}
-            Err(PolicyError::Refused(refusal)) => return Ok(Some(refusal)),
-            Err(PolicyError::Memory) => return Err(AllocError),
-        }
+        drop_user(alloc, project, role, user)?;
     }
-    Ok(None)
+    Ok(())
 }
 
-/// Why not all of the users may be added to the role, each as if those before him were.
-pub(crate) fn adding_refused(
-    alloc: Global,
-    project: &Project,
-    role: Role,
-    users: &UserList,
-) -> Result<Option<Refusal>, AllocError>
-    ensures { IfOk result (λ refusal. refusal ≡ all_added users.now (users_of role project.now)) }
+/// All of the users may be added to the role, each as if those before him were.
+pub(crate) fn may_be_added(alloc: Global, call: &Call, role: Role) -> Result<(), Refused>
+    ensures { Answers (may_be_added role call.now) result }
 {
-    let mut after = project.copy(alloc)?;
-    let refusal = add_users(alloc, &mut after, role, users.as_slice());
+    let mut after = call.state().project().copy(alloc)?;
+    let added = add_users(alloc, &mut after, role, call.command().users.as_slice());
     drop(after);
-    refusal
+    added?;
+    Ok(())
 }
 
-/// Why not all of the users may be dropped from the role, each as if those before him were.
-pub(crate) fn dropping_refused(
-    alloc: Global,
-    project: &Project,
-    role: Role,
-    users: &UserList,
-) -> Result<Option<Refusal>, AllocError>
-    ensures { IfOk result (λ refusal. refusal ≡ all_dropped role users.now (users_of role project.now)) }
+/// All of the users may be dropped from the role, each as if those before him were.
+pub(crate) fn may_be_dropped(alloc: Global, call: &Call, role: Role) -> Result<(), Refused>
+    ensures { Answers (may_be_dropped role call.now) result }
 {
-    let mut after = project.copy(alloc)?;
-    let refusal = drop_users(alloc, &mut after, role, users.as_slice());
+    let mut after = call.state().project().copy(alloc)?;
+    let dropped = drop_users(alloc, &mut after, role, call.command().users.as_slice());
     drop(after);
-    refusal
+    dropped?;
+    Ok(())
 }

@@ -19,8 +19,8 @@ ghost use Rattle.ae_machine.specs.Sight.{only_tests, overlaid, paths_read, read_
 ghost use Rattle.ae_machine.specs.Versions.{is_test_at, removed_among, rows_based, rows_refreshed};
 
 use crate::View;
+use crate::call::change_of;
 use crate::reading::{paths_read, push_row, text_copy, tree_read};
-use crate::refusing::change_of;
 use crate::runs::{is_integrating, kind_of};
 use ae_base::{Action, ChangeNo, Kind, Path, Snapshot, Text, Usage};
 use ae_evidence::{DirChange, DirChangeList, FileList};

@@ -1,138 +1,113 @@
 // Why a review isn't begun, passed or failed, or isn't undone.
-ghost use Rattle.std.specs.Prelude.{◌≡◌, ◌∷◌, [], IfOk};
+ghost use Rattle.std.specs.Prelude.{◌≡◌, ◌∷◌, []};
 ghost use Rattle.ae_base.specs.declared.refusal.Refusal.TheVariants.{NotThisReviewer};
-ghost use Rattle.ae_policy.specs.Reviewing.{is_person, refuses_reviewer, refuses_reviewing};
-ghost use Rattle.ae_machine.specs.Call.{call_of, first_of, unless};
-ghost use Rattle.ae_machine.specs.Permission.{caller_is_reviewer, caller_passed, caller_reviews, history_has_room, may_review, nobody_else_reviews, right_phase};
+ghost use Rattle.ae_policy.specs.Making.{IsPermission};
+ghost use Rattle.ae_policy.specs.Reviewing.{is_person};
+ghost use Rattle.ae_machine.specs.Call.{first_of, unless};
+ghost use Rattle.ae_machine.specs.Permission.{caller_is_reviewer, caller_passed, caller_reviews, may_review, nobody_else_reviews};
+ghost use Rattle.ae_machine.specs.Refused.{Answers};
+ghost use Rattle.ae_machine.specs.Verdict.{asked};
 
-use crate::refusing::{change_of, no_room_in_history, phase_refused};
+use crate::call::Call;
+use crate::refused::Refused;
+use crate::refusing::{history_has_room, right_phase};
 use ae_base::{Refusal, Role, User};
-use ae_policy::{PolicyError, has_role, may_review};
-use ae_types::{Change, Project, State};
-use ae_words::{Command, Function};
-use std::alloc::{AllocError, Global};
+use ae_policy::{has_role, may_review};
+use ae_words::Function;
+use std::alloc::Global;
 
-// Why a user who isn't a reviewer is refused.
-fn not_reviewer(project: &Project, who: &User) -> Option<Refusal>
-    ensures { result ≡ refuses_reviewer project.now who.now }
+fn caller_is_reviewer(call: &Call) -> Result<(), Refusal>
+    ensures { IsPermission (caller_is_reviewer call.now) result }
 {
-    if has_role(project, Role::Reviewer, who) {
-        None
+    if has_role(call.state().project(), Role::Reviewer, call.who()) {
+        Ok(())
     } else {
-        Some(Refusal::NotReviewer)
+        Err(Refusal::NotReviewer)
     }
 }
 
-// Why the user may not review the change.
-fn reviewer_refused(
-    alloc: Global,
-    project: &Project,
-    change: &Change,
-    who: &User,
-) -> Result<Option<Refusal>, AllocError>
-    ensures { IfOk result (λ refusal. refusal ≡ refuses_reviewing project.now change.now who.now) }
+// The caller is a reviewer, nobody else began the review, and he is another than the developer, unless developers may review.
+fn caller_may_review(alloc: Global, call: &Call) -> Result<(), Refused>
+    ensures { Answers (first_of (caller_is_reviewer ∷ nobody_else_reviews ∷ may_review ∷ []) call.now) result }
 {
-    match may_review(alloc, project, change, who) {
-        Ok(()) => Ok(None),
-        Err(PolicyError::Refused(refusal)) => Ok(Some(refusal)),
-        Err(PolicyError::Memory) => Err(AllocError),
+    match call.change() {
+        Some(change) => may_review(alloc, call.state().project(), change, call.who())?,
+        None => caller_is_reviewer(call)?,
     }
+    Ok(())
 }
 
-/// Why the user doesn't review the change, or not in this phase.
-pub(crate) fn review_refused(
-    alloc: Global,
-    state: &State,
-    command: &Command,
-    who: &User,
-) -> Result<Option<Refusal>, AllocError>
-    ensures { IfOk result (λ refusal. refusal ≡ first_of (right_phase ∷ caller_is_reviewer ∷ nobody_else_reviews ∷ may_review ∷ []) (call_of state.now command.now who.now)) }
+// The caller began the review.
+fn caller_reviews(alloc: Global, call: &Call) -> Result<(), Refused>
+    ensures { Answers (caller_reviews call.now) result }
 {
-    if let Some(refusal) = phase_refused(state, command) {
-        return Ok(Some(refusal));
-    }
-    match change_of(state, command) {
-        Some(change) => reviewer_refused(alloc, state.project(), change, who),
-        None => Ok(not_reviewer(state.project(), who)),
+    match call.change() {
+        Some(change) => is_this_reviewer(alloc, &change.reviewing, call.who()),
+        None => Ok(()),
     }
 }
 
-/// Why the change isn't passed.
-pub(crate) fn pass_refused(
-    alloc: Global,
-    state: &State,
-    command: &Command,
-    who: &User,
-) -> Result<Option<Refusal>, AllocError>
-    ensures { IfOk result (λ refusal. refusal ≡ first_of (right_phase ∷ caller_is_reviewer ∷ nobody_else_reviews ∷ may_review ∷ history_has_room ∷ []) (call_of state.now command.now who.now)) }
+// The caller passed the change.
+fn caller_passed(alloc: Global, call: &Call) -> Result<(), Refused>
+    ensures { Answers (caller_passed call.now) result }
 {
-    if let Some(refusal) = review_refused(alloc, state, command, who)? {
-        return Ok(Some(refusal));
+    match call.change() {
+        Some(change) => is_this_reviewer(alloc, &change.reviewer, call.who()),
+        None => Ok(()),
     }
-    Ok(no_room_in_history(state, command))
 }
 
-/// Why the review isn't begun. As nobody began it yet, that is why the change wouldn't be passed.
-pub(crate) fn begin_refused(
-    alloc: Global,
-    state: &State,
-    command: &Command,
-    who: &User,
-) -> Result<Option<Refusal>, AllocError>
-    requires begin { command.now.function ≡ Function.ReviewBegin }
-    ensures { IfOk result (λ refusal. refusal ≡ first_of (right_phase ∷ caller_is_reviewer ∷ may_review ∷ history_has_room ∷ []) (call_of state.now command.now who.now)) }
-{
-    state.note_sound();
-    pass_refused(alloc, state, command, who)
-}
-
-// Why a user who isn't the one that began or passed the review is refused.
-fn not_this_reviewer(
-    alloc: Global,
-    reviewer: &Option<User>,
-    who: &User,
-) -> Result<Option<Refusal>, AllocError>
-    ensures { IfOk result (λ refusal. refusal ≡ unless (is_person who.now reviewer.now) (NotThisReviewer reviewer.now)) }
+// The reviewer is this user.
+fn is_this_reviewer(alloc: Global, reviewer: &Option<User>, who: &User) -> Result<(), Refused>
+    ensures { Answers (unless (is_person who.now reviewer.now) (NotThisReviewer reviewer.now)) result }
 {
     match reviewer {
-        Some(reviewer) if who.bytes() == reviewer.bytes() => Ok(None),
-        Some(reviewer) => Ok(Some(Refusal::NotThisReviewer(Some(reviewer.copy(alloc)?)))),
-        None => Ok(Some(Refusal::NotThisReviewer(None))),
+        Some(reviewer) if who.bytes() == reviewer.bytes() => Ok(()),
+        Some(reviewer) => {
+            let reviewer = reviewer.copy(alloc)?;
+            Err(Refused::Because(Refusal::NotThisReviewer(Some(reviewer))))
+        }
+        None => Err(Refused::Because(Refusal::NotThisReviewer(None))),
     }
 }
 
-/// Why the begin of a review isn't undone.
-pub(crate) fn begin_undo_refused(
-    alloc: Global,
-    state: &State,
-    command: &Command,
-    who: &User,
-) -> Result<Option<Refusal>, AllocError>
-    ensures { IfOk result (λ refusal. refusal ≡ first_of (right_phase ∷ caller_reviews ∷ []) (call_of state.now command.now who.now)) }
+// ---- functions
+
+pub(crate) fn review_fail(alloc: Global, call: &Call) -> Result<(), Refused>
+    ensures { Answers (first_of (asked Function.ReviewFail) call.now) result }
 {
-    if let Some(refusal) = phase_refused(state, command) {
-        return Ok(Some(refusal));
-    }
-    match change_of(state, command) {
-        Some(change) => not_this_reviewer(alloc, &change.reviewing, who),
-        None => Ok(None),
-    }
+    right_phase(call)?;
+    caller_may_review(alloc, call)
 }
 
-/// Why the pass of a change isn't undone.
-pub(crate) fn pass_undo_refused(
-    alloc: Global,
-    state: &State,
-    command: &Command,
-    who: &User,
-) -> Result<Option<Refusal>, AllocError>
-    ensures { IfOk result (λ refusal. refusal ≡ first_of (right_phase ∷ caller_passed ∷ []) (call_of state.now command.now who.now)) }
+pub(crate) fn review_pass(alloc: Global, call: &Call) -> Result<(), Refused>
+    ensures { Answers (first_of (asked Function.ReviewPass) call.now) result }
 {
-    if let Some(refusal) = phase_refused(state, command) {
-        return Ok(Some(refusal));
-    }
-    match change_of(state, command) {
-        Some(change) => not_this_reviewer(alloc, &change.reviewer, who),
-        None => Ok(None),
-    }
+    right_phase(call)?;
+    caller_may_review(alloc, call)?;
+    history_has_room(call)?;
+    Ok(())
+}
+
+/// As nobody began the review yet, it is refused as the pass of the change would be.
+pub(crate) fn review_begin(alloc: Global, call: &Call) -> Result<(), Refused>
+    requires begin { call.now.command.function ≡ Function.ReviewBegin }
+    ensures { Answers (first_of (asked Function.ReviewBegin) call.now) result }
+{
+    call.note_sound();
+    review_pass(alloc, call)
+}
+
+pub(crate) fn review_begin_undo(alloc: Global, call: &Call) -> Result<(), Refused>
+    ensures { Answers (first_of (asked Function.ReviewBeginUndo) call.now) result }
+{
+    right_phase(call)?;
+    caller_reviews(alloc, call)
+}
+
+pub(crate) fn review_pass_undo(alloc: Global, call: &Call) -> Result<(), Refused>
+    ensures { Answers (first_of (asked Function.ReviewPassUndo) call.now) result }
+{
+    right_phase(call)?;
+    caller_passed(alloc, call)
 }

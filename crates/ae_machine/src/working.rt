@@ -1,101 +1,107 @@
 // Why a build or a test isn't made, by what asks nothing of the directories.
-ghost use Rattle.std.specs.Prelude.{◌≡◌, ◌∷◌, [], ℕ, List, true, is_some, IfOk};
-ghost use Rattle.std.specs.Str.{bytes_eq};
-ghost use Rattle.ae_base.specs.declared.refusal.Refusal.TheVariants.{NotThisIntegrator};
-ghost use Rattle.ae_types.specs.Found.{there_and};
+ghost use Rattle.std.specs.Prelude.{◌≡◌, true, is_some, None};
 ghost use Rattle.ae_types.specs.Phases.{is_integrating};
-ghost use Rattle.ae_machine.specs.Call.{call_of, first_of, unless};
+ghost use Rattle.ae_machine.specs.Call.{first_of};
 ghost use Rattle.ae_machine.specs.Fits.{makes_runs};
 ghost use Rattle.ae_machine.specs.Freezing.{there_are_tests};
-ghost use Rattle.ae_machine.specs.Permission.{caller_works, name_or_empty, right_phase, worker_is_caller};
+ghost use Rattle.ae_machine.specs.Permission.{caller_integrates, caller_works, integrator_is_caller, may_come_in, right_phase, worker_is_caller};
+ghost use Rattle.ae_machine.specs.Refused.{Answers};
+ghost use Rattle.ae_machine.specs.Verdict.{asked};
 
-use crate::refusing::{change_of, not_this_developer, phase_refused};
+use crate::call::Call;
+use crate::refused::Refused;
+use crate::refusing::{developer_is_caller, right_phase};
 use crate::runs::{group, is_integrating};
-use ae_base::{Refusal, User};
-use ae_types::{Change, State};
-use ae_words::Command;
-use std::alloc::{AllocError, Global};
+use ae_base::Refusal;
+use ae_types::Change;
+use ae_words::Function;
+use std::alloc::Global;
 
-/// Why a user who doesn't integrate the change is refused. It is being integrated.
-pub(crate) fn not_this_integrator(
-    alloc: Global,
-    change: &Change,
-    who: &User,
-) -> Result<Option<Refusal>, AllocError>
+// The caller integrates the change, which has an integrator.
+fn integrator_is_caller(alloc: Global, call: &Call, change: &Change) -> Result<(), Refused>
     requires integrated { is_some change.now.integrator ≡ true }
-    ensures { IfOk result (λ refusal. refusal ≡ unless (there_and change.now.integrator (bytes_eq who.now)) (NotThisIntegrator (name_or_empty change.now.integrator))) }
+    ensures { Answers (integrator_is_caller call.now change.now) result }
 {
     let Some(integrator) = &change.integrator else {
         unreachable!()
     };
-    if who.bytes() == integrator.bytes() {
-        Ok(None)
-    } else {
-        Ok(Some(Refusal::NotThisIntegrator(integrator.copy(alloc)?)))
+    if call.who().bytes() == integrator.bytes() {
+        return Ok(());
+    }
+    let integrator = integrator.copy(alloc)?;
+    Err(Refused::Because(Refusal::NotThisIntegrator(integrator)))
+}
+
+/// The caller integrates the change. It is being integrated.
+pub(crate) fn caller_integrates(alloc: Global, call: &Call) -> Result<(), Refused>
+    requires integrating { may_come_in call.now.command.function ≡ is_integrating }
+    requires phase { right_phase call.now ≡ None }
+    ensures { Answers (caller_integrates call.now) result }
+{
+    call.note_sound();
+    match call.change() {
+        Some(change) => integrator_is_caller(alloc, call, change),
+        None => Ok(()),
     }
 }
 
-// Why a user who doesn't work on the change is refused.
-fn not_working(alloc: Global, change: &Change, who: &User) -> Result<Option<Refusal>, AllocError>
+// The caller works on the change, which has a developer, and an integrator where it is being integrated.
+fn worker_is_caller(alloc: Global, call: &Call, change: &Change) -> Result<(), Refused>
     requires developed { is_some change.now.developer ≡ true }
     requires integrated { is_integrating change.now.phase ≡ true → is_some change.now.integrator ≡ true }
-    ensures { (o : _) (command : _) → IfOk result (λ refusal. refusal ≡ worker_is_caller (call_of o command who.now) change.now) }
+    ensures { Answers (worker_is_caller call.now change.now) result }
 {
     if is_integrating(change.phase) {
-        not_this_integrator(alloc, change, who)
+        integrator_is_caller(alloc, call, change)
     } else {
-        not_this_developer(alloc, change, who)
+        developer_is_caller(alloc, call, change)
     }
 }
 
-/// Why the user doesn't build or test the change, or not in this phase.
-pub(crate) fn working_refused(
-    alloc: Global,
-    state: &State,
-    command: &Command,
-    who: &User,
-) -> Result<Option<Refusal>, AllocError>
-    requires runs { makes_runs command.now.function ≡ true }
-    ensures { IfOk result (λ refusal. refusal ≡ first_of (right_phase ∷ caller_works ∷ []) (call_of state.now command.now who.now)) }
+// In development the caller develops the change, in integration he integrates it.
+fn caller_works(alloc: Global, call: &Call) -> Result<(), Refused>
+    requires runs { makes_runs call.now.command.function ≡ true }
+    requires phase { right_phase call.now ≡ None }
+    ensures { Answers (caller_works call.now) result }
 {
-    if let Some(refusal) = phase_refused(state, command) {
-        return Ok(Some(refusal));
-    }
-    state.note_sound();
-    match change_of(state, command) {
-        Some(change) => not_working(alloc, change, who),
-        None => Ok(None),
+    call.note_sound();
+    match call.change() {
+        Some(change) => worker_is_caller(alloc, call, change),
+        None => Ok(()),
     }
 }
 
-// Why there is nothing to run.
-fn no_test(alloc: Global, state: &State, command: &Command) -> Result<Option<Refusal>, AllocError>
-    ensures { (who : List ℕ) → IfOk result (λ refusal. refusal ≡ there_are_tests (call_of state.now command.now who)) }
+// There is a test of the kind that is asked for.
+fn there_are_tests(alloc: Global, call: &Call) -> Result<(), Refused>
+    ensures { Answers (there_are_tests call.now) result }
 {
-    state.note_sound();
-    let Some(change) = change_of(state, command) else {
-        return Ok(None);
+    call.note_sound();
+    let Some(change) = call.change() else {
+        return Ok(());
     };
-    let runs = group(alloc, state, command, change)?;
+    let runs = group(alloc, call.state(), call.command(), change)?;
     if runs.len() == 0 {
-        Ok(Some(Refusal::NoTest))
+        Err(Refused::Because(Refusal::NoTest))
     } else {
-        Ok(None)
+        Ok(())
     }
 }
 
-/// Why the user doesn't test the change, or not in this phase, or why there is nothing to test.
-pub(crate) fn testing_refused(
-    alloc: Global,
-    state: &State,
-    command: &Command,
-    who: &User,
-) -> Result<Option<Refusal>, AllocError>
-    requires runs { makes_runs command.now.function ≡ true }
-    ensures { IfOk result (λ refusal. refusal ≡ first_of (right_phase ∷ caller_works ∷ there_are_tests ∷ []) (call_of state.now command.now who.now)) }
+// ---- functions
+
+pub(crate) fn build(alloc: Global, call: &Call) -> Result<(), Refused>
+    requires runs { makes_runs call.now.command.function ≡ true }
+    ensures { Answers (first_of (asked Function.Build) call.now) result }
 {
-    if let Some(refusal) = working_refused(alloc, state, command, who)? {
-        return Ok(Some(refusal));
-    }
-    no_test(alloc, state, command)
+    right_phase(call)?;
+    caller_works(alloc, call)
+}
+
+pub(crate) fn test(alloc: Global, call: &Call) -> Result<(), Refused>
+    requires runs { makes_runs call.now.command.function ≡ true }
+    ensures { Answers (first_of (asked Function.Test) call.now) result }
+{
+    right_phase(call)?;
+    caller_works(alloc, call)?;
+    there_are_tests(alloc, call)
 }

@@ -7,6 +7,6 @@ use Rattle.ae_types.specs.Runs.{missing}
 use Rattle.ae_machine.proofs.integrating.runs_missing.Goals as goal
 
 pub returns : goal.returns
-returns c = λ command who.
+returns c =
     let found = subst (λ change. IfOk c.missing.result (λ refusal. IsSomeAnd change (λ (change : Change). refusal ≡ missing c.args.state.now change Integrate c.digest_rows.result))) c.requires.named c.missing.ensures in
     if-ok c.missing.result _ _ found (ap (missing c.args.state.now c.args.change.now Integrate) (c.digest_rows.ensures ∙ ap digest_rows c.in_ok-tree.ensures))

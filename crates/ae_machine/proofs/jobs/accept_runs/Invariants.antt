@@ -5,4 +5,6 @@ use Rattle.ae_machine.specs.Verdict.{event_of}
 use Rattle.ae_machine.proofs.jobs.accept_runs.Given as goal
 
 abbrev pub invariant-loop-run : goal.invariant-loop-run
-invariant-loop-run l = l.events ≡ map (event_of l.who l.when l.command.change) (map on.Run (map (run_told l.project l.change l.delta l.read l.subject) (take l.run-index l.runs)))
+invariant-loop-run l =
+    let event_told = run_told l.told.project.now l.told.change.now l.told.delta l.told.read.now l.subject in
+    l.events ≡ map (event_of l.call.who l.when l.call.command.change) (map on.Run (map event_told (take l.run-index l.runs)))

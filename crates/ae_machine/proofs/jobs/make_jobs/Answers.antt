@@ -13,7 +13,7 @@ use Rattle.ae_machine.proofs.jobs.make_jobs.Goals as goal
 
 pub loop-run-preserved : goal.loop-run-preserved
 loop-run-preserved c =
-    let command : Needed → Result (List ℕ) Refusal = command_told c.args.project.now c.args.change.now c.args.delta c.args.read.now in
+    let command : Needed → Result (List ℕ) Refusal = command_told c.args.told.now.project.now c.args.told.now.change.now c.args.told.now.delta c.args.told.now.read.now in
     let job : IsJob command c.run-item.result c.in-Ok.job = subst (AnswersRun command c.run-item.result) c.in-Ok.is c.in_ok-job.ensures.job in
     let may : IsCommand c.in-Ok.job.command = subst (λ j. IfOk j (λ (made : Job). IsCommand made.command)) c.in-Ok.is c.in_ok-job.ensures.command in (
       jobs-more command c.args.runs.now c.loop-run.run-index c.run-item.result c.loop-run.jobs c.push.new.self c.in-Ok.job c.loop-run-test.true c.run-item.is c.loop-run.invariant.0 job c.in_ok-push-in-Ok.ensures.ok,
@@ -23,11 +23,11 @@ loop-run-preserved c =
 
 pub returns-in-Err-clause-jobs : goal.returns-in-Err-clause-jobs
 returns-in-Err-clause-jobs c =
-    let command : Needed → Result (List ℕ) Refusal = command_told c.args.project.now c.args.change.now c.args.delta c.args.read.now in
+    let command : Needed → Result (List ℕ) Refusal = command_told c.args.told.now.project.now c.args.told.now.change.now c.args.told.now.delta c.args.told.now.read.now in
     let none : command c.run-item.result ≡ Err c.in-Err.refusal = subst (AnswersRun command c.run-item.result) c.in-Err.is c.in_ok-job.ensures.job in
     ends-here command c.args.runs.now c.loop-run.run-index c.run-item.result c.in-Err.refusal c.loop-run-test.true c.run-item.is (sym none) c.loop-run.invariant.1
 
 pub returns-clause-jobs : goal.returns-clause-jobs
 returns-clause-jobs c =
-    let command : Needed → Result (List ℕ) Refusal = command_told c.args.project.now c.args.change.now c.args.delta c.args.read.now in
+    let command : Needed → Result (List ℕ) Refusal = command_told c.args.told.now.project.now c.args.told.now.change.now c.args.told.now.delta c.args.told.now.read.now in
     subst (λ runs. AreJobs command runs c.loop-run.jobs) (take_all c.loop-run.run-index c.args.runs.now c.loop-run-test.false) c.loop-run.invariant.0
