@@ -5,7 +5,7 @@ ghost use Rattle.ae_outside.specs.Untold.{untold_disk};
 
 use crate::lock::Patience;
 use crate::store::Store;
-use crate::trouble::Trouble;
+use crate::trouble::{Faults, Trouble};
 use ae_outside::{Disk, Failed, ReadError};
 use std::alloc::Global;
 use std::fs::File;
@@ -18,8 +18,7 @@ use std::rt::{Clock, Files};
 #[derive(Drop)]
 pub struct RealDisk<'a, R> {
     store: Store<'a, R>,
-    faults: u64,
-    trouble: Option<Trouble>,
+    faults: Faults,
 }
 
 impl<'a, R: Files<File = File> + Alloc + Clock + Clone + Drop + Eprint> RealDisk<'a, R> {
@@ -27,24 +26,21 @@ impl<'a, R: Files<File = File> + Alloc + Clock + Clone + Drop + Eprint> RealDisk
     pub fn new(rt: &'a R, alloc: Global, patience: Patience) -> RealDisk<'a, R> {
         RealDisk {
             store: Store::new(rt, alloc, patience),
-            faults: 0,
-            trouble: None,
+            faults: Faults::none(),
         }
     }
 
     /// Why the last call failed that did.
     pub fn trouble(&self) -> Option<&Trouble> {
-        self.trouble.as_ref()
+        self.faults.last()
     }
 
     fn count(&mut self, call: &'static str, name: &str, error: io::Error) -> Failed
-        ensures { Counted self.old.faults self.new.faults ⊤ }
+        ensures { Counted self.old.faults.count self.new.faults.count ⊤ }
     {
-        self.faults = self.faults.saturating_add(1);
         let call = self.store.call_of_fault(call);
         let place = self.store.place_of_fault(name).ok();
-        self.trouble = Some(Trouble::new(call, place, error));
-        Failed
+        self.faults.add(call, place, error)
     }
 
     fn counted<T>(
@@ -53,7 +49,7 @@ impl<'a, R: Files<File = File> + Alloc + Clock + Clone + Drop + Eprint> RealDisk
         name: &str,
         outcome: io::Result<T>,
     ) -> Result<T, Failed>
-        ensures { HasCause self.old.faults self.new.faults result }
+        ensures { HasCause self.old.faults.count self.new.faults.count result }
     {
         match outcome {
             Ok(value) => Ok(value),
@@ -67,7 +63,7 @@ impl<'a, R: Files<File = File> + Alloc + Clock + Clone + Drop + Eprint> Disk for
 
     ghost state = { λ _. untold_disk };
 
-    ghost faults = { λ disk. disk.faults };
+    ghost faults = { λ disk. disk.faults.count };
 
     fn size(&mut self, name: &str) -> Result<u64, Failed> {
         let size = self.store.size(name);

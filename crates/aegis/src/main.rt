@@ -17,6 +17,7 @@ mod streams;
 mod trouble;
 mod who;
 
+use ae_base::Outcome;
 use ae_session::aegis;
 use disk::RealDisk;
 use help::Question;
@@ -62,6 +63,35 @@ fn tell(rt: &impl Eprint, device: &str, trouble: Option<&Trouble>) {
     }
 }
 
+// Does what the words ask for, with the real devices.
+fn work(rt: &HostRuntime, words: &[String], who: &str) -> Outcome {
+    let patience = who::patience(rt, rt.stderr().is_terminal());
+    let mut disk = RealDisk::new(rt, rt.alloc(), patience);
+    let mut site = RealSite::new(rt, rt.alloc());
+    let mut input = Reading::new(rt.stdin());
+    let mut output = Writing::new(rt.stdout());
+    let mut errors = Writing::new(rt.stderr());
+    let outcome = aegis(
+        rt.alloc(),
+        words,
+        who,
+        who::moment(rt),
+        &mut disk,
+        &mut site,
+        &mut input,
+        &mut output,
+        &mut errors,
+    );
+    if who::is_traced(rt) {
+        tell(rt, "disk", disk.trouble());
+        tell(rt, "directory", site.trouble());
+        tell(rt, "input", input.trouble());
+        tell(rt, "output", output.trouble());
+        tell(rt, "error", errors.trouble());
+    }
+    outcome
+}
+
 fn main(rt: HostRuntime) -> ExitCode {
     if descriptors::fill(&rt).is_err() {
         return ExitCode::from(NOT_SAID);
@@ -83,29 +113,5 @@ fn main(rt: HostRuntime) -> ExitCode {
     let Ok(who) = who::user(&rt) else {
         return starved(&rt);
     };
-    let patience = who::patience(&rt, rt.stderr().is_terminal());
-    let mut disk = RealDisk::new(&rt, rt.alloc(), patience);
-    let mut site = RealSite::new(&rt, rt.alloc());
-    let mut input = Reading::new(rt.stdin());
-    let mut output = Writing::new(rt.stdout());
-    let mut errors = Writing::new(rt.stderr());
-    let outcome = aegis(
-        rt.alloc(),
-        words.as_slice(),
-        who.as_str(),
-        who::moment(&rt),
-        &mut disk,
-        &mut site,
-        &mut input,
-        &mut output,
-        &mut errors,
-    );
-    if who::is_traced(&rt) {
-        tell(&rt, "disk", disk.trouble());
-        tell(&rt, "directory", site.trouble());
-        tell(&rt, "input", input.trouble());
-        tell(&rt, "output", output.trouble());
-        tell(&rt, "error", errors.trouble());
-    }
-    ExitCode::from(outcome.status())
+    ExitCode::from(work(&rt, words.as_slice(), who.as_str()).status())
 }

@@ -12,7 +12,7 @@ use crate::places::{
     remove_empty_folders, size_in_folder, size_of_file,
 };
 use crate::run_log;
-use crate::trouble::Trouble;
+use crate::trouble::{Faults, Trouble};
 use ae_base::{Path, Text};
 use ae_outside::{Content, Dir, Exit, Failed, Site, SiteError};
 use std::alloc::{AllocError, Global};
@@ -32,8 +32,7 @@ const PROGRAM: &[u8] = b"#!";
 pub struct RealSite<'a, R> {
     rt: &'a R,
     alloc: Global,
-    faults: u64,
-    trouble: Option<Trouble>,
+    faults: Faults,
 }
 
 fn folder_of(alloc: Global, dir: &Dir) -> Result<String, AllocError> {
@@ -100,14 +99,13 @@ impl<'a, R: Files<File = File> + Alloc + Clock + Clone + Drop + Processes> RealS
         RealSite {
             rt,
             alloc,
-            faults: 0,
-            trouble: None,
+            faults: Faults::none(),
         }
     }
 
     /// Why the last call failed that did.
     pub fn trouble(&self) -> Option<&Trouble> {
-        self.trouble.as_ref()
+        self.faults.last()
     }
 
     // Where a call fails: at a directory, or at a file of it.
@@ -126,12 +124,10 @@ impl<'a, R: Files<File = File> + Alloc + Clock + Clone + Drop + Processes> RealS
         path: Option<&Path>,
         error: io::Error,
     ) -> Failed
-        ensures { Counted self.old.faults self.new.faults ⊤ }
+        ensures { Counted self.old.faults.count self.new.faults.count ⊤ }
     {
-        self.faults = self.faults.saturating_add(1);
         let place = self.place_of_fault(dir, path);
-        self.trouble = Some(Trouble::new(call, place, error));
-        Failed
+        self.faults.add(call, place, error)
     }
 
     fn counted<T>(
@@ -141,7 +137,7 @@ impl<'a, R: Files<File = File> + Alloc + Clock + Clone + Drop + Processes> RealS
         path: Option<&Path>,
         outcome: io::Result<T>,
     ) -> Result<T, Failed>
-        ensures { HasCause self.old.faults self.new.faults result }
+        ensures { HasCause self.old.faults.count self.new.faults.count result }
     {
         match outcome {
             Ok(value) => Ok(value),
@@ -289,7 +285,7 @@ impl<'a, R: Files<File = File> + Alloc + Clock + Clone + Drop + Processes> Site
 
     ghost state = { λ _. untold_site };
 
-    ghost faults = { λ site. site.faults };
+    ghost faults = { λ site. site.faults.count };
 
     fn note_bytes(&self) {}
 

@@ -1,8 +1,7 @@
 // A source over a reader, and a sink over a writer.
-ghost use Rattle.std.specs.Prelude.{[], ⊤};
-ghost use Rattle.ae_outside.specs.Causes.{Counted};
+ghost use Rattle.std.specs.Prelude.{[]};
 
-use crate::trouble::Trouble;
+use crate::trouble::{Faults, Trouble};
 use ae_outside::{Failed, Sink, Source};
 use std::io::{Error, ErrorKind, Read, Write};
 
@@ -10,8 +9,7 @@ use std::io::{Error, ErrorKind, Read, Write};
 #[derive(Drop)]
 pub struct Reading<R> {
     inner: R,
-    faults: u64,
-    trouble: Option<Trouble>,
+    faults: Faults,
 }
 
 impl<R: Read> Reading<R> {
@@ -19,22 +17,13 @@ impl<R: Read> Reading<R> {
     pub fn new(inner: R) -> Reading<R> {
         Reading {
             inner,
-            faults: 0,
-            trouble: None,
+            faults: Faults::none(),
         }
     }
 
     /// Why the last call failed that did.
     pub fn trouble(&self) -> Option<&Trouble> {
-        self.trouble.as_ref()
-    }
-
-    fn count(&mut self, error: Error) -> Failed
-        ensures { Counted self.old.faults self.new.faults ⊤ }
-    {
-        self.faults = self.faults.saturating_add(1);
-        self.trouble = Some(Trouble::new("read", None, error));
-        Failed
+        self.faults.last()
     }
 }
 
@@ -43,12 +32,12 @@ impl<R: Read> Source for Reading<R> {
 
     ghost left = { λ _. [] };
 
-    ghost faults = { λ source. source.faults };
+    ghost faults = { λ source. source.faults.count };
 
     fn read(&mut self, into: &mut [u8]) -> Result<usize, Failed> {
         match self.inner.read(into) {
             Ok(count) => Ok(count),
-            Err(e) => Err(self.count(e)),
+            Err(e) => Err(self.faults.add("read", None, e)),
         }
     }
 }
@@ -58,8 +47,7 @@ impl<R: Read> Source for Reading<R> {
 #[derive(Drop)]
 pub struct Writing<W> {
     inner: W,
-    faults: u64,
-    trouble: Option<Trouble>,
+    faults: Faults,
 }
 
 impl<W: Write> Writing<W> {
@@ -67,22 +55,13 @@ impl<W: Write> Writing<W> {
     pub fn new(inner: W) -> Writing<W> {
         Writing {
             inner,
-            faults: 0,
-            trouble: None,
+            faults: Faults::none(),
         }
     }
 
     /// Why the last call failed that did.
     pub fn trouble(&self) -> Option<&Trouble> {
-        self.trouble.as_ref()
-    }
-
-    fn count(&mut self, error: Error) -> Failed
-        ensures { Counted self.old.faults self.new.faults ⊤ }
-    {
-        self.faults = self.faults.saturating_add(1);
-        self.trouble = Some(Trouble::new("write", None, error));
-        Failed
+        self.faults.last()
     }
 }
 
@@ -91,16 +70,17 @@ impl<W: Write> Sink for Writing<W> {
 
     ghost taken = { λ _. [] };
 
-    ghost faults = { λ sink. sink.faults };
+    ghost faults = { λ sink. sink.faults.count };
 
     fn write(&mut self, bytes: &[u8]) -> Result<usize, Failed> {
         match self.inner.write(bytes) {
             Ok(0) => {
-                self.count(Error::from(ErrorKind::WriteZero));
+                self.faults
+                    .add("write", None, Error::from(ErrorKind::WriteZero));
                 Ok(0)
             }
             Ok(count) => Ok(count),
-            Err(e) => Err(self.count(e)),
+            Err(e) => Err(self.faults.add("write", None, e)),
         }
     }
 }

@@ -1,4 +1,8 @@
-// Why a call of a device failed, for who asks to see it.
+// The faults of a device: how many there were, and why the last call failed, for who asks to see it.
+ghost use Rattle.std.specs.Prelude.{⊤};
+ghost use Rattle.ae_outside.specs.Causes.{Counted};
+
+use ae_outside::Failed;
 use std::{fmt, io};
 
 /// The last call of a device that failed, what it was asked of, and what the system said.
@@ -9,13 +13,6 @@ pub struct Trouble {
     error: io::Error,
 }
 
-impl Trouble {
-    /// The call of that name failed at that place, if it has one.
-    pub fn new(call: &'static str, place: Option<String>, error: io::Error) -> Trouble {
-        Trouble { call, place, error }
-    }
-}
-
 impl fmt::Display for Trouble {
     fn fmt<W: fmt::Write>(&self, f: &mut fmt::Formatter<W>) -> fmt::Result {
         let call = self.call;
@@ -24,5 +21,36 @@ impl fmt::Display for Trouble {
             Some(place) => write!(f, "{call} {place}: {error}"),
             None => write!(f, "{call}: {error}"),
         }
+    }
+}
+
+/// How often a device failed, and the last call of it that did.
+#[derive(Drop)]
+pub struct Faults {
+    pub count: u64,
+    last: Option<Trouble>,
+}
+
+impl Faults {
+    /// It hasn't failed yet.
+    pub fn none() -> Faults {
+        Faults {
+            count: 0,
+            last: None,
+        }
+    }
+
+    /// The last call that failed.
+    pub fn last(&self) -> Option<&Trouble> {
+        self.last.as_ref()
+    }
+
+    /// The call of that name failed at that place, if it has one.
+    pub fn add(&mut self, call: &'static str, place: Option<String>, error: io::Error) -> Failed
+        ensures { Counted self.old.count self.new.count ⊤ }
+    {
+        self.count = self.count.saturating_add(1);
+        self.last = Some(Trouble { call, place, error });
+        Failed
     }
 }
