@@ -1,7 +1,8 @@
 -- What a line shows.
 use Rattle.std.specs.Prelude.{ℕ, Bool, true, false, List, [], ◌∷◌, ◌++◌, Result, Ok}
 use Rattle.std.specs.Fmt.{signed_decimal}
-use Rattle.ae_list.specs.Columns.{left, right, shown, flag_word}
+use Rattle.ae_types.specs.Settings.{flag_word}
+use Rattle.ae_list.specs.Columns.{left, right, shown}
 use Rattle.ae_rlang.specs.Report.{MeantCell}
 use Rattle.ae_report.specs.declared.value.Value.{Value}
 use Rattle.ae_report.specs.declared.value.Value.TheVariants.{Number, Text, Flag}

@@ -9,7 +9,8 @@ use Rattle.ae_types.specs.declared.file_table.Lock.{Lock}
 use Rattle.ae_types.specs.declared.change.ChangeAttributes.{ChangeAttributes}
 use Rattle.ae_types.specs.declared.change.Change.{Change}
 use Rattle.ae_schema.specs.Records.{Named}
-use Rattle.ae_schema.specs.Spelled.{flag, end_action_word, optional, list_of, delta_row, file_row, lock, change_file, evidence_row, history_row}
+use Rattle.ae_schema.specs.Spelled.{flag, optional, list_of, delta_row, file_row, lock, change_file, evidence_row, history_row}
+use Rattle.ae_types.specs.Settings.{end_action_word}
 
 -- ---- project
 

@@ -22,6 +22,10 @@ use Rattle.ae_schema.specs.declared.fields.End.{End}
 use Rattle.ae_schema.specs.declared.project.Format.{Format}
 use Rattle.ae_schema.specs.declared.project.Packed.{Packed}
 
+-- a field, and then others
+abbrev pub then : {A B : Type 0} → A → B → Then A B
+then first rest = record { first = first; rest = rest }
+
 -- ---- project
 
 abbrev pub CountedShape : Type 0
@@ -70,62 +74,13 @@ project_from f =
 
 -- the fields of a project and its numbers
 abbrev pub project_shape : Project × List ℕ → ProjectShape
-project_shape p = record {
-  first = record {};
-  rest = record {
-    first = record {};
-    rest =
-        record {
-          first = p.0.name;
-          rest = record {
-            first = p.0.attributes.description;
-            rest =
-                record {
-                  first = p.0.attributes.developer_may_review;
-                  rest = record {
-                    first = p.0.attributes.developer_may_integrate;
-                    rest =
-                        record {
-                          first = p.0.attributes.reviewer_may_integrate;
-                          rest = record {
-                            first = p.0.attributes.developers_may_create_changes;
-                            rest =
-                                record {
-                                  first = p.0.attributes.develop_end_action;
-                                  rest = record {
-                                    first = p.0.attributes.default_test_exemption;
-                                    rest =
-                                        record {
-                                          first = p.0.administrators;
-                                          rest = record {
-                                            first = p.0.developers;
-                                            rest =
-                                                record {
-                                                  first = p.0.reviewers;
-                                                  rest = record {
-                                                    first = p.0.integrators;
-                                                    rest =
-                                                        record {
-                                                          first = p.0.next_version;
-                                                          rest = record {
-                                                            first = p.1;
-                                                            rest = record { first = p.0.deltas; rest = record {} };
-                                                          };
-                                                        };
-                                                  };
-                                                };
-                                          };
-                                        };
-                                  };
-                                };
-                          };
-                        };
-                  };
-                };
-          };
-        };
-  };
-}
+project_shape p = let project = p.0 in let attributes = project.attributes in
+    then (record {}) (then (record {}) (then project.name (then attributes.description (
+    then attributes.developer_may_review (then attributes.developer_may_integrate (
+    then attributes.reviewer_may_integrate (then attributes.developers_may_create_changes (
+    then attributes.develop_end_action (then attributes.default_test_exemption (
+    then project.administrators (then project.developers (then project.reviewers (then project.integrators (
+    then project.next_version (then p.1 (then project.deltas (record {})))))))))))))))))
 
 -- ---- rows
 
@@ -158,7 +113,7 @@ abbrev pub files_from : FilesShape → List FileRow × List Lock
 files_from f = (f.first, f.rest.first)
 
 abbrev pub files_shape : List FileRow × List Lock → FilesShape
-files_shape t = record { first = t.0; rest = record { first = t.1; rest = record {} } }
+files_shape t = then t.0 (then t.1 (record {}))
 
 -- ---- a change
 
@@ -206,53 +161,8 @@ change_from f =
 
 -- the fields of a change
 abbrev pub change_shape : Change → ChangeShape
-change_shape c = record {
-  first = c.number;
-  rest =
-      record {
-        first = c.attributes.brief;
-        rest = record {
-          first = c.attributes.description;
-          rest =
-              record {
-                first = c.attributes.cause;
-                rest = record {
-                  first = c.attributes.test_exempt;
-                  rest =
-                      record {
-                        first = c.attributes.test_baseline_exempt;
-                        rest = record {
-                          first = c.attributes.regression_test_exempt;
-                          rest =
-                              record {
-                                first = c.phase;
-                                rest =
-                                    record {
-                                      first = c.developer;
-                                      rest = record {
-                                        first = c.reviewing;
-                                        rest =
-                                            record {
-                                              first = c.reviewer;
-                                              rest = record {
-                                                first = c.integrator;
-                                                rest =
-                                                    record {
-                                                      first = c.files;
-                                                      rest = record {
-                                                        first = c.evidence;
-                                                        rest = record { first = c.history; rest = record {} };
-                                                      };
-                                                    };
-                                              };
-                                            };
-                                      };
-                                    };
-                              };
-                        };
-                      };
-                };
-              };
-        };
-      };
-}
+change_shape c = let attributes = c.attributes in
+    then c.number (then attributes.brief (then attributes.description (then attributes.cause (
+    then attributes.test_exempt (then attributes.test_baseline_exempt (then attributes.regression_test_exempt (
+    then c.phase (then c.developer (then c.reviewing (then c.reviewer (then c.integrator (
+    then c.files (then c.evidence (then c.history (record {})))))))))))))))
