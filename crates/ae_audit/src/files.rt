@@ -2,11 +2,11 @@
 ghost use Rattle.std.specs.Prelude.{◌≡◌, ◌≤◌, List, IfOk, IfErr, IsErrOf, string_bytes};
 ghost use Rattle.ae_outside.specs.Causes.{Counted};
 ghost use Rattle.ae_outside.specs.DiskNames.{IsDiskName};
-ghost use Rattle.ae_outside.specs.Image.{IsSame};
-ghost use Rattle.ae_outside.specs.State.{reads, GoesOn};
+ghost use Rattle.ae_outside.specs.State.{reads};
 ghost use Rattle.ae_types.specs.declared.blame.Blame.TheVariants as blame;
 ghost use Rattle.ae_types.specs.declared.file_table.FileRow.{FileRow};
 ghost use Rattle.ae_types.specs.declared.file_table.Lock.{Lock};
+ghost use Rattle.ae_vault.specs.Disk.{OnlyReads};
 ghost use Rattle.ae_store.specs.Damage.{ReadsTable, ReadsChange};
 ghost use Rattle.ae_store.specs.Names.{change_file};
 ghost use Rattle.ae_audit.specs.Files.{files_by};
@@ -45,7 +45,7 @@ pub(crate) fn load_table<D: Disk>(
     project: &Project,
 ) -> Result<(FileRows, LockList), Stop>
     ensures table { D.tells → IsRecordRead (λ (t : List FileRow × List Lock). ReadsTable (files_by redo.now (reads (D.state disk.old))) project.now t.0 t.1) blame.Files result }
-    ensures change { D.tells → GoesOn IsSame (D.state disk.old) (D.state disk.new) }
+    ensures change { OnlyReads D.Disk disk.old disk.new }
     ensures cause { Counted (D.faults disk.old) (D.faults disk.new) (IsErrOf result Stop.DiskFault) }
 {
     let bytes = file_bytes(alloc, disk, redo, FILES)?;
@@ -60,7 +60,7 @@ fn load_change<D: Disk>(
     number: ChangeNo,
 ) -> Result<Change, Stop>
     ensures loaded { D.tells → IsRecordRead (ReadsChange (files_by redo.now (reads (D.state disk.old))) number) (blame.Change number) result }
-    ensures change { D.tells → GoesOn IsSame (D.state disk.old) (D.state disk.new) }
+    ensures change { OnlyReads D.Disk disk.old disk.new }
     ensures cause { Counted (D.faults disk.old) (D.faults disk.new) (IsErrOf result Stop.DiskFault) }
 {
     let name = change_name(alloc, number)?;
@@ -76,7 +76,7 @@ pub(crate) fn load_changes<D: Disk>(
     numbers: &[ChangeNo],
 ) -> Result<ChangeList, Stop>
     ensures loaded { D.tells → AreRead (files_by redo.now (reads (D.state disk.old))) numbers.now result }
-    ensures change { D.tells → GoesOn IsSame (D.state disk.old) (D.state disk.new) }
+    ensures change { OnlyReads D.Disk disk.old disk.new }
     ensures cause { Counted (D.faults disk.old) (D.faults disk.new) (IsErrOf result Stop.DiskFault) }
 {
     let mut changes = ChangeList::new(alloc);

@@ -1,12 +1,9 @@
 // The store is opened, and its project loaded.
 ghost use Rattle.std.specs.Prelude.{◌≡◌, ◌≢◌, ◌≤◌, None, option_copied, IfOk, IfErr, OnOk};
-ghost use Rattle.ae_outside.specs.Causes.{HasRisen};
-ghost use Rattle.ae_outside.specs.Image.{IsSame};
-ghost use Rattle.ae_outside.specs.State.{reads, GoesOn};
+ghost use Rattle.ae_outside.specs.State.{reads};
 ghost use Rattle.ae_base.specs.declared.want.Want.{Want};
 ghost use Rattle.ae_store.specs.Records.{Shown};
-ghost use Rattle.ae_vault.specs.Commit.{IsClean};
-ghost use Rattle.ae_vault.specs.Vault.{effective};
+ghost use Rattle.ae_vault.specs.Disk.{DiskFailed, IsCleanDisk, OnlyReads, files_of};
 ghost use Rattle.ae_dist.specs.Answers.{Answers, IsDamagedAt, IsTaken, LeavesStore, Opens, Stops};
 ghost use Rattle.ae_dist.specs.Sending.{is_other};
 
@@ -31,11 +28,11 @@ fn is_other(name: Option<&ProjectName>, state: &State) -> bool
 
 // Recovers what a stop left.
 fn open_store<D: Disk>(alloc: Global, disk: &mut D) -> Result<(), DistError>
-    ensures clean { OnOk result (D.tells → IsClean (D.state disk.new)) }
+    ensures clean { OnOk result (IsCleanDisk D.Disk disk.new) }
     ensures disk { D.tells → LeavesStore (D.state disk.old) (D.state disk.new) }
-    ensures stopped { Answers (λ done. D.tells → effective (reads (D.state disk.old)) ≢ None) (λ refusal. ⊥)
+    ensures stopped { Answers (λ done. D.tells → files_of D.Disk disk.old ≢ None) (λ refusal. ⊥)
         (λ name. D.tells → (wanted : Want) → IsDamagedAt wanted (reads (D.state disk.old)) name)
-        (HasRisen (D.faults disk.old) (D.faults disk.new)) result }
+        (DiskFailed D.Disk disk.old disk.new) result }
     ensures later { D.faults disk.old ≤ D.faults disk.new }
 {
     match Vault::open(alloc, disk) {
@@ -48,11 +45,11 @@ fn open_store<D: Disk>(alloc: Global, disk: &mut D) -> Result<(), DistError>
 
 // What the files show where these changes are wanted.
 fn load_store<D: Disk>(alloc: Global, disk: &mut D, want: Want) -> Result<Option<State>, DistError>
-    requires clean { D.tells → IsClean (D.state disk.old) }
+    requires clean { IsCleanDisk D.Disk disk.old }
     ensures found { IfOk result (λ o. D.tells → Shown want (reads (D.state disk.old)) o) }
-    ensures same { D.tells → GoesOn IsSame (D.state disk.old) (D.state disk.new) }
+    ensures same { OnlyReads D.Disk disk.old disk.new }
     ensures stopped { IfErr result (Stops (λ name. D.tells → IsDamagedAt want (reads (D.state disk.old)) name)
-        (HasRisen (D.faults disk.old) (D.faults disk.new))) }
+        (DiskFailed D.Disk disk.old disk.new)) }
     ensures later { D.faults disk.old ≤ D.faults disk.new }
 {
     Ok(load(alloc, disk, want)?)
@@ -79,8 +76,8 @@ pub(crate) fn open_project<D: Disk>(
     want: Want,
     name: Option<&ProjectName>,
 ) -> Result<State, DistError>
-    ensures answer { Opens want D.tells (reads (D.state disk.old)) (option_copied name.entry) (HasRisen (D.faults disk.old) (D.faults disk.new)) result }
-    ensures clean { OnOk result (D.tells → IsClean (D.state disk.new)) }
+    ensures answer { Opens want D.tells (reads (D.state disk.old)) (option_copied name.entry) (DiskFailed D.Disk disk.old disk.new) result }
+    ensures clean { OnOk result (IsCleanDisk D.Disk disk.new) }
     ensures disk { D.tells → LeavesStore (D.state disk.old) (D.state disk.new) }
     ensures later { D.faults disk.old ≤ D.faults disk.new }
 {

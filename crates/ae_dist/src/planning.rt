@@ -3,12 +3,12 @@ ghost use Rattle.std.specs.Prelude.{◌≡◌, ◌≤◌, ◌++◌, ◌∷◌, [
 ghost use Rattle.std.specs.List.{filter_map, cons_option};
 ghost use Rattle.std.specs.Ordering.{nat_cmp};
 ghost use Rattle.ae_log.specs.Settings.{change_numbers};
-ghost use Rattle.ae_outside.specs.Causes.{HasRisen};
 ghost use Rattle.ae_outside.specs.State.{reads};
 ghost use Rattle.ae_text.specs.Tree.{fields};
 ghost use Rattle.ae_text.specs.View.{members_of, named_node, node};
 ghost use Rattle.ae_types.specs.Ordered.{Ascends, itself};
 ghost use Rattle.ae_types.specs.Phases.{is_remove};
+ghost use Rattle.ae_vault.specs.Disk.{DiskFailed};
 ghost use Rattle.ae_dist.specs.Answers.{Answers, IsPlanned, Plans, RefusesPlan, IsDamagedAt, LeavesStore};
 ghost use Rattle.ae_dist.specs.Plan.{adding, addition, attributes_of, attributes_path, attributes_text, begin, command, is_there, is_unused, new_change, on_path, plan_of, put, removal};
 
@@ -310,7 +310,7 @@ pub fn plan<D: Disk>(
         (λ acts. D.tells → Plans (reads (D.state disk.old)) (option_copied project.entry) bundle.now acts)
         (λ refusal. D.tells → RefusesPlan (reads (D.state disk.old)) (option_copied project.entry) refusal)
         (λ name. D.tells → IsDamagedAt Want.Nothing (reads (D.state disk.old)) name)
-        (HasRisen (D.faults disk.old) (D.faults disk.new)) result }
+        (DiskFailed D.Disk disk.old disk.new) result }
     ensures disk { D.tells → LeavesStore (D.state disk.old) (D.state disk.new) }
     ensures later { D.faults disk.old ≤ D.faults disk.new }
 {

@@ -3,14 +3,12 @@ ghost use Rattle.std.specs.Prelude.{◌≡◌, ◌≤◌, ◌++◌, ◌∷◌, [
 ghost use Rattle.std.specs.List.{AllByRecursion, cons_option};
 ghost use Rattle.std.specs.Option.{option_map_or};
 ghost use Rattle.ae_base.specs.Names.{IsPath};
-ghost use Rattle.ae_outside.specs.Causes.{HasRisen};
-ghost use Rattle.ae_outside.specs.Image.{Image, IsSame};
-ghost use Rattle.ae_outside.specs.State.{reads, GoesOn};
+ghost use Rattle.ae_outside.specs.Image.{Image};
+ghost use Rattle.ae_outside.specs.State.{reads};
 ghost use Rattle.ae_types.specs.declared.version.VersionRef.{VersionRef};
 ghost use Rattle.ae_types.specs.Phases.{is_completed};
-ghost use Rattle.ae_vault.specs.Commit.{IsClean};
+ghost use Rattle.ae_vault.specs.Disk.{DiskFailed, IsCleanDisk, OnlyReads, files_of};
 ghost use Rattle.ae_vault.specs.Pieces.{pack};
-ghost use Rattle.ae_vault.specs.Vault.{effective};
 ghost use Rattle.ae_history.specs.Packed.{AreOf, bytes_at};
 ghost use Rattle.ae_bundle.specs.Bundled.{Fits};
 ghost use Rattle.ae_dist.specs.declared.rows.Row.{Row};
@@ -85,9 +83,9 @@ fn find<D: Disk>(
     project: Option<&ProjectName>,
     change: ChangeNo,
 ) -> Result<(Head, Vec<Row>), DistError>
-    ensures answer { Finds D.tells (reads (D.state disk.old)) (option_copied project.entry) change (HasRisen (D.faults disk.old) (D.faults disk.new)) result }
+    ensures answer { Finds D.tells (reads (D.state disk.old)) (option_copied project.entry) change (DiskFailed D.Disk disk.old disk.new) result }
     ensures good { IfOk result (λ found. AreGood found.0 found.1.items) }
-    ensures clean { OnOk result (D.tells → IsClean (D.state disk.new)) }
+    ensures clean { OnOk result (IsCleanDisk D.Disk disk.new) }
     ensures disk { D.tells → LeavesStore (D.state disk.old) (D.state disk.new) }
     ensures later { D.faults disk.old ≤ D.faults disk.new }
 {
@@ -103,15 +101,15 @@ fn read_version<D: Disk>(
     disk: &mut D,
     version: &VersionRef,
 ) -> Result<Text, DistError>
-    requires clean { D.tells → IsClean (D.state disk.old) }
+    requires clean { IsCleanDisk D.Disk disk.old }
     requires inside { IsInside version.now }
     ensures bytes { IfOk result (λ bytes. D.tells →
-        IsSomeAnd (effective (reads (D.state disk.old))) (λ files. bytes ≡ bytes_at (files pack) version.now)) }
+        IsSomeAnd (files_of D.Disk disk.old) (λ files. bytes ≡ bytes_at (files pack) version.now)) }
     ensures kept { IfOk result (AreOf version.now) }
     ensures stopped { IfErr result (Stops (λ name. D.tells → (name ≡ codes "pack")
-        × IsSomeAnd (effective (reads (D.state disk.old))) (λ files. IsKept (files pack) version.now → ⊥))
-        (HasRisen (D.faults disk.old) (D.faults disk.new))) }
-    ensures same { D.tells → GoesOn IsSame (D.state disk.old) (D.state disk.new) }
+        × IsSomeAnd (files_of D.Disk disk.old) (λ files. IsKept (files pack) version.now → ⊥))
+        (DiskFailed D.Disk disk.old disk.new)) }
+    ensures same { OnlyReads D.Disk disk.old disk.new }
     ensures later { D.faults disk.old ≤ D.faults disk.new }
 {
     match get_version(alloc, disk, version) {
@@ -125,15 +123,15 @@ fn read_version<D: Disk>(
 
 // The bytes of a row's file; none where there is none.
 fn row_bytes<D: Disk>(alloc: Global, disk: &mut D, row: &Row) -> Result<Text, DistError>
-    requires clean { D.tells → IsClean (D.state disk.old) }
+    requires clean { IsCleanDisk D.Disk disk.old }
     requires inside { IfSome row.now.version IsInside }
-    ensures bytes { IfOk result (λ bytes. D.tells → (files : Image) → effective (reads (D.state disk.old)) ≡ Some files →
+    ensures bytes { IfOk result (λ bytes. D.tells → (files : Image) → files_of D.Disk disk.old ≡ Some files →
         (bytes ≡ option_map_or (bytes_at (files pack)) row.now.version []) × AreKept (files pack) (cons_option row.now.version [])) }
     ensures size { IfOk result (λ bytes. length bytes ≡ option_map_or (λ (version : VersionRef). version.length) row.now.version 0) }
     ensures stopped { IfErr result (Stops
         (λ name. D.tells → IsLostAmong (reads (D.state disk.old)) (cons_option row.now.version []) name)
-        (HasRisen (D.faults disk.old) (D.faults disk.new))) }
-    ensures same { D.tells → GoesOn IsSame (D.state disk.old) (D.state disk.new) }
+        (DiskFailed D.Disk disk.old disk.new)) }
+    ensures same { OnlyReads D.Disk disk.old disk.new }
     ensures later { D.faults disk.old ≤ D.faults disk.new }
 {
     match &row.version {
@@ -163,15 +161,15 @@ fn push_file<D: Disk>(
     files: &mut BundleFileList,
     row: &Row,
 ) -> Result<(), DistError>
-    requires clean { D.tells → IsClean (D.state disk.old) }
+    requires clean { IsCleanDisk D.Disk disk.old }
     requires inside { IfSome row.now.version IsInside }
-    ensures pushed { OnOk result (D.tells → (image : Image) → effective (reads (D.state disk.old)) ≡ Some image →
+    ensures pushed { OnOk result (D.tells → (image : Image) → files_of D.Disk disk.old ≡ Some image →
         (files.new ≡ files.old ++ sent_file (image pack) row.now ∷ []) × AreKept (image pack) (versions_of (row.now ∷ []))) }
     ensures sized { OnOk result (map file_key files.new ≡ map file_key files.old ++ row_key row.now ∷ []) }
     ensures stopped { IfErr result (Stops
         (λ name. D.tells → IsLostAmong (reads (D.state disk.old)) (versions_of (row.now ∷ [])) name)
-        (HasRisen (D.faults disk.old) (D.faults disk.new))) }
-    ensures same { D.tells → GoesOn IsSame (D.state disk.old) (D.state disk.new) }
+        (DiskFailed D.Disk disk.old disk.new)) }
+    ensures same { OnlyReads D.Disk disk.old disk.new }
     ensures later { D.faults disk.old ≤ D.faults disk.new }
 {
     match row_bytes(alloc, disk, row) {
@@ -190,14 +188,14 @@ fn push_file<D: Disk>(
 
 // The files of the rows, with their bytes.
 fn files_of<D: Disk>(alloc: Global, disk: &mut D, rows: &[Row]) -> Result<BundleFileList, DistError>
-    requires clean { D.tells → IsClean (D.state disk.old) }
+    requires clean { IsCleanDisk D.Disk disk.old }
     requires inside { AllByRecursion (λ (row : Row). IfSome row.version IsInside) rows.now }
     ensures files { IfOk result (λ files. D.tells → AreReadFrom (reads (D.state disk.old)) rows.now files) }
     ensures sized { IfOk result (λ files. map file_key files ≡ map row_key rows.now) }
     ensures stopped { IfErr result (Stops
         (λ name. D.tells → IsLostAmong (reads (D.state disk.old)) (versions_of rows.now) name)
-        (HasRisen (D.faults disk.old) (D.faults disk.new))) }
-    ensures same { D.tells → GoesOn IsSame (D.state disk.old) (D.state disk.new) }
+        (DiskFailed D.Disk disk.old disk.new)) }
+    ensures same { OnlyReads D.Disk disk.old disk.new }
     ensures later { D.faults disk.old ≤ D.faults disk.new }
 {
     let mut files = BundleFileList::new(alloc);
@@ -225,7 +223,7 @@ fn filled<D: Disk>(
     head: Head,
     rows: &[Row],
 ) -> Result<Bundle, DistError>
-    requires clean { D.tells → IsClean (D.state disk.old) }
+    requires clean { IsCleanDisk D.Disk disk.old }
     requires good { AreGood head rows.now }
     ensures head { IfOk result (λ bundle. (bundle.brief ≡ head.brief)
         × ((bundle.description ≡ head.description) × (bundle.cause ≡ head.cause))) }
@@ -233,8 +231,8 @@ fn filled<D: Disk>(
     ensures fits { IfOk result Fits }
     ensures stopped { IfErr result (Stops
         (λ name. D.tells → IsLostAmong (reads (D.state disk.old)) (versions_of rows.now) name)
-        (HasRisen (D.faults disk.old) (D.faults disk.new))) }
-    ensures same { D.tells → GoesOn IsSame (D.state disk.old) (D.state disk.new) }
+        (DiskFailed D.Disk disk.old disk.new)) }
+    ensures same { OnlyReads D.Disk disk.old disk.new }
     ensures later { D.faults disk.old ≤ D.faults disk.new }
 {
     note_paths(rows);
@@ -261,7 +259,7 @@ pub fn bundle_of<D: Disk>(
         (λ bundle. D.tells → Sends (reads (D.state disk.old)) (option_copied project.entry) change bundle)
         (λ refusal. D.tells → RefusesSending (reads (D.state disk.old)) (option_copied project.entry) change refusal)
         (λ name. D.tells → DamagedSending (reads (D.state disk.old)) (option_copied project.entry) change name)
-        (HasRisen (D.faults disk.old) (D.faults disk.new)) result }
+        (DiskFailed D.Disk disk.old disk.new) result }
     // What is answered has a text.
     ensures fits { IfOk result Fits }
     ensures disk { D.tells → LeavesStore (D.state disk.old) (D.state disk.new) }

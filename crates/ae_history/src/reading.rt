@@ -2,12 +2,9 @@
 ghost use Rattle.std.specs.Prelude.{◌≡◌, ◌≤◌, ◌*◌, ◌↔◌, ℕ, List, true, Err, length, take, drop, IfOk, IsTrue, IsSomeAnd, IsErrOf};
 ghost use Rattle.ae_base.specs.Limits.{most_units};
 ghost use Rattle.ae_outside.specs.Causes.{Counted};
-ghost use Rattle.ae_outside.specs.Image.{IsSame};
-ghost use Rattle.ae_outside.specs.State.{reads, GoesOn};
 ghost use Rattle.ae_types.specs.Versions.{has_units, end_of};
-ghost use Rattle.ae_vault.specs.Commit.{IsClean};
+ghost use Rattle.ae_vault.specs.Disk.{IsCleanDisk, OnlyReads, files_of};
 ghost use Rattle.ae_vault.specs.Pieces.{pack};
-ghost use Rattle.ae_vault.specs.Vault.{effective};
 ghost use Rattle.ae_history.specs.Packed.{bytes_at, AreOf};
 
 use crate::HistoryError;
@@ -43,16 +40,16 @@ pub fn get_version<D: Disk>(
     disk: &mut D,
     version: &VersionRef,
 ) -> Result<Vec<u8>, HistoryError>
-    requires clean { D.tells → IsClean (D.state disk.old) }
+    requires clean { IsCleanDisk D.Disk disk.old }
     requires place { has_units version.now ≡ true → end_of version.now ≤ most_units }
     // What lies at its place, and what was kept of it says so.
-    ensures bytes { IfOk result (λ bytes. D.tells → IsSomeAnd (effective (reads (D.state disk.old))) (λ files. bytes.items ≡ bytes_at (files pack) version.now)) }
+    ensures bytes { IfOk result (λ bytes. D.tells → IsSomeAnd (files_of D.Disk disk.old) (λ files. bytes.items ≡ bytes_at (files pack) version.now)) }
     ensures kept { IfOk result (λ bytes. AreOf version.now bytes.items) }
     // It is damaged exactly where length or SHA-256 isn't the one that was kept.
-    ensures damaged { (number : ℕ) → IsErrOf result (HistoryError.Damaged number) → D.tells → IsSomeAnd (effective (reads (D.state disk.old))) (λ files. AreOf version.now (bytes_at (files pack) version.now) → ⊥) }
+    ensures damaged { (number : ℕ) → IsErrOf result (HistoryError.Damaged number) → D.tells → IsSomeAnd (files_of D.Disk disk.old) (λ files. AreOf version.now (bytes_at (files pack) version.now) → ⊥) }
     ensures its_number { (number : ℕ) → IsErrOf result (HistoryError.Damaged number) → number ≡ version.now.number }
     ensures never_full { IsErrOf result HistoryError.Full → ⊥ }
-    ensures change { D.tells → GoesOn IsSame (D.state disk.old) (D.state disk.new) }
+    ensures change { OnlyReads D.Disk disk.old disk.new }
     ensures cause { Counted (D.faults disk.old) (D.faults disk.new) (IsErrOf result HistoryError.DiskFault) }
 {
     let bytes = Vault::get_range(

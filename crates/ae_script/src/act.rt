@@ -1,10 +1,11 @@
 // Acts, done one after another.
 ghost use Rattle.std.specs.Prelude.{◌≡◌, ◌≤◌, All};
 ghost use Rattle.ae_base.specs.Limits.{last_moment};
+ghost use Rattle.ae_telling.specs.Telling.{use_of_sink};
 ghost use Rattle.ae_script.specs.Acts.{ActsDone, MayBeDone, line_of};
 ghost use Rattle.ae_script.specs.Lines.{Does, did, stand};
 ghost use Rattle.ae_script.specs.Step.{told_by};
-ghost use Rattle.ae_script.specs.Uses.{disks, sites, streams, written_from};
+ghost use Rattle.ae_script.specs.Uses.{disks, sites};
 
 use crate::doing::{Standing, do_command, put, tell_line};
 use crate::manner::Manner;
@@ -26,7 +27,7 @@ fn do_act<D: Disk, S: Site>(
 ) -> Told
     requires may { MayBeDone act.now }
     requires moment { now ≤ last_moment }
-    ensures done { let d = disks D.tells D.state D.faults in let s = sites S.tells S.state S.faults in
+    ensures done { let d = disks D.Disk in let s = sites S.Site in
         Does d s manner (stand d s who.now now disk.old site.old) (did d s (line_of act.now) result.outcome
         (told_by manner result) (stand d s who.now now disk.new site.new)) }
 {
@@ -53,10 +54,9 @@ pub fn do_acts<D: Disk, S: Site, O: Sink>(
     requires may { All MayBeDone acts.now }
     // Each goes on from where the one before it led; where the disk holds legal logs they are steps of the log machine. What is
     // written of each was taken whole before the next one began.
-    ensures done { let d = disks D.tells D.state D.faults in let s = sites S.tells S.state S.faults in
+    ensures done { let d = disks D.Disk in let s = sites S.Site in
         ActsDone d s manner acts.now (stand d s standing.who standing.now disk.old site.old)
-        (stand d s standing.who standing.now disk.new site.new)
-        (written_from (streams O.tells O.taken O.faults) out.old out.new) result }
+        (stand d s standing.who standing.now disk.new site.new) (use_of_sink O.Sink out.old out.new) result }
     ensures out_faults { O.faults out.old ≤ O.faults out.new }
 {
     for act in acts {

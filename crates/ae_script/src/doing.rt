@@ -1,17 +1,16 @@
 // One line is done.
 ghost use Rattle.std.specs.Prelude.{◌≡◌, ◌≤◌, ◌++◌, [], true, false, Some, None, replicate, IfSome, OnSome};
 ghost use Rattle.ae_base.specs.Limits.{last_moment};
-ghost use Rattle.ae_outside.specs.Causes.{HasRisen};
 ghost use Rattle.ae_lines.specs.Line.{IsReady};
 ghost use Rattle.ae_words.specs.Formed.{IsFormed};
 ghost use Rattle.ae_machine.specs.Called.{called};
 ghost use Rattle.ae_machine.specs.Legal.{is_one_command};
-ghost use Rattle.ae_telling.specs.Telling.{IsTold, written};
+ghost use Rattle.ae_telling.specs.Telling.{use_of_sink, IsTold, written};
 ghost use Rattle.ae_script.specs.Lines.{CommandDone, Does, EditDone, did, stand};
 ghost use Rattle.ae_script.specs.Manner.{is_done, leads_on};
 ghost use Rattle.ae_script.specs.Step.{IsStoppedBy, told_by};
-ghost use Rattle.ae_script.specs.Uses.{disk_use, disks, site_use, sites, streams, written_from};
 ghost use Rattle.ae_script.specs.declared.manner.Manner.TheVariants.{Plan};
+ghost use Rattle.ae_script.specs.Uses.{use_of_disk, use_of_site, disks, sites};
 
 use crate::manner::Manner;
 use ae_base::{Outcome, Path, User};
@@ -46,8 +45,7 @@ pub fn do_command<D: Disk, S: Site>(
     requires moment { now ≤ last_moment }
     // How it ends and what it leaves, whatever the disk and the directories held.
     ensures done { CommandDone (called command.now who.now now (S.state site.old) (S.state site.new)) status
-        (disk_use D.tells (D.state disk.old) (D.state disk.new) (HasRisen (D.faults disk.old) (D.faults disk.new)))
-        (site_use S.tells (S.state site.old) (S.state site.new) (HasRisen (S.faults site.old) (S.faults site.new)))
+        (use_of_disk D.Disk disk.old disk.new) (use_of_site S.Site site.old site.new)
         result.outcome (written result) }
     ensures disk_faults { D.faults disk.old ≤ D.faults disk.new }
     ensures site_faults { S.faults site.old ≤ S.faults site.new }
@@ -59,8 +57,7 @@ pub fn do_command<D: Disk, S: Site>(
 
 // A file is written.
 pub(crate) fn put<S: Site>(alloc: Global, site: &mut S, dir: Dir, path: &Path, bytes: &[u8]) -> Told
-    ensures ends { EditDone dir path.now (Some bytes.now)
-        (site_use S.tells (S.state site.old) (S.state site.new) (HasRisen (S.faults site.old) (S.faults site.new)))
+    ensures ends { EditDone dir path.now (Some bytes.now) (use_of_site S.Site site.old site.new)
         result.outcome (written result) }
     ensures faults { S.faults site.old ≤ S.faults site.new }
 {
@@ -72,8 +69,7 @@ pub(crate) fn put<S: Site>(alloc: Global, site: &mut S, dir: Dir, path: &Path, b
 
 // A file is written with so many times this byte.
 fn fill<S: Site>(alloc: Global, site: &mut S, dir: Dir, path: &Path, count: u32, byte: u8) -> Told
-    ensures ends { EditDone dir path.now (Some (replicate count byte))
-        (site_use S.tells (S.state site.old) (S.state site.new) (HasRisen (S.faults site.old) (S.faults site.new)))
+    ensures ends { EditDone dir path.now (Some (replicate count byte)) (use_of_site S.Site site.old site.new)
         result.outcome (written result) }
     ensures faults { S.faults site.old ≤ S.faults site.new }
 {
@@ -85,8 +81,7 @@ fn fill<S: Site>(alloc: Global, site: &mut S, dir: Dir, path: &Path, count: u32,
 
 // A file is removed.
 fn remove<S: Site>(alloc: Global, site: &mut S, dir: Dir, path: &Path) -> Told
-    ensures ends { EditDone dir path.now None
-        (site_use S.tells (S.state site.old) (S.state site.new) (HasRisen (S.faults site.old) (S.faults site.new)))
+    ensures ends { EditDone dir path.now None (use_of_site S.Site site.old site.new)
         result.outcome (written result) }
     ensures faults { S.faults site.old ≤ S.faults site.new }
 {
@@ -107,7 +102,7 @@ pub fn do_line<D: Disk, S: Site>(
 ) -> Told
     requires ready { IsReady line }
     // What it did, from where the lines stood before it to where they stand now.
-    ensures done { let d = disks D.tells D.state D.faults in let s = sites S.tells S.state S.faults in
+    ensures done { let d = disks D.Disk in let s = sites S.Site in
         Does d s manner (stand d s standing.old.who standing.old.now disk.old site.old) (did d s line result.outcome
         (told_by manner result) (stand d s standing.new.who standing.new.now disk.new site.new)) }
 {
@@ -149,7 +144,7 @@ fn tell_act<O: Sink>(told: Told, out: &mut O) -> Option<Outcome>
     ensures goes { result ≡ None → is_done told.outcome ≡ true }
     ensures whole { result ≡ None → O.tells → O.taken out.new ≡ O.taken out.old ++ written told }
     ensures ends { IfSome result (IsStoppedBy Plan told.outcome (written told)
-        (written_from (streams O.tells O.taken O.faults) out.old out.new)) }
+        (use_of_sink O.Sink out.old out.new)) }
     ensures later { O.faults out.old ≤ O.faults out.new }
 {
     let outcome = told.tell_alone(out);
@@ -165,8 +160,7 @@ fn tell_unless_done<O: Sink>(told: Told, out: &mut O) -> Option<Outcome>
     ensures done { result ≡ None → is_done told.outcome ≡ true }
     ensures same { result ≡ None → out.new ≡ out.old }
     ensures not_done { OnSome result (is_done told.outcome ≡ false) }
-    ensures ends { IfSome result (IsTold told.outcome (written told)
-        (written_from (streams O.tells O.taken O.faults) out.old out.new)) }
+    ensures ends { IfSome result (IsTold told.outcome (written told) (use_of_sink O.Sink out.old out.new)) }
     ensures later { O.faults out.old ≤ O.faults out.new }
 {
     if is_done(&told.outcome) {
@@ -180,7 +174,7 @@ pub fn tell_line<O: Sink>(told: Told, manner: Manner, out: &mut O) -> Option<Out
     ensures goes { result ≡ None → leads_on manner told.outcome ≡ true }
     ensures whole { result ≡ None → O.tells → O.taken out.new ≡ O.taken out.old ++ told_by manner told }
     ensures ends { IfSome result (IsStoppedBy manner told.outcome (told_by manner told)
-        (written_from (streams O.tells O.taken O.faults) out.old out.new)) }
+        (use_of_sink O.Sink out.old out.new)) }
     ensures later { O.faults out.old ≤ O.faults out.new }
 {
     match manner {

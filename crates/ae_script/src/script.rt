@@ -1,12 +1,12 @@
 // A script, from its first line to its end.
 ghost use Rattle.std.specs.Prelude.{◌≡◌, ◌≤◌, true, false};
 ghost use Rattle.ae_base.specs.declared.outcome.Outcome.TheVariants.{BadWords};
-ghost use Rattle.ae_telling.specs.Telling.{IsToldOrMemory};
+ghost use Rattle.ae_telling.specs.Telling.{use_of_sink, IsToldOrMemory};
 ghost use Rattle.ae_script.specs.Lines.{stand};
 ghost use Rattle.ae_script.specs.Step.{may_give};
-ghost use Rattle.ae_script.specs.Uses.{disks, read_from, sites, streams, written_from};
 ghost use Rattle.ae_script.specs.declared.manner.Manner.TheVariants.{Script};
 ghost use Rattle.ae_script.specs.Ends.{ScriptDone};
+ghost use Rattle.ae_script.specs.Uses.{use_of_source, disks, sites};
 
 use crate::doing::{Standing, do_line, tell_line};
 use crate::manner::Manner;
@@ -32,10 +32,9 @@ pub fn do_lines<D: Disk, S: Site, I: Source, O: Sink>(
     // Each line that was done goes on from where the one before it led, whatever the disk holds, and the lines are those of the
     // input. What is written of each was taken whole before the next one began. Where the disk holds legal logs, they are steps
     // of the log machine.
-    ensures done { let d = disks D.tells D.state D.faults in let s = sites S.tells S.state S.faults in
+    ensures done { let d = disks D.Disk in let s = sites S.Site in
         ScriptDone d s manner (stand d s standing.who standing.now disk.old site.old) disk.new site.new
-        (read_from (streams I.tells I.left I.faults) input.old input.new)
-        (written_from (streams O.tells O.taken O.faults) out.old out.new) result }
+        (use_of_source I.Source input.old input.new) (use_of_sink O.Sink out.old out.new) result }
     ensures input_faults { I.faults input.old ≤ I.faults input.new }
     ensures out_faults { O.faults out.old ≤ O.faults out.new }
 {
@@ -79,15 +78,12 @@ pub fn run_script<D: Disk, S: Site, I: Source, O: Sink>(
     out: &mut O,
 ) -> Outcome
     // The lines of the input are done as `do_lines` says.
-    ensures done { may_give who.now now ≡ true →
-        let d = disks D.tells D.state D.faults in let s = sites S.tells S.state S.faults in
+    ensures done { may_give who.now now ≡ true → let d = disks D.Disk in let s = sites S.Site in
         ScriptDone d s Script (stand d s who.now now disk.old site.old) disk.new site.new
-        (read_from (streams I.tells I.left I.faults) input.old input.new)
-        (written_from (streams O.tells O.taken O.faults) out.old out.new) result }
+        (use_of_source I.Source input.old input.new) (use_of_sink O.Sink out.old out.new) result }
     // A user that is none, or a moment that is too late: nothing is called but the sink.
     ensures nobody { may_give who.now now ≡ false → (disk.new ≡ disk.old) × (site.new ≡ site.old) ×
-        (input.new ≡ input.old) × IsToldOrMemory (BadWords 0)
-        (written_from (streams O.tells O.taken O.faults) out.old out.new) result }
+        (input.new ≡ input.old) × IsToldOrMemory (BadWords 0) (use_of_sink O.Sink out.old out.new) result }
     ensures input_faults { I.faults input.old ≤ I.faults input.new }
     ensures out_faults { O.faults out.old ≤ O.faults out.new }
 {

@@ -9,13 +9,14 @@ ghost use Rattle.ae_words.specs.declared.table.Function.TheVariants as function;
 ghost use Rattle.ae_exec.specs.Performs.{LeavesDisk};
 ghost use Rattle.ae_exec.specs.Stands.{StandsForLog};
 ghost use Rattle.ae_generator.specs.Lines.{generated_text};
-ghost use Rattle.ae_telling.specs.Telling.{IsOfCommand};
 ghost use Rattle.ae_script.specs.Causes.{IsCaused};
 ghost use Rattle.ae_script.specs.Lines.{stand};
 ghost use Rattle.ae_script.specs.Manner.{is_done};
-ghost use Rattle.ae_script.specs.Uses.{disks, sites, streams, written_from};
 ghost use Rattle.ae_session.specs.Called.{ProjectDone};
 ghost use Rattle.ae_base.specs.declared.outcome.Outcome.TheVariants.{Memory};
+ghost use Rattle.ae_vault.specs.Disk.{DiskFailed};
+ghost use Rattle.ae_telling.specs.Telling.{use_of_sink, IsOfCommand};
+ghost use Rattle.ae_script.specs.Uses.{disks, sites};
 ghost use Rattle.ae_session.specs.Summary.{FailsToRead, HasBuilds, IsSummary, SummaryTold, summary_text};
 
 use crate::builds::count_builds;
@@ -83,8 +84,8 @@ fn summary_of(alloc: Global, state: State, runs: u64) -> Result<Text, Outcome>
 // The summary of the project that stands on the disk.
 fn read_summary<D: Disk>(alloc: Global, runs: u64, disk: &mut D) -> Result<Text, Outcome>
     ensures read { IfOk result (λ text. D.tells → (log : Log) → StandsForLog (reads (D.state disk.old)) log → IsSummary runs (observation log) text) }
-    ensures fails { IfErr result (λ why. D.tells → (log : Log) → StandsForLog (reads (D.state disk.old)) log → FailsToRead (HasRisen (D.faults disk.old) (D.faults disk.new)) (observation log) why) }
-    ensures causes { IfErr result (IsCaused (HasRisen (D.faults disk.old) (D.faults disk.new)) ⊥ ⊥ ⊥) }
+    ensures fails { IfErr result (λ why. D.tells → (log : Log) → StandsForLog (reads (D.state disk.old)) log → FailsToRead (DiskFailed D.Disk disk.old disk.new) (observation log) why) }
+    ensures causes { IfErr result (IsCaused (DiskFailed D.Disk disk.old disk.new) ⊥ ⊥ ⊥) }
     ensures of_command { IfErr result IsOfCommand }
     ensures disk { D.tells → LeavesDisk (D.state disk.old) (D.state disk.new) (Unit {0}) }
     ensures disk_faults { D.faults disk.old ≤ D.faults disk.new }
@@ -104,10 +105,11 @@ fn tell_summary<D: Disk, O: Sink, E: Sink>(
     out: &mut O,
     err: &mut E,
 ) -> Outcome
-    ensures told { D.tells → (log : Log) → StandsForLog (reads (D.state disk.old)) log → SummaryTold runs (observation log) (HasRisen (D.faults disk.old) (D.faults disk.new))
-        (written_from (streams O.tells O.taken O.faults) out.old out.new)
-        (written_from (streams E.tells E.taken E.faults) err.old err.new) result }
-    ensures causes { IsCaused (HasRisen (D.faults disk.old) (D.faults disk.new)) ⊥ ⊥ (HasRisen (O.faults out.old) (O.faults out.new) ⊎ HasRisen (E.faults err.old) (E.faults err.new)) result }
+    ensures told { D.tells → (log : Log) → StandsForLog (reads (D.state disk.old)) log →
+        SummaryTold runs (observation log) (DiskFailed D.Disk disk.old disk.new)
+        (use_of_sink O.Sink out.old out.new) (use_of_sink E.Sink err.old err.new) result }
+    ensures causes { IsCaused (DiskFailed D.Disk disk.old disk.new) ⊥ ⊥
+        (HasRisen (O.faults out.old) (O.faults out.new) ⊎ HasRisen (E.faults err.old) (E.faults err.new)) result }
     ensures disk { D.tells → LeavesDisk (D.state disk.old) (D.state disk.new) (Unit {0}) }
     ensures disk_faults { D.faults disk.old ≤ D.faults disk.new }
     ensures out_faults { O.faults out.old ≤ O.faults out.new }
@@ -139,10 +141,9 @@ pub(crate) fn generate<D: Disk, S: Site, O: Sink, E: Sink>(
     out: &mut O,
     err: &mut E,
 ) -> Outcome
-    ensures done { let d = disks D.tells D.state D.faults in let s = sites S.tells S.state S.faults in
+    ensures done { let d = disks D.Disk in let s = sites S.Site in
         ProjectDone d s size.start size.changes size.files (stand d s standing.who standing.now disk.old site.old) disk.new site.new
-        (written_from (streams O.tells O.taken O.faults) out.old out.new)
-        (written_from (streams E.tells E.taken E.faults) err.old err.new) result }
+        (use_of_sink O.Sink out.old out.new) (use_of_sink E.Sink err.old err.new) result }
     ensures out_faults { O.faults out.old ≤ O.faults out.new }
     ensures err_faults { E.faults err.old ≤ E.faults err.new }
 {

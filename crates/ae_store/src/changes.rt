@@ -1,10 +1,9 @@
 // The changes of the numbers are loaded.
 ghost use Rattle.std.specs.Prelude.{IsErrOf};
 ghost use Rattle.ae_outside.specs.Causes.{Counted};
-ghost use Rattle.ae_outside.specs.Image.{IsSame};
-ghost use Rattle.ae_outside.specs.State.{reads, GoesOn};
+ghost use Rattle.ae_outside.specs.State.{reads};
+ghost use Rattle.ae_vault.specs.Disk.{IsCleanDisk, OnlyReads};
 ghost use Rattle.ae_vault.specs.Vault.{files};
-ghost use Rattle.ae_vault.specs.Commit.{IsClean};
 ghost use Rattle.ae_store.specs.Steps.{AreRead};
 
 use crate::files::load_change;
@@ -20,9 +19,9 @@ pub(crate) fn load_changes<D: Disk>(
     disk: &mut D,
     numbers: &[ChangeNo],
 ) -> Result<ChangeList, Stop>
-    requires { D.tells → IsClean (D.state disk.old) }
+    requires { IsCleanDisk D.Disk disk.old }
     ensures loaded { D.tells → AreRead (files (reads (D.state disk.old))) numbers.now result }
-    ensures change { D.tells → GoesOn IsSame (D.state disk.old) (D.state disk.new) }
+    ensures change { OnlyReads D.Disk disk.old disk.new }
     ensures cause { Counted (D.faults disk.old) (D.faults disk.new) (IsErrOf result Stop.DiskFault) }
 {
     let mut changes = ChangeList::new(alloc);

@@ -2,10 +2,9 @@
 ghost use Rattle.std.specs.Prelude.{◌≡◌, false, List, IfOk, IsErrOf};
 ghost use Rattle.ae_outside.specs.Causes.{Counted};
 ghost use Rattle.ae_outside.specs.DiskNames.{IsDiskName};
-ghost use Rattle.ae_outside.specs.Image.{IsSame};
-ghost use Rattle.ae_outside.specs.State.{reads, GoesOn};
+ghost use Rattle.ae_outside.specs.State.{reads};
+ghost use Rattle.ae_vault.specs.Disk.{IsCleanDisk, OnlyReads};
 ghost use Rattle.ae_vault.specs.Vault.{files, is_own};
-ghost use Rattle.ae_vault.specs.Commit.{IsClean};
 ghost use Rattle.ae_types.specs.declared.blame.Blame.TheVariants as blame;
 ghost use Rattle.ae_types.specs.declared.file_table.FileRow.{FileRow};
 ghost use Rattle.ae_types.specs.declared.file_table.Lock.{Lock};
@@ -27,13 +26,13 @@ pub(crate) fn file_bytes<D: Disk>(
     disk: &mut D,
     name: &str,
 ) -> Result<Vec<u8>, ReadError>
-    requires clean { D.tells → IsClean (D.state disk.old) }
+    requires clean { IsCleanDisk D.Disk disk.old }
     requires name { IsDiskName name.now }
     requires other { is_own name.now ≡ false }
     ensures bytes { IfOk result (λ bytes. D.tells → files (reads (D.state disk.old)) name.now ≡ bytes.items) }
-    ensures clean { D.tells → IsClean (D.state disk.new) }
+    ensures clean { IsCleanDisk D.Disk disk.new }
     ensures same { D.tells → files (reads (D.state disk.new)) ≡ files (reads (D.state disk.old)) }
-    ensures change { D.tells → GoesOn IsSame (D.state disk.old) (D.state disk.new) }
+    ensures change { OnlyReads D.Disk disk.old disk.new }
     ensures cause { Counted (D.faults disk.old) (D.faults disk.new) (IsErrOf result ReadError.Failed) }
 {
     Vault::get(alloc, disk, name)
@@ -45,11 +44,11 @@ pub(crate) fn load_table<D: Disk>(
     disk: &mut D,
     project: &Project,
 ) -> Result<(FileRows, LockList), Stop>
-    requires { D.tells → IsClean (D.state disk.old) }
+    requires { IsCleanDisk D.Disk disk.old }
     ensures table { D.tells → IsReading (λ (t : List FileRow × List Lock). ReadsTable (files (reads (D.state disk.old))) project.now t.0 t.1) blame.Files result }
-    ensures clean { D.tells → IsClean (D.state disk.new) }
+    ensures clean { IsCleanDisk D.Disk disk.new }
     ensures same { D.tells → files (reads (D.state disk.new)) ≡ files (reads (D.state disk.old)) }
-    ensures change { D.tells → GoesOn IsSame (D.state disk.old) (D.state disk.new) }
+    ensures change { OnlyReads D.Disk disk.old disk.new }
     ensures cause { Counted (D.faults disk.old) (D.faults disk.new) (IsErrOf result Stop.DiskFault) }
 {
     let bytes = file_bytes(alloc, disk, FILES)?;
@@ -62,11 +61,11 @@ pub(crate) fn load_change<D: Disk>(
     disk: &mut D,
     number: ChangeNo,
 ) -> Result<Change, Stop>
-    requires { D.tells → IsClean (D.state disk.old) }
+    requires { IsCleanDisk D.Disk disk.old }
     ensures loaded { D.tells → IsReading (ReadsChange (files (reads (D.state disk.old))) number) (blame.Change number) result }
-    ensures clean { D.tells → IsClean (D.state disk.new) }
+    ensures clean { IsCleanDisk D.Disk disk.new }
     ensures same { D.tells → files (reads (D.state disk.new)) ≡ files (reads (D.state disk.old)) }
-    ensures change { D.tells → GoesOn IsSame (D.state disk.old) (D.state disk.new) }
+    ensures change { OnlyReads D.Disk disk.old disk.new }
     ensures cause { Counted (D.faults disk.old) (D.faults disk.new) (IsErrOf result Stop.DiskFault) }
 {
     let name = change_name(alloc, number)?;

@@ -2,6 +2,8 @@
 use Rattle.std.specs.Prelude.{◌≡◌, ◌⊎◌, ℕ, Bool, true, false, List, ◌++◌}
 use Rattle.ae_base.specs.declared.outcome.Outcome.{Outcome}
 use Rattle.ae_base.specs.declared.outcome.Outcome.TheVariants.{Done, RunFailed, Refused, BadWords, BadScript, DiskFault, SiteFault, SinkFault, SourceFault, Damaged, Memory}
+use Rattle.ae_outside.specs.Causes.{HasRisen}
+use Rattle.ae_outside.specs.declared.streams.Sink.{Ghosts}
 use Rattle.ae_outside.specs.Streams.{TakesPrefix}
 use Rattle.ae_telling.specs.Messages.{disk_fault_text, site_fault_text, memory_text, message, status_line}
 use Rattle.ae_telling.specs.declared.told.Told.{Told}
@@ -15,6 +17,9 @@ pub record SinkUse : Type 1 where
 
 abbrev pub sink_use : (told : Type 0) → (before after : List ℕ) → (rose : Type 0) → SinkUse
 sink_use told before after rose = record { told = told; before = before; after = after; rose = rose }
+
+abbrev pub use_of_sink : {Sink : Type 0} → Ghosts Sink → (old new : Sink) → SinkUse
+use_of_sink device old new = sink_use device.tells (device.taken old) (device.taken new) (HasRisen (device.faults old) (device.faults new))
 
 -- ---- of single outcomes
 

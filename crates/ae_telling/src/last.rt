@@ -1,9 +1,8 @@
 // How a call ends without a command, and how that is told.
 ghost use Rattle.std.specs.Prelude.{◌≡◌, ◌≤◌, IfOk};
 ghost use Rattle.ae_base.specs.declared.outcome.Outcome.TheVariants.{BadScript, BadWords, SourceFault, Memory};
-ghost use Rattle.ae_outside.specs.Causes.{HasRisen};
 ghost use Rattle.ae_telling.specs.Messages.{bad_line_text, bad_words_text, message};
-ghost use Rattle.ae_telling.specs.Telling.{sink_use, IsTold, IsToldOrMemory};
+ghost use Rattle.ae_telling.specs.Telling.{use_of_sink, IsTold, IsToldOrMemory};
 
 use crate::put::put_all;
 use crate::told::untold;
@@ -13,8 +12,7 @@ use std::alloc::{AllocError, Global};
 
 // Tells how a call ended, in these words.
 fn tell_last<O: Sink>(outcome: Outcome, text: &[u8], out: &mut O) -> Outcome
-    ensures ends { IsTold outcome text.now
-        (sink_use O.tells (O.taken out.old) (O.taken out.new) (HasRisen (O.faults out.old) (O.faults out.new))) result }
+    ensures ends { IsTold outcome text.now (use_of_sink O.Sink out.old out.new) result }
     ensures later { O.faults out.old ≤ O.faults out.new }
 {
     match put_all(out, text) {
@@ -25,8 +23,7 @@ fn tell_last<O: Sink>(outcome: Outcome, text: &[u8], out: &mut O) -> Outcome
 
 /// Tells that memory runs out.
 pub fn tell_memory<O: Sink>(out: &mut O) -> Outcome
-    ensures ends { IsTold Memory (message Memory)
-        (sink_use O.tells (O.taken out.old) (O.taken out.new) (HasRisen (O.faults out.old) (O.faults out.new))) result }
+    ensures ends { IsTold Memory (message Memory) (use_of_sink O.Sink out.old out.new) result }
     ensures later { O.faults out.old ≤ O.faults out.new }
 {
     tell_last(Outcome::Memory, b"aegis: out of memory\n", out)
@@ -34,8 +31,7 @@ pub fn tell_memory<O: Sink>(out: &mut O) -> Outcome
 
 /// Tells that the input can't be read.
 pub fn tell_input_fault<O: Sink>(out: &mut O) -> Outcome
-    ensures ends { IsTold SourceFault (message SourceFault)
-        (sink_use O.tells (O.taken out.old) (O.taken out.new) (HasRisen (O.faults out.old) (O.faults out.new))) result }
+    ensures ends { IsTold SourceFault (message SourceFault) (use_of_sink O.Sink out.old out.new) result }
     ensures later { O.faults out.old ≤ O.faults out.new }
 {
     tell_last(Outcome::SourceFault, b"aegis: input fault\n", out)
@@ -50,8 +46,7 @@ fn bad_line_message(alloc: Global, line: u32) -> Result<Vec<u8>, AllocError>
 
 /// Tells that the script's line of this number isn't understood, or that memory runs out for that.
 pub fn tell_bad_line<O: Sink>(alloc: Global, line: u32, out: &mut O) -> Outcome
-    ensures ends { IsToldOrMemory (BadScript line)
-        (sink_use O.tells (O.taken out.old) (O.taken out.new) (HasRisen (O.faults out.old) (O.faults out.new))) result }
+    ensures ends { IsToldOrMemory (BadScript line) (use_of_sink O.Sink out.old out.new) result }
     ensures later { O.faults out.old ≤ O.faults out.new }
 {
     match bad_line_message(alloc, line) {
@@ -69,8 +64,7 @@ fn bad_words_message(alloc: Global, place: u32) -> Result<Vec<u8>, AllocError>
 
 /// Tells that the word at this place isn't understood, or that memory runs out for that.
 pub fn tell_bad_words<E: Sink>(alloc: Global, place: u32, err: &mut E) -> Outcome
-    ensures ends { IsToldOrMemory (BadWords place)
-        (sink_use E.tells (E.taken err.old) (E.taken err.new) (HasRisen (E.faults err.old) (E.faults err.new))) result }
+    ensures ends { IsToldOrMemory (BadWords place) (use_of_sink E.Sink err.old err.new) result }
     ensures later { E.faults err.old ≤ E.faults err.new }
 {
     match bad_words_message(alloc, place) {

@@ -2,9 +2,8 @@
 ghost use Rattle.std.specs.Prelude.{◌≡◌, ◌≤◌, ◌⊎◌, ◌++◌, [], true, None, IfOk, IfSome};
 ghost use Rattle.ae_base.specs.Refusals.{message_of};
 ghost use Rattle.ae_base.specs.declared.outcome.Outcome.TheVariants.{Refused, Damaged, Memory};
-ghost use Rattle.ae_outside.specs.Causes.{HasRisen};
 ghost use Rattle.ae_telling.specs.Messages.{damaged_text, status_line, command_text};
-ghost use Rattle.ae_telling.specs.Telling.{sink_use, goes_on, unless_told, written, IsOfCommand, IsStopped, IsTold, TakesMemory};
+ghost use Rattle.ae_telling.specs.Telling.{use_of_sink, goes_on, unless_told, written, IsOfCommand, IsStopped, IsTold, TakesMemory};
 
 use crate::put::put_all;
 use ae_base::{Outcome, Refusal, Text};
@@ -54,7 +53,7 @@ impl Told {
         ensures goes { result ≡ None → goes_on self.outcome ≡ true }
         ensures whole { result ≡ None → O.tells → O.taken out.new ≡ O.taken out.old ++ written self }
         ensures ends { IfSome result (IsStopped self.outcome (written self)
-            (sink_use O.tells (O.taken out.old) (O.taken out.new) (HasRisen (O.faults out.old) (O.faults out.new)))) }
+            (use_of_sink O.Sink out.old out.new)) }
         ensures later { O.faults out.old ≤ O.faults out.new }
     {
         match put_all(out, self.bytes()) {
@@ -71,8 +70,7 @@ impl Told {
 
     /// Writes it, as of a single command, and answers how the call ends.
     pub fn tell_alone<E: Sink>(self, err: &mut E) -> Outcome
-        ensures ends { IsTold self.outcome (written self) (sink_use E.tells (E.taken err.old) (E.taken err.new)
-            (HasRisen (E.faults err.old) (E.faults err.new))) result }
+        ensures ends { IsTold self.outcome (written self) (use_of_sink E.Sink err.old err.new) result }
         ensures later { E.faults err.old ≤ E.faults err.new }
     {
         match put_all(err, self.bytes()) {

@@ -1,6 +1,7 @@
 pub mod Batch
 pub mod Body
 pub mod Commit
+pub mod Disk
 pub mod Errors
 pub mod Kept
 pub mod Packing

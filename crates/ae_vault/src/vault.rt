@@ -4,9 +4,10 @@ ghost use Rattle.ae_outside.specs.DiskNames.{IsDiskName};
 ghost use Rattle.ae_outside.specs.Image.{Image, SameElsewhere};
 ghost use Rattle.ae_outside.specs.Causes.{HasCause};
 ghost use Rattle.ae_outside.specs.State.{reads, MayLeave, Continues, GoesOn, IsStable};
+ghost use Rattle.ae_vault.specs.Disk.{IsCleanDisk};
 ghost use Rattle.ae_vault.specs.Vault.{gate, body, is_open, all_entry_names};
 ghost use Rattle.ae_vault.specs.Pieces.{BatchAt, IsBeforeBatch, IsAfterBatch};
-ghost use Rattle.ae_vault.specs.Commit.{SameOutside, HasEntries, IsClean, CommitAt, IsAfter, Throughout};
+ghost use Rattle.ae_vault.specs.Commit.{SameOutside, HasEntries, CommitAt, IsAfter, Throughout};
 
 use crate::entry::disk_name;
 use crate::packed::write_pieces;
@@ -92,10 +93,10 @@ pub fn put_entries<D: Disk>(disk: &mut D, entries: &[Entry]) -> Result<(), Faile
 
 // Puts all entries or none.
 fn put_batch<D: Disk>(disk: &mut D, batch: &Batch) -> Result<(), Failed>
-    requires { D.tells → IsClean (D.state disk.old) }
+    requires { IsCleanDisk D.Disk disk.old }
     ensures time { D.tells → Continues (D.state disk.old) (D.state disk.new) }
     ensures any_moment { D.tells → Throughout (CommitAt batch.now.entries (D.state disk.old)) (D.state disk.old).moment (D.state disk.new) }
-    ensures clean { OnOk result (D.tells → IsClean (D.state disk.new)) }
+    ensures clean { OnOk result (IsCleanDisk D.Disk disk.new) }
     ensures all { OnOk result (D.tells → (f : Image) → MayLeave (D.state disk.new) f → (from : Image) × MayLeave (D.state disk.old) from × IsAfter batch.now.entries from f) }
     ensures read { OnOk result (D.tells → IsAfter batch.now.entries (reads (D.state disk.old)) (reads (D.state disk.new))) }
     ensures cause { HasCause (D.faults disk.old) (D.faults disk.new) result }
@@ -113,14 +114,14 @@ impl Vault {
     /// Puts all entries and pieces, or no entry and perhaps a part of the pieces. It takes no memory. After `Failed` the
     /// disk is opened again before any other call of the vault.
     pub fn commit<D: Disk>(disk: &mut D, batch: Batch) -> Result<(), Failed>
-        requires { D.tells → IsClean (D.state disk.old) }
+        requires { IsCleanDisk D.Disk disk.old }
         ensures time { D.tells → Continues (D.state disk.old) (D.state disk.new) }
         // At each moment a stop leaves the files as they were but for the pieces, or with all entries and all pieces.
         ensures any_moment { D.tells → Throughout (BatchAt batch (D.state disk.old)) (D.state disk.old).moment (D.state disk.new) }
         // However it ends, one of the two is read;
         ensures one_of_two { D.tells → IsBeforeBatch batch (reads (D.state disk.old)) (reads (D.state disk.new)) ⊎ IsAfterBatch batch (reads (D.state disk.old)) (reads (D.state disk.new)) }
         // And after Ok all is there, whatever stops then.
-        ensures clean { OnOk result (D.tells → IsClean (D.state disk.new)) }
+        ensures clean { OnOk result (IsCleanDisk D.Disk disk.new) }
         ensures all { OnOk result (D.tells → (f : Image) → MayLeave (D.state disk.new) f → (from : Image) × MayLeave (D.state disk.old) from × IsAfterBatch batch from f) }
         ensures read { OnOk result (D.tells → IsAfterBatch batch (reads (D.state disk.old)) (reads (D.state disk.new))) }
         ensures nothing { batch.entries ≡ [] → batch.pieces ≡ [] → disk.new ≡ disk.old }

@@ -14,8 +14,8 @@ do_command-requires g c =
 
 pub returns-in-Run : goal.returns-in-Run
 returns-in-Run g c =
-    let d : Disks = disks g.D.Disk.tells g.D.Disk.state g.D.Disk.faults in
-    let s : Sites = sites g.S.Site.tells g.S.Site.state g.S.Site.faults in
+    let d : Disks = disks g.D.Disk in
+    let s : Sites = sites g.S.Site in
     record {
       done = line_done d s c.args.manner (stand d s c.args.who.now c.args.now c.args.disk.now c.args.site.now)
           (did d s (line_of c.args.act.now) c.do_command.result.outcome (told_by c.args.manner c.do_command.result) (stand d s c.args.who.now c.args.now c.do_command.new.disk c.do_command.new.site)) _ (ap line_of c.in-Run.is)
@@ -24,8 +24,8 @@ returns-in-Run g c =
 
 pub returns-in-Put : goal.returns-in-Put
 returns-in-Put g c =
-    let d : Disks = disks g.D.Disk.tells g.D.Disk.state g.D.Disk.faults in
-    let s : Sites = sites g.S.Site.tells g.S.Site.state g.S.Site.faults in
+    let d : Disks = disks g.D.Disk in
+    let s : Sites = sites g.S.Site in
     record {
       done = line_done d s c.args.manner (stand d s c.args.who.now c.args.now c.args.disk.now c.args.site.now)
           (did d s (line_of c.args.act.now) c.put.result.outcome (told_by c.args.manner c.put.result) (stand d s c.args.who.now c.args.now c.args.disk.now c.put.new.site)) _ (ap line_of c.in-Put.is)

@@ -10,8 +10,8 @@ do_act-told-requires g c = record { may = may_one c.args.acts.now c.loop-act.act
 
 pub loop-act-init : goal.loop-act-init
 loop-act-init g c =
-    let d : Disks = disks g.D.Disk.tells g.D.Disk.state g.D.Disk.faults in
-    let s : Sites = sites g.S.Site.tells g.S.Site.state g.S.Site.faults in
+    let d : Disks = disks g.D.Disk in
+    let s : Sites = sites g.S.Site in
     record {
       so_far = none_yet d s c.args.manner c.args.acts.now (stand d s c.args.standing.who c.args.standing.now c.args.disk.now c.args.site.now) g.O.Sink.tells (g.O.Sink.taken c.args.out.now);
       out_faults = omega arith;
@@ -19,8 +19,8 @@ loop-act-init g c =
 
 pub returns-in-Some-clause-done : goal.returns-in-Some-clause-done
 returns-in-Some-clause-done g c =
-    let d : Disks = disks g.D.Disk.tells g.D.Disk.state g.D.Disk.faults in
-    let s : Sites = sites g.S.Site.tells g.S.Site.state g.S.Site.faults in
+    let d : Disks = disks g.D.Disk in
+    let s : Sites = sites g.S.Site in
     one_ends d s c.args.manner c.args.acts.now c.loop-act.act-index (stand d s c.args.standing.who c.args.standing.now c.args.disk.now c.args.site.now) (stand d s c.args.standing.who c.args.standing.now c.loop-act.disk c.loop-act.site)
     g.O.Sink.tells (g.O.Sink.taken c.args.out.now) (g.O.Sink.taken c.loop-act.out) c.loop-act.invariant.so_far c.act-item.result (omega (arith, c.loop-act-test.true)) c.act-item.is _ refl c.do_act-told.ensures.done
     _ _ _ _ (risen_later _ _ _ c.loop-act.invariant.out_faults) c.in-Some.ensures.ends
@@ -30,8 +30,8 @@ returns-in-Some-clause-out_faults g c = omega (arith, c.loop-act.invariant.out_f
 
 pub loop-act-preserved : goal.loop-act-preserved
 loop-act-preserved g c =
-    let d : Disks = disks g.D.Disk.tells g.D.Disk.state g.D.Disk.faults in
-    let s : Sites = sites g.S.Site.tells g.S.Site.state g.S.Site.faults in
+    let d : Disks = disks g.D.Disk in
+    let s : Sites = sites g.S.Site in
     record {
       so_far = one_more d s c.args.manner c.args.acts.now c.loop-act.act-index (stand d s c.args.standing.who c.args.standing.now c.args.disk.now c.args.site.now) (stand d s c.args.standing.who c.args.standing.now c.loop-act.disk c.loop-act.site)
           g.O.Sink.tells (g.O.Sink.taken c.args.out.now) (g.O.Sink.taken c.loop-act.out) c.loop-act.invariant.so_far c.act-item.result (omega (arith, c.loop-act-test.true)) c.act-item.is _ refl c.do_act-told.ensures.done
@@ -41,8 +41,8 @@ loop-act-preserved g c =
 
 pub returns-clause-done : goal.returns-clause-done
 returns-clause-done g c =
-    let d : Disks = disks g.D.Disk.tells g.D.Disk.state g.D.Disk.faults in
-    let s : Sites = sites g.S.Site.tells g.S.Site.state g.S.Site.faults in
+    let d : Disks = disks g.D.Disk in
+    let s : Sites = sites g.S.Site in
     all_done d s c.args.manner c.args.acts.now c.loop-act.act-index (stand d s c.args.standing.who c.args.standing.now c.args.disk.now c.args.site.now) (stand d s c.args.standing.who c.args.standing.now c.loop-act.disk c.loop-act.site)
     g.O.Sink.tells (g.O.Sink.taken c.args.out.now) (g.O.Sink.taken c.loop-act.out) _ c.loop-act.invariant.so_far (omega (arith, c.loop-act-test.false))
 

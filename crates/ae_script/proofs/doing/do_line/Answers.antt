@@ -14,8 +14,8 @@ do_command-requires g c =
 
 pub returns-in-Nothing : goal.returns-in-Nothing
 returns-in-Nothing g c =
-    let d : Disks = disks g.D.Disk.tells g.D.Disk.state g.D.Disk.faults in
-    let s : Sites = sites g.S.Site.tells g.S.Site.state g.S.Site.faults in
+    let d : Disks = disks g.D.Disk in
+    let s : Sites = sites g.S.Site in
     record {
       done = line_done d s c.args.manner (stand d s c.args.standing.now.who c.args.standing.now.now c.args.disk.now c.args.site.now)
           (did d s c.args.line c.bare.result.outcome (told_by c.args.manner c.bare.result) (stand d s c.args.standing.now.who c.args.standing.now.now c.args.disk.now c.args.site.now)) _ c.in-Nothing.is
@@ -24,8 +24,8 @@ returns-in-Nothing g c =
 
 pub returns-in-As : goal.returns-in-As
 returns-in-As g c =
-    let d : Disks = disks g.D.Disk.tells g.D.Disk.state g.D.Disk.faults in
-    let s : Sites = sites g.S.Site.tells g.S.Site.state g.S.Site.faults in
+    let d : Disks = disks g.D.Disk in
+    let s : Sites = sites g.S.Site in
     record {
       done = line_done d s c.args.manner (stand d s c.args.standing.now.who c.args.standing.now.now c.args.disk.now c.args.site.now)
           (did d s c.args.line c.bare-in-As.result.outcome (told_by c.args.manner c.bare-in-As.result) (stand d s c.in-As.user c.args.standing.now.now c.args.disk.now c.args.site.now)) _ c.in-As.is
@@ -34,8 +34,8 @@ returns-in-As g c =
 
 pub returns-in-At : goal.returns-in-At
 returns-in-At g c =
-    let d : Disks = disks g.D.Disk.tells g.D.Disk.state g.D.Disk.faults in
-    let s : Sites = sites g.S.Site.tells g.S.Site.state g.S.Site.faults in
+    let d : Disks = disks g.D.Disk in
+    let s : Sites = sites g.S.Site in
     record {
       done = line_done d s c.args.manner (stand d s c.args.standing.now.who c.args.standing.now.now c.args.disk.now c.args.site.now)
           (did d s c.args.line c.bare-in-At.result.outcome (told_by c.args.manner c.bare-in-At.result) (stand d s c.args.standing.now.who c.in-At.moment c.args.disk.now c.args.site.now)) _ c.in-At.is
@@ -44,8 +44,8 @@ returns-in-At g c =
 
 pub returns-in-Do : goal.returns-in-Do
 returns-in-Do g c =
-    let d : Disks = disks g.D.Disk.tells g.D.Disk.state g.D.Disk.faults in
-    let s : Sites = sites g.S.Site.tells g.S.Site.state g.S.Site.faults in
+    let d : Disks = disks g.D.Disk in
+    let s : Sites = sites g.S.Site in
     record {
       done = line_done d s c.args.manner (stand d s c.args.standing.now.who c.args.standing.now.now c.args.disk.now c.args.site.now)
           (did d s c.args.line c.do_command.result.outcome (told_by c.args.manner c.do_command.result) (stand d s c.args.standing.now.who c.args.standing.now.now c.do_command.new.disk c.do_command.new.site)) _ c.in-Do.is
@@ -54,8 +54,8 @@ returns-in-Do g c =
 
 pub returns-in-Put : goal.returns-in-Put
 returns-in-Put g c =
-    let d : Disks = disks g.D.Disk.tells g.D.Disk.state g.D.Disk.faults in
-    let s : Sites = sites g.S.Site.tells g.S.Site.state g.S.Site.faults in
+    let d : Disks = disks g.D.Disk in
+    let s : Sites = sites g.S.Site in
     record {
       done = line_done d s c.args.manner (stand d s c.args.standing.now.who c.args.standing.now.now c.args.disk.now c.args.site.now)
           (did d s c.args.line c.put.result.outcome (told_by c.args.manner c.put.result) (stand d s c.args.standing.now.who c.args.standing.now.now c.args.disk.now c.put.new.site)) _ c.in-Put.is
@@ -64,8 +64,8 @@ returns-in-Put g c =
 
 pub returns-in-Fill : goal.returns-in-Fill
 returns-in-Fill g c =
-    let d : Disks = disks g.D.Disk.tells g.D.Disk.state g.D.Disk.faults in
-    let s : Sites = sites g.S.Site.tells g.S.Site.state g.S.Site.faults in
+    let d : Disks = disks g.D.Disk in
+    let s : Sites = sites g.S.Site in
     record {
       done = line_done d s c.args.manner (stand d s c.args.standing.now.who c.args.standing.now.now c.args.disk.now c.args.site.now)
           (did d s c.args.line c.fill.result.outcome (told_by c.args.manner c.fill.result) (stand d s c.args.standing.now.who c.args.standing.now.now c.args.disk.now c.fill.new.site)) _ c.in-Fill.is
@@ -74,8 +74,8 @@ returns-in-Fill g c =
 
 pub returns-in-Remove : goal.returns-in-Remove
 returns-in-Remove g c =
-    let d : Disks = disks g.D.Disk.tells g.D.Disk.state g.D.Disk.faults in
-    let s : Sites = sites g.S.Site.tells g.S.Site.state g.S.Site.faults in
+    let d : Disks = disks g.D.Disk in
+    let s : Sites = sites g.S.Site in
     record {
       done = line_done d s c.args.manner (stand d s c.args.standing.now.who c.args.standing.now.now c.args.disk.now c.args.site.now)
           (did d s c.args.line c.remove.result.outcome (told_by c.args.manner c.remove.result) (stand d s c.args.standing.now.who c.args.standing.now.now c.args.disk.now c.remove.new.site)) _ c.in-Remove.is

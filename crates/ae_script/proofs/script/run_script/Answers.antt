@@ -8,8 +8,8 @@ use Rattle.ae_script.proofs.script.run_script.Goals as goal
 
 pub returns-in-Err-clause-done : goal.returns-in-Err-clause-done
 returns-in-Err-clause-done g c = λ may.
-    let d : Disks = disks g.D.Disk.tells g.D.Disk.state g.D.Disk.faults in
-    let s : Sites = sites g.S.Site.tells g.S.Site.state g.S.Site.faults in
+    let d : Disks = disks g.D.Disk in
+    let s : Sites = sites g.S.Site in
     memory_behind d s Script _ _ _ _ _ _ _ _ _ _
     (none_yet d s Script (stand d s c.args.who.now c.args.now c.args.disk.now c.args.site.now) (g.I.Source.left c.args.input.now) (g.I.Source.left c.args.input.now) 0 g.I.Source.tells g.O.Sink.tells (g.O.Sink.taken c.args.out.now) refl refl)
     _ _ _ _ _ (λ rose. rose) _ c.tell_memory.ensures.ends
@@ -32,8 +32,8 @@ returns-then-now-gt-LAST_MOMENT-clause-nobody g c = λ nobody. (refl, refl, refl
 
 pub returns-clause-done : goal.returns-clause-done
 returns-clause-done g c = λ may.
-    let d : Disks = disks g.D.Disk.tells g.D.Disk.state g.D.Disk.faults in
-    let s : Sites = sites g.S.Site.tells g.S.Site.state g.S.Site.faults in
+    let d : Disks = disks g.D.Disk in
+    let s : Sites = sites g.S.Site in
     done_by d s Script _ _ _ _ _ _ _ _ _ _ (user_is _ _ _ _ c.in-Ok-Some.ensures c.as_bytes.ensures.value c.in-Ok-Some.field-0-is) c.do_lines.ensures.done
 
 pub returns-clause-nobody : goal.returns-clause-nobody
