@@ -30,7 +30,8 @@ use Rattle.ae_machine.specs.Call.{Given, call_of, change_named, change_of, first
 use Rattle.ae_machine.specs.Called.{Called, files_dir, files_seen, given_at, given_before, new_runs, nothing_seen, rows_of, view}
 use Rattle.ae_machine.specs.Fits.{config_asked, config_row, makes_runs, paths_asked, runs_asked, tracked_in}
 use Rattle.ae_machine.specs.Freezing.{configured, content_is_good, files_are_as_asked, first_content_refused, first_difference, is_these, right_files}
-use Rattle.ae_machine.specs.Sight.{config_below, config_path, content_of, has_config, paths_read, read_at, row_at, with_bytes}
+use Rattle.ae_files.specs.InTree.{row_at}
+use Rattle.ae_machine.specs.Sight.{config_below, config_path, content_of, has_config, paths_read, read_at, with_bytes}
 use Rattle.ae_machine.specs.Space.{placing}
 use Rattle.ae_machine.specs.Verdict.{answer, asked_of_sight, events_of, refused_before, verdict}
 use Rattle.ae_machine.specs.Versions.{files_refused, first_differing, kept_files_refused, rows_compared}

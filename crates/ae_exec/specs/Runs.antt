@@ -27,6 +27,11 @@ pub record AreForRuns (given : Given) (changes : List DirChange) (tracked : Rows
   pub tracked_are : tracked ≡ tracked_in given (change_of given.call)
   pub jobs_are : AreJobs (command_for given (change_of given.call)) (runs_asked given.call (change_of given.call)) jobs
 
+-- that is so of a command, where its view shows versions of these bytes
+abbrev pub AreForRunsOf : Observation → Command → View → (bytes : ℕ → List ℕ) (who : List ℕ) (when : ℕ) → List DirChange → Rows → List Job → Type 0
+AreForRunsOf o command view bytes who when changes tracked jobs =
+    ShowsVersions (Some o) bytes command who view → AreForRuns (given_of placing o bytes command who when view) changes tracked jobs
+
 -- From the old directories these changes were made, and then these rows of runs.
 pub record HaveRun (dir : Dir) (changes : List DirChange) (paths : List (List ℕ)) (jobs : List Job) (rows : List RunRow) (old new : SiteState) : Type 0 where
   pub changed : SiteState

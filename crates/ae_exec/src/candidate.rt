@@ -1,12 +1,9 @@
 // The files of a candidate, with their bytes.
 ghost use Rattle.std.specs.Prelude.{◌≡◌, ◌≤◌, Some, IfOk, IfErr, OnOk};
-ghost use Rattle.ae_outside.specs.Causes.{HasRisen};
-ghost use Rattle.ae_outside.specs.Image.{IsSame};
-ghost use Rattle.ae_outside.specs.State.{reads, GoesOn};
+ghost use Rattle.ae_outside.specs.State.{reads};
 ghost use Rattle.ae_types.specs.Found.{change_at};
 ghost use Rattle.ae_types.specs.Trees.{candidate_of};
-ghost use Rattle.ae_vault.specs.Commit.{IsClean};
-ghost use Rattle.ae_vault.specs.Vault.{effective};
+ghost use Rattle.ae_vault.specs.Disk.{DiskFailed, IsCleanDisk, OnlyReads, files_of};
 ghost use Rattle.ae_exec.specs.Bytes.{rows_at};
 ghost use Rattle.ae_exec.specs.Endings.{StopsReading};
 ghost use Rattle.ae_exec.specs.Reading.{AreKept, versions_of};
@@ -41,12 +38,12 @@ pub(crate) fn candidate_files<D: Disk>(
     number: ChangeNo,
     change: &Change,
 ) -> Result<FileList, Stop>
-    requires clean { D.tells → IsClean (D.state disk.old) }
+    requires clean { IsCleanDisk D.Disk disk.old }
     requires named { change_at state.now number ≡ Some change.now }
-    ensures rows { IfOk result (λ rows. D.tells → rows ≡ rows_at (effective (reads (D.state disk.old))) (candidate_of state.now change.now)) }
-    ensures kept { OnOk result (D.tells → AreKept (effective (reads (D.state disk.old))) (versions_of (candidate_of state.now change.now))) }
-    ensures same { D.tells → GoesOn IsSame (D.state disk.old) (D.state disk.new) }
-    ensures stopped { IfErr result (λ stop. StopsReading D.tells (reads (D.state disk.old)) (versions_of (candidate_of state.now change.now)) (HasRisen (D.faults disk.old) (D.faults disk.new)) stop) }
+    ensures rows { IfOk result (λ rows. D.tells → rows ≡ rows_at (files_of D.Disk disk.old) (candidate_of state.now change.now)) }
+    ensures kept { OnOk result (D.tells → AreKept (files_of D.Disk disk.old) (versions_of (candidate_of state.now change.now))) }
+    ensures same { OnlyReads D.Disk disk.old disk.new }
+    ensures stopped { IfErr result (λ stop. StopsReading D.tells (reads (D.state disk.old)) (versions_of (candidate_of state.now change.now)) (DiskFailed D.Disk disk.old disk.new) stop) }
     ensures later { D.faults disk.old ≤ D.faults disk.new }
 {
     state.note_sound();

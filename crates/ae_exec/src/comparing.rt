@@ -1,15 +1,12 @@
 // The files of an integration are compared with the candidate's versions.
 ghost use Rattle.std.specs.Prelude.{◌≡◌, ◌≤◌, ℕ, true, List, Some, None, IfErr, OnOk};
-ghost use Rattle.ae_outside.specs.Causes.{HasRisen};
-ghost use Rattle.ae_outside.specs.Image.{IsSame};
-ghost use Rattle.ae_outside.specs.State.{reads, GoesOn};
-ghost use Rattle.ae_vault.specs.Commit.{IsClean};
-ghost use Rattle.ae_vault.specs.Vault.{effective};
+ghost use Rattle.ae_outside.specs.State.{reads};
+ghost use Rattle.ae_vault.specs.Disk.{DiskFailed, IsCleanDisk, OnlyReads, files_of};
 ghost use Rattle.ae_machine.specs.Fits.{makes_runs};
 ghost use Rattle.ae_machine.specs.Sight.{with_bytes};
 ghost use Rattle.ae_machine.specs.Versions.{first_differing};
-ghost use Rattle.ae_exec.specs.Endings.{EndsAs, outcome_of_stop};
-ghost use Rattle.ae_exec.specs.Reading.{AreKept, IsLostAmong, asked_of, compared_for, versions_of};
+ghost use Rattle.ae_exec.specs.Endings.{StopsComparing};
+ghost use Rattle.ae_exec.specs.Reading.{AreKept, compared_for, versions_of};
 ghost use Rattle.ae_exec.specs.Seen.{IsCompared};
 
 use crate::running::files_of_rows;
@@ -28,14 +25,13 @@ pub(crate) fn compare<D: Disk>(
     command: &Command,
     view: &View,
 ) -> Result<(), Stop>
-    requires clean { D.tells → IsClean (D.state disk.old) }
+    requires clean { IsCleanDisk D.Disk disk.old }
     requires runs { makes_runs command.now.function ≡ true }
     ensures some { OnOk result ((bytes : ℕ → List ℕ) × (first_differing view.now (with_bytes bytes (compared_for command.now state.now)) ≡ None)) }
-    ensures none { OnOk result (D.tells → IsCompared (effective (reads (D.state disk.old))) state.now command.now view.now None) }
-    ensures kept { OnOk result (D.tells → AreKept (effective (reads (D.state disk.old))) (versions_of (compared_for command.now state.now))) }
-    ensures same { D.tells → GoesOn IsSame (D.state disk.old) (D.state disk.new) }
-    ensures stopped { IfErr result (λ stop. EndsAs ⊥ ⊥ (λ refusal. D.tells → IsCompared (effective (reads (D.state disk.old))) state.now command.now view.now (Some refusal) × AreKept (effective (reads (D.state disk.old))) (asked_of command.now (Some state.now)))
-        (λ name. D.tells → IsLostAmong (reads (D.state disk.old)) (asked_of command.now (Some state.now)) name) (HasRisen (D.faults disk.old) (D.faults disk.new)) ⊥ (outcome_of_stop stop)) }
+    ensures none { OnOk result (D.tells → IsCompared (files_of D.Disk disk.old) state.now command.now view.now None) }
+    ensures kept { OnOk result (D.tells → AreKept (files_of D.Disk disk.old) (versions_of (compared_for command.now state.now))) }
+    ensures same { OnlyReads D.Disk disk.old disk.new }
+    ensures stopped { IfErr result (StopsComparing D.tells (reads (D.state disk.old)) state.now command.now view.now (DiskFailed D.Disk disk.old disk.new)) }
     ensures later { D.faults disk.old ≤ D.faults disk.new }
 {
     state.note_sound();

@@ -1,27 +1,26 @@
 // The directories are changed as a command asks, before anything is put on the disk.
 ghost use Rattle.std.specs.Prelude.{◌≡◌, ◌≤◌, ◌<◌, ◌+◌, ◌++◌, ◌∷◌, [], ℕ, List, Option, Some, map, true, false, IfSome, IfOk, IfErr, OnOk, option_copied};
 ghost use Rattle.std.specs.List.{cons_option};
-ghost use Rattle.ae_outside.specs.Causes.{HasRisen};
 ghost use Rattle.std.specs.Option.{option_map};
-ghost use Rattle.ae_outside.specs.Image.{Image, IsSame};
-ghost use Rattle.ae_outside.specs.State.{reads, GoesOn};
+ghost use Rattle.ae_outside.specs.Image.{Image};
+ghost use Rattle.ae_outside.specs.State.{reads};
 ghost use Rattle.ae_types.specs.Ordered.{Ascends, itself, put_by};
 ghost use Rattle.ae_types.specs.Trees.{TreeRow, baseline_of, last_delta, tree_of, tree_row};
 ghost use Rattle.ae_base.specs.Limits.{most_deltas};
 ghost use Rattle.ae_base.specs.Rows.{text_cmp};
-ghost use Rattle.ae_vault.specs.Commit.{IsClean};
-ghost use Rattle.ae_vault.specs.Vault.{effective};
+ghost use Rattle.ae_vault.specs.Disk.{DiskFailed, IsCleanDisk, OnlyReads, files_of};
 ghost use Rattle.ae_machine.specs.Call.{change_named};
 ghost use Rattle.ae_machine.specs.Called.{called};
 ghost use Rattle.ae_machine.specs.Directories.{in_order, removed};
 ghost use Rattle.ae_machine.specs.Fits.{makes_runs};
 ghost use Rattle.ae_machine.specs.Real.{IsLeft};
-ghost use Rattle.ae_machine.specs.Sight.{row_at};
+ghost use Rattle.ae_files.specs.InTree.{row_at};
 ghost use Rattle.ae_machine.specs.Legal.{is_one_command};
+ghost use Rattle.ae_exec.specs.Devices.{SiteFailed};
 ghost use Rattle.ae_exec.specs.Bytes.{HaveBytes, row_of_path, row_version, rows_at};
 ghost use Rattle.ae_exec.specs.Directories.{AreChanges, AreOfOneDelta, AreOwn, ChangesOneDelta, DeltaHasRoom, LeavesDirs, makes_files, removes_files, paths_put, puts_files, tree_put};
-ghost use Rattle.ae_exec.specs.Reading.{AreKept, IsInside, IsLostAmong, reads_of, versions_at, versions_of, versions_read};
-ghost use Rattle.ae_exec.specs.Endings.{EndsAs, StopsReading, outcome_of, outcome_of_stop};
+ghost use Rattle.ae_exec.specs.Reading.{AreKept, IsInside, reads_of, versions_at, versions_of, versions_read};
+ghost use Rattle.ae_exec.specs.Endings.{StopsReading, outcome_of, StopsChanging};
 
 use crate::candidate::candidate_files;
 use crate::running::put_file;
@@ -44,12 +43,12 @@ fn push_file<D: Disk>(
     row: &FileRow,
     delta: usize,
 ) -> Result<(), Stop>
-    requires clean { D.tells → IsClean (D.state disk.old) }
+    requires clean { IsCleanDisk D.Disk disk.old }
     requires inside { (file : TreeRow) → tree_row delta row.now ≡ Some file → IsInside file.version }
-    ensures pushed { OnOk result (D.tells → files.new ≡ files.old ++ rows_at (effective (reads (D.state disk.old))) (cons_option (tree_row delta row.now) [])) }
-    ensures kept { OnOk result (D.tells → AreKept (effective (reads (D.state disk.old))) (versions_of (cons_option (tree_row delta row.now) []))) }
-    ensures same { D.tells → GoesOn IsSame (D.state disk.old) (D.state disk.new) }
-    ensures stopped { IfErr result (λ stop. StopsReading D.tells (reads (D.state disk.old)) (versions_of (cons_option (tree_row delta row.now) [])) (HasRisen (D.faults disk.old) (D.faults disk.new)) stop) }
+    ensures pushed { OnOk result (D.tells → files.new ≡ files.old ++ rows_at (files_of D.Disk disk.old) (cons_option (tree_row delta row.now) [])) }
+    ensures kept { OnOk result (D.tells → AreKept (files_of D.Disk disk.old) (versions_of (cons_option (tree_row delta row.now) []))) }
+    ensures same { OnlyReads D.Disk disk.old disk.new }
+    ensures stopped { IfErr result (λ stop. StopsReading D.tells (reads (D.state disk.old)) (versions_of (cons_option (tree_row delta row.now) [])) (DiskFailed D.Disk disk.old disk.new) stop) }
     ensures later { D.faults disk.old ≤ D.faults disk.new }
 {
     let Some(entry) = entry_at(row.past.as_slice(), delta) else {
@@ -65,11 +64,11 @@ fn push_file<D: Disk>(
 
 // The baseline's files with their bytes.
 fn baseline_files<D: Disk>(alloc: Global, disk: &mut D, state: &State) -> Result<FileList, Stop>
-    requires clean { D.tells → IsClean (D.state disk.old) }
-    ensures rows { IfOk result (λ rows. D.tells → rows ≡ rows_at (effective (reads (D.state disk.old))) (baseline_of state.now)) }
-    ensures kept { OnOk result (D.tells → AreKept (effective (reads (D.state disk.old))) (versions_of (baseline_of state.now))) }
-    ensures same { D.tells → GoesOn IsSame (D.state disk.old) (D.state disk.new) }
-    ensures stopped { IfErr result (λ stop. StopsReading D.tells (reads (D.state disk.old)) (versions_of (baseline_of state.now)) (HasRisen (D.faults disk.old) (D.faults disk.new)) stop) }
+    requires clean { IsCleanDisk D.Disk disk.old }
+    ensures rows { IfOk result (λ rows. D.tells → rows ≡ rows_at (files_of D.Disk disk.old) (baseline_of state.now)) }
+    ensures kept { OnOk result (D.tells → AreKept (files_of D.Disk disk.old) (versions_of (baseline_of state.now))) }
+    ensures same { OnlyReads D.Disk disk.old disk.new }
+    ensures stopped { IfErr result (λ stop. StopsReading D.tells (reads (D.state disk.old)) (versions_of (baseline_of state.now)) (DiskFailed D.Disk disk.old disk.new) stop) }
     ensures later { D.faults disk.old ≤ D.faults disk.new }
 {
     let delta = state.project().deltas.len();
@@ -103,13 +102,13 @@ fn begin_changes<D: Disk>(
     state: &State,
     command: &Command,
 ) -> Result<DirChangeList, Stop>
-    requires clean { D.tells → IsClean (D.state disk.old) }
+    requires clean { IsCleanDisk D.Disk disk.old }
     requires begin { command.now.function ≡ Function.DevelopBegin }
-    ensures changes { IfOk result (λ changes. D.tells → AreChanges (effective (reads (D.state disk.old))) state.now command.now changes) }
+    ensures changes { IfOk result (λ changes. D.tells → AreChanges (files_of D.Disk disk.old) state.now command.now changes) }
     ensures own { IfOk result (λ changes. AreOwn command.now changes) }
-    ensures kept { OnOk result (D.tells → AreKept (effective (reads (D.state disk.old))) (versions_read command.now state.now)) }
-    ensures same { D.tells → GoesOn IsSame (D.state disk.old) (D.state disk.new) }
-    ensures stopped { IfErr result (λ stop. StopsReading D.tells (reads (D.state disk.old)) (versions_read command.now state.now) (HasRisen (D.faults disk.old) (D.faults disk.new)) stop) }
+    ensures kept { OnOk result (D.tells → AreKept (files_of D.Disk disk.old) (versions_read command.now state.now)) }
+    ensures same { OnlyReads D.Disk disk.old disk.new }
+    ensures stopped { IfErr result (λ stop. StopsReading D.tells (reads (D.state disk.old)) (versions_read command.now state.now) (DiskFailed D.Disk disk.old disk.new) stop) }
     ensures later { D.faults disk.old ≤ D.faults disk.new }
 {
     let Some(change) = change_of(state, command) else {
@@ -226,11 +225,11 @@ fn push_file_at<D: Disk>(
     delta: usize,
     path: &Path,
 ) -> Result<(), Stop>
-    requires clean { D.tells → IsClean (D.state disk.old) }
-    ensures pushed { OnOk result (D.tells → files.new ≡ files.old ++ row_of_path (effective (reads (D.state disk.old))) (tree_of state.now delta) path.now ∷ []) }
-    ensures kept { OnOk result (D.tells → AreKept (effective (reads (D.state disk.old))) (versions_at (tree_of state.now delta) (path.now ∷ []))) }
-    ensures same { D.tells → GoesOn IsSame (D.state disk.old) (D.state disk.new) }
-    ensures stopped { IfErr result (λ stop. StopsReading D.tells (reads (D.state disk.old)) (versions_at (tree_of state.now delta) (path.now ∷ [])) (HasRisen (D.faults disk.old) (D.faults disk.new)) stop) }
+    requires clean { IsCleanDisk D.Disk disk.old }
+    ensures pushed { OnOk result (D.tells → files.new ≡ files.old ++ row_of_path (files_of D.Disk disk.old) (tree_of state.now delta) path.now ∷ []) }
+    ensures kept { OnOk result (D.tells → AreKept (files_of D.Disk disk.old) (versions_at (tree_of state.now delta) (path.now ∷ []))) }
+    ensures same { OnlyReads D.Disk disk.old disk.new }
+    ensures stopped { IfErr result (λ stop. StopsReading D.tells (reads (D.state disk.old)) (versions_at (tree_of state.now delta) (path.now ∷ [])) (DiskFailed D.Disk disk.old disk.new) stop) }
     ensures later { D.faults disk.old ≤ D.faults disk.new }
 {
     state.note_sound();
@@ -251,11 +250,11 @@ fn files_at<D: Disk>(
     delta: usize,
     paths: &PathList,
 ) -> Result<FileList, Stop>
-    requires clean { D.tells → IsClean (D.state disk.old) }
-    ensures rows { IfOk result (λ rows. D.tells → rows ≡ map (row_of_path (effective (reads (D.state disk.old))) (tree_of state.now delta)) paths.now) }
-    ensures kept { OnOk result (D.tells → AreKept (effective (reads (D.state disk.old))) (versions_at (tree_of state.now delta) paths.now)) }
-    ensures same { D.tells → GoesOn IsSame (D.state disk.old) (D.state disk.new) }
-    ensures stopped { IfErr result (λ stop. StopsReading D.tells (reads (D.state disk.old)) (versions_at (tree_of state.now delta) paths.now) (HasRisen (D.faults disk.old) (D.faults disk.new)) stop) }
+    requires clean { IsCleanDisk D.Disk disk.old }
+    ensures rows { IfOk result (λ rows. D.tells → rows ≡ map (row_of_path (files_of D.Disk disk.old) (tree_of state.now delta)) paths.now) }
+    ensures kept { OnOk result (D.tells → AreKept (files_of D.Disk disk.old) (versions_at (tree_of state.now delta) paths.now)) }
+    ensures same { OnlyReads D.Disk disk.old disk.new }
+    ensures stopped { IfErr result (λ stop. StopsReading D.tells (reads (D.state disk.old)) (versions_at (tree_of state.now delta) paths.now) (DiskFailed D.Disk disk.old disk.new) stop) }
     ensures later { D.faults disk.old ≤ D.faults disk.new }
 {
     let mut files = FileList::new(alloc);
@@ -283,13 +282,13 @@ fn put_changes<D: Disk>(
     state: &State,
     command: &Command,
 ) -> Result<DirChangeList, Stop>
-    requires clean { D.tells → IsClean (D.state disk.old) }
+    requires clean { IsCleanDisk D.Disk disk.old }
     requires puts { puts_files command.now.function ≡ true }
-    ensures changes { IfOk result (λ changes. D.tells → AreChanges (effective (reads (D.state disk.old))) state.now command.now changes) }
+    ensures changes { IfOk result (λ changes. D.tells → AreChanges (files_of D.Disk disk.old) state.now command.now changes) }
     ensures own { IfOk result (λ changes. AreOwn command.now changes) }
-    ensures kept { OnOk result (D.tells → AreKept (effective (reads (D.state disk.old))) (versions_read command.now state.now)) }
-    ensures same { D.tells → GoesOn IsSame (D.state disk.old) (D.state disk.new) }
-    ensures stopped { IfErr result (λ stop. StopsReading D.tells (reads (D.state disk.old)) (versions_read command.now state.now) (HasRisen (D.faults disk.old) (D.faults disk.new)) stop) }
+    ensures kept { OnOk result (D.tells → AreKept (files_of D.Disk disk.old) (versions_read command.now state.now)) }
+    ensures same { OnlyReads D.Disk disk.old disk.new }
+    ensures stopped { IfErr result (λ stop. StopsReading D.tells (reads (D.state disk.old)) (versions_read command.now state.now) (DiskFailed D.Disk disk.old disk.new) stop) }
     ensures later { D.faults disk.old ≤ D.faults disk.new }
 {
     let Some(change) = change_of(state, command) else {
@@ -316,15 +315,15 @@ fn integrate_changes<D: Disk>(
     state: &State,
     command: &Command,
 ) -> Result<DirChangeList, Stop>
-    requires clean { D.tells → IsClean (D.state disk.old) }
+    requires clean { IsCleanDisk D.Disk disk.old }
     requires begin { command.now.function ≡ Function.IntegrateBegin }
     requires room { last_delta state.now < most_deltas }
-    ensures changes { IfOk result (λ changes. D.tells → AreChanges (effective (reads (D.state disk.old))) state.now command.now changes) }
+    ensures changes { IfOk result (λ changes. D.tells → AreChanges (files_of D.Disk disk.old) state.now command.now changes) }
     ensures own { IfOk result (λ changes. AreOwn command.now changes) }
     ensures delta { IfOk result (λ changes. AreOfOneDelta command.now state.now changes) }
-    ensures kept { OnOk result (D.tells → AreKept (effective (reads (D.state disk.old))) (versions_read command.now state.now)) }
-    ensures same { D.tells → GoesOn IsSame (D.state disk.old) (D.state disk.new) }
-    ensures stopped { IfErr result (λ stop. StopsReading D.tells (reads (D.state disk.old)) (versions_read command.now state.now) (HasRisen (D.faults disk.old) (D.faults disk.new)) stop) }
+    ensures kept { OnOk result (D.tells → AreKept (files_of D.Disk disk.old) (versions_read command.now state.now)) }
+    ensures same { OnlyReads D.Disk disk.old disk.new }
+    ensures stopped { IfErr result (λ stop. StopsReading D.tells (reads (D.state disk.old)) (versions_read command.now state.now) (DiskFailed D.Disk disk.old disk.new) stop) }
     ensures later { D.faults disk.old ≤ D.faults disk.new }
 {
     let Some(change) = change_of(state, command) else {
@@ -342,16 +341,16 @@ fn dir_changes<D: Disk>(
     state: &State,
     command: &Command,
 ) -> Result<DirChangeList, Stop>
-    requires clean { D.tells → IsClean (D.state disk.old) }
+    requires clean { IsCleanDisk D.Disk disk.old }
     requires one { is_one_command command.now.function ≡ true }
     requires quiet { makes_runs command.now.function ≡ false }
     requires room { DeltaHasRoom command.now (Some state.now) }
-    ensures changes { IfOk result (λ changes. D.tells → AreChanges (effective (reads (D.state disk.old))) state.now command.now changes) }
+    ensures changes { IfOk result (λ changes. D.tells → AreChanges (files_of D.Disk disk.old) state.now command.now changes) }
     ensures own { IfOk result (λ changes. AreOwn command.now changes) }
     ensures delta { IfOk result (λ changes. AreOfOneDelta command.now state.now changes) }
-    ensures kept { OnOk result (D.tells → AreKept (effective (reads (D.state disk.old))) (versions_read command.now state.now)) }
-    ensures same { D.tells → GoesOn IsSame (D.state disk.old) (D.state disk.new) }
-    ensures stopped { IfErr result (λ stop. StopsReading D.tells (reads (D.state disk.old)) (versions_read command.now state.now) (HasRisen (D.faults disk.old) (D.faults disk.new)) stop) }
+    ensures kept { OnOk result (D.tells → AreKept (files_of D.Disk disk.old) (versions_read command.now state.now)) }
+    ensures same { OnlyReads D.Disk disk.old disk.new }
+    ensures stopped { IfErr result (λ stop. StopsReading D.tells (reads (D.state disk.old)) (versions_read command.now state.now) (DiskFailed D.Disk disk.old disk.new) stop) }
     ensures later { D.faults disk.old ≤ D.faults disk.new }
 {
     match command.function {
@@ -376,16 +375,17 @@ pub(crate) fn change_directories<D: Disk, S: Site>(
     site: &mut S,
     command: &Command,
 ) -> Result<(), Stop>
-    requires clean { D.tells → IsClean (D.state disk.old) }
+    requires clean { IsCleanDisk D.Disk disk.old }
     requires one { is_one_command command.now.function ≡ true }
     requires quiet { makes_runs command.now.function ≡ false }
     requires room { DeltaHasRoom command.now (option_copied old) }
-    ensures left { OnOk result (D.tells → S.tells → (bytes : ℕ → List ℕ) (who : List ℕ) (when : ℕ) → HaveBytes (effective (reads (D.state disk.old))) (option_copied old.entry) bytes → IsLeft (option_copied old.entry) bytes (called command.now who when (S.state site.old) (S.state site.new))) }
+    ensures left { OnOk result (D.tells → S.tells → (bytes : ℕ → List ℕ) (who : List ℕ) (when : ℕ) → HaveBytes (files_of D.Disk disk.old) (option_copied old.entry) bytes → IsLeft (option_copied old.entry) bytes (called command.now who when (S.state site.old) (S.state site.new))) }
     ensures directories { S.tells → LeavesDirs command.now (S.state site.old) (S.state site.new) (outcome_of result) }
     ensures delta { S.tells → IfSome (option_copied old.entry) (λ o. ChangesOneDelta command.now o (S.state site.old) (S.state site.new)) }
-    ensures kept { OnOk result (D.tells → AreKept (effective (reads (D.state disk.old))) (reads_of command.now (option_copied old.entry))) }
-    ensures same { D.tells → GoesOn IsSame (D.state disk.old) (D.state disk.new) }
-    ensures stopped { IfErr result (λ stop. EndsAs ⊥ ⊥ (λ refusal. ⊥) (λ name. D.tells → IsLostAmong (reads (D.state disk.old)) (reads_of command.now (option_copied old.entry)) name) (HasRisen (D.faults disk.old) (D.faults disk.new)) (HasRisen (S.faults site.old) (S.faults site.new) × (D.tells → AreKept (effective (reads (D.state disk.old))) (reads_of command.now (option_copied old.entry)))) (outcome_of_stop stop)) }
+    ensures kept { OnOk result (D.tells → AreKept (files_of D.Disk disk.old) (reads_of command.now (option_copied old.entry))) }
+    ensures same { OnlyReads D.Disk disk.old disk.new }
+    ensures stopped { IfErr result (StopsChanging D.tells (reads (D.state disk.old)) (option_copied old.entry) command.now
+        (DiskFailed D.Disk disk.old disk.new) (SiteFailed S.Site site.old site.new)) }
     ensures disk_later { D.faults disk.old ≤ D.faults disk.new }
     ensures site_later { S.faults site.old ≤ S.faults site.new }
 {

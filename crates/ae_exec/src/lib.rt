@@ -13,6 +13,7 @@ mod pieces;
 mod plan;
 mod project;
 mod reply;
+mod request;
 mod running;
 mod runs;
 mod runs_plan;

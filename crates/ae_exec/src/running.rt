@@ -1,12 +1,10 @@
 // The runs of a build or a test: the directories are made ready for them, and they are made.
 ghost use Rattle.std.specs.Prelude.{◌≡◌, ◌≤◌, ◌++◌, ◌∷◌, [], ℕ, List, Some, All, map, true, Ok, IfOk, IfErr, IsErrOf, OnOk};
 ghost use Rattle.ae_base.specs.Rows.{paths_of, Ascends};
-ghost use Rattle.ae_outside.specs.Causes.{Counted, HasRisen};
-ghost use Rattle.ae_outside.specs.Image.{IsSame};
-ghost use Rattle.ae_outside.specs.State.{reads, GoesOn};
+ghost use Rattle.ae_outside.specs.Causes.{Counted};
+ghost use Rattle.ae_outside.specs.State.{reads};
 ghost use Rattle.ae_types.specs.Trees.{TreeRow, tree_path};
-ghost use Rattle.ae_vault.specs.Commit.{IsClean};
-ghost use Rattle.ae_vault.specs.Vault.{effective};
+ghost use Rattle.ae_vault.specs.Disk.{DiskFailed, IsCleanDisk, OnlyReads, files_of};
 ghost use Rattle.ae_dirs.specs.declared.error.DirsError.{DirsError};
 ghost use Rattle.ae_dirs.specs.Runs.{IsGroup, MakesByteRuns};
 ghost use Rattle.ae_dirs.specs.Reads.{tracked_in};
@@ -23,7 +21,7 @@ ghost use Rattle.ae_exec.specs.Bytes.{AreThere, HaveBytes, rows_at};
 ghost use Rattle.ae_exec.specs.Directories.{AreOwn};
 ghost use Rattle.ae_exec.specs.Endings.{StopsReading};
 ghost use Rattle.ae_exec.specs.Reading.{AreKept, IsInside, based_for, refreshed_for, versions_for_runs, versions_of};
-ghost use Rattle.ae_exec.specs.Runs.{AreForRuns, HaveRun, IsConfigured};
+ghost use Rattle.ae_exec.specs.Runs.{AreForRunsOf, HaveRun, IsConfigured};
 
 use crate::stop::Stop;
 use crate::version::read_version;
@@ -65,14 +63,14 @@ fn push_row<D: Disk>(
     files: &mut FileList,
     row: &TreeRow,
 ) -> Result<(), Stop>
-    requires clean { D.tells → IsClean (D.state disk.old) }
+    requires clean { IsCleanDisk D.Disk disk.old }
     requires inside { IsInside row.now.version }
-    ensures pushed { OnOk result (D.tells → files.new ≡ files.old ++ rows_at (effective (reads (D.state disk.old))) (row.now ∷ [])) }
+    ensures pushed { OnOk result (D.tells → files.new ≡ files.old ++ rows_at (files_of D.Disk disk.old) (row.now ∷ [])) }
     ensures path { OnOk result (paths_of files.new ≡ paths_of files.old ++ row.now.path ∷ []) }
     ensures there { OnOk result (AreThere files.old → AreThere files.new) }
-    ensures kept { OnOk result (D.tells → AreKept (effective (reads (D.state disk.old))) (versions_of (row.now ∷ []))) }
-    ensures same { D.tells → GoesOn IsSame (D.state disk.old) (D.state disk.new) }
-    ensures stopped { IfErr result (λ stop. StopsReading D.tells (reads (D.state disk.old)) (versions_of (row.now ∷ [])) (HasRisen (D.faults disk.old) (D.faults disk.new)) stop) }
+    ensures kept { OnOk result (D.tells → AreKept (files_of D.Disk disk.old) (versions_of (row.now ∷ []))) }
+    ensures same { OnlyReads D.Disk disk.old disk.new }
+    ensures stopped { IfErr result (λ stop. StopsReading D.tells (reads (D.state disk.old)) (versions_of (row.now ∷ [])) (DiskFailed D.Disk disk.old disk.new) stop) }
     ensures later { D.faults disk.old ≤ D.faults disk.new }
 {
     let bytes = read_version(alloc, disk, &row.version)?;
@@ -86,14 +84,14 @@ pub(crate) fn files_of_rows<D: Disk>(
     disk: &mut D,
     rows: &[TreeRow],
 ) -> Result<FileList, Stop>
-    requires clean { D.tells → IsClean (D.state disk.old) }
+    requires clean { IsCleanDisk D.Disk disk.old }
     requires inside { All (λ (row : TreeRow). IsInside row.version) rows.now }
-    ensures rows { IfOk result (λ files. D.tells → files ≡ rows_at (effective (reads (D.state disk.old))) rows.now) }
+    ensures rows { IfOk result (λ files. D.tells → files ≡ rows_at (files_of D.Disk disk.old) rows.now) }
     ensures paths { IfOk result (λ files. paths_of files ≡ map tree_path rows.now) }
     ensures there { IfOk result AreThere }
-    ensures kept { OnOk result (D.tells → AreKept (effective (reads (D.state disk.old))) (versions_of rows.now)) }
-    ensures same { D.tells → GoesOn IsSame (D.state disk.old) (D.state disk.new) }
-    ensures stopped { IfErr result (λ stop. StopsReading D.tells (reads (D.state disk.old)) (versions_of rows.now) (HasRisen (D.faults disk.old) (D.faults disk.new)) stop) }
+    ensures kept { OnOk result (D.tells → AreKept (files_of D.Disk disk.old) (versions_of rows.now)) }
+    ensures same { OnlyReads D.Disk disk.old disk.new }
+    ensures stopped { IfErr result (λ stop. StopsReading D.tells (reads (D.state disk.old)) (versions_of rows.now) (DiskFailed D.Disk disk.old disk.new) stop) }
     ensures later { D.faults disk.old ≤ D.faults disk.new }
 {
     let mut files = FileList::new(alloc);
@@ -153,7 +151,8 @@ fn run_plan(
     requires runs { makes_runs command.now.function ≡ true }
     requires accepted { IsConfigured state.now command.now view.now }
     requires paths { paths_of based ≡ map tree_path (based_for command.now state.now) }
-    ensures are { IfOk result (λ plan. (bytes : ℕ → List ℕ) (who : List ℕ) (when : ℕ) → refreshed ≡ with_bytes bytes (refreshed_for command.now state.now) → based ≡ with_bytes bytes (based_for command.now state.now) → ShowsVersions (Some state.now) bytes command.now who view.now → AreForRuns (given_of placing state.now bytes command.now who when view.now) plan.changes plan.tracked plan.jobs) }
+    ensures are { IfOk result (λ plan. (bytes : ℕ → List ℕ) (who : List ℕ) (when : ℕ) → refreshed ≡ with_bytes bytes (refreshed_for command.now state.now) →
+        based ≡ with_bytes bytes (based_for command.now state.now) → AreForRunsOf state.now command.now view.now bytes who when plan.changes plan.tracked plan.jobs) }
     ensures commands { IfOk result (λ plan. All (λ (job : Job). IsCommand job.command) plan.jobs) }
     ensures own { IfOk result (λ plan. AreOwn command.now plan.changes) }
     ensures ascends { IfOk result (λ plan. Ascends plan.tracked) }
@@ -175,11 +174,11 @@ fn refreshed_files<D: Disk>(
     disk: &mut D,
     command: &Command,
 ) -> Result<FileList, Stop>
-    requires clean { D.tells → IsClean (D.state disk.old) }
-    ensures rows { IfOk result (λ files. D.tells → files ≡ rows_at (effective (reads (D.state disk.old))) (refreshed_for command.now state.now)) }
-    ensures kept { OnOk result (D.tells → AreKept (effective (reads (D.state disk.old))) (versions_of (refreshed_for command.now state.now))) }
-    ensures same { D.tells → GoesOn IsSame (D.state disk.old) (D.state disk.new) }
-    ensures stopped { IfErr result (λ stop. StopsReading D.tells (reads (D.state disk.old)) (versions_of (refreshed_for command.now state.now)) (HasRisen (D.faults disk.old) (D.faults disk.new)) stop) }
+    requires clean { IsCleanDisk D.Disk disk.old }
+    ensures rows { IfOk result (λ files. D.tells → files ≡ rows_at (files_of D.Disk disk.old) (refreshed_for command.now state.now)) }
+    ensures kept { OnOk result (D.tells → AreKept (files_of D.Disk disk.old) (versions_of (refreshed_for command.now state.now))) }
+    ensures same { OnlyReads D.Disk disk.old disk.new }
+    ensures stopped { IfErr result (λ stop. StopsReading D.tells (reads (D.state disk.old)) (versions_of (refreshed_for command.now state.now)) (DiskFailed D.Disk disk.old disk.new) stop) }
     ensures later { D.faults disk.old ≤ D.faults disk.new }
 {
     state.note_sound();
@@ -194,12 +193,12 @@ fn based_files<D: Disk>(
     disk: &mut D,
     command: &Command,
 ) -> Result<FileList, Stop>
-    requires clean { D.tells → IsClean (D.state disk.old) }
-    ensures rows { IfOk result (λ files. D.tells → files ≡ rows_at (effective (reads (D.state disk.old))) (based_for command.now state.now)) }
+    requires clean { IsCleanDisk D.Disk disk.old }
+    ensures rows { IfOk result (λ files. D.tells → files ≡ rows_at (files_of D.Disk disk.old) (based_for command.now state.now)) }
     ensures paths { IfOk result (λ files. paths_of files ≡ map tree_path (based_for command.now state.now)) }
-    ensures kept { OnOk result (D.tells → AreKept (effective (reads (D.state disk.old))) (versions_of (based_for command.now state.now))) }
-    ensures same { D.tells → GoesOn IsSame (D.state disk.old) (D.state disk.new) }
-    ensures stopped { IfErr result (λ stop. StopsReading D.tells (reads (D.state disk.old)) (versions_of (based_for command.now state.now)) (HasRisen (D.faults disk.old) (D.faults disk.new)) stop) }
+    ensures kept { OnOk result (D.tells → AreKept (files_of D.Disk disk.old) (versions_of (based_for command.now state.now))) }
+    ensures same { OnlyReads D.Disk disk.old disk.new }
+    ensures stopped { IfErr result (λ stop. StopsReading D.tells (reads (D.state disk.old)) (versions_of (based_for command.now state.now)) (DiskFailed D.Disk disk.old disk.new) stop) }
     ensures later { D.faults disk.old ≤ D.faults disk.new }
 {
     state.note_sound();
@@ -216,16 +215,17 @@ pub(crate) fn ready<D: Disk>(
     command: &Command,
     view: &View,
 ) -> Result<RunPlan, Stop>
-    requires clean { D.tells → IsClean (D.state disk.old) }
+    requires clean { IsCleanDisk D.Disk disk.old }
     requires runs { makes_runs command.now.function ≡ true }
     requires accepted { IsConfigured state.now command.now view.now }
-    ensures are { IfOk result (λ plan. D.tells → (bytes : ℕ → List ℕ) (who : List ℕ) (when : ℕ) → HaveBytes (effective (reads (D.state disk.old))) (Some state.now) bytes → ShowsVersions (Some state.now) bytes command.now who view.now → AreForRuns (given_of placing state.now bytes command.now who when view.now) plan.changes plan.tracked plan.jobs) }
+    ensures are { IfOk result (λ plan. D.tells → (bytes : ℕ → List ℕ) (who : List ℕ) (when : ℕ) → HaveBytes (files_of D.Disk disk.old) (Some state.now) bytes →
+        AreForRunsOf state.now command.now view.now bytes who when plan.changes plan.tracked plan.jobs) }
     ensures commands { IfOk result (λ plan. All (λ (job : Job). IsCommand job.command) plan.jobs) }
     ensures own { IfOk result (λ plan. AreOwn command.now plan.changes) }
     ensures ascends { IfOk result (λ plan. Ascends plan.tracked) }
-    ensures kept { OnOk result (D.tells → AreKept (effective (reads (D.state disk.old))) (versions_for_runs command.now state.now)) }
-    ensures same { D.tells → GoesOn IsSame (D.state disk.old) (D.state disk.new) }
-    ensures stopped { IfErr result (λ stop. StopsReading D.tells (reads (D.state disk.old)) (versions_for_runs command.now state.now) (HasRisen (D.faults disk.old) (D.faults disk.new)) stop) }
+    ensures kept { OnOk result (D.tells → AreKept (files_of D.Disk disk.old) (versions_for_runs command.now state.now)) }
+    ensures same { OnlyReads D.Disk disk.old disk.new }
+    ensures stopped { IfErr result (λ stop. StopsReading D.tells (reads (D.state disk.old)) (versions_for_runs command.now state.now) (DiskFailed D.Disk disk.old disk.new) stop) }
     ensures later { D.faults disk.old ≤ D.faults disk.new }
 {
     let refreshed = refreshed_files(alloc, state, disk, command)?;

@@ -1,31 +1,26 @@
 // A build or a test is planned.
 ghost use Rattle.std.specs.Prelude.{◌≡◌, ◌≤◌, ℕ, List, true, Some, None, Option, IfOk, IfErr, option_copied};
-ghost use Rattle.ae_base.specs.Limits.{last_moment};
 ghost use Rattle.ae_base.specs.declared.outcome.Outcome.{Outcome};
-ghost use Rattle.ae_outside.specs.Causes.{HasRisen};
-ghost use Rattle.ae_outside.specs.Image.{IsSame};
-ghost use Rattle.ae_outside.specs.State.{reads, GoesOn};
-ghost use Rattle.ae_vault.specs.Commit.{IsClean};
-ghost use Rattle.ae_vault.specs.Vault.{effective};
-ghost use Rattle.ae_words.specs.Formed.{IsFormed};
-ghost use Rattle.ae_machine.specs.Called.{called};
+ghost use Rattle.ae_outside.specs.State.{reads};
+ghost use Rattle.ae_vault.specs.Disk.{DiskFailed, IsCleanDisk, OnlyReads, files_of};
 ghost use Rattle.ae_machine.specs.Fits.{makes_runs};
-ghost use Rattle.ae_machine.specs.Legal.{is_one_command};
 ghost use Rattle.ae_log.specs.declared.event.Event.{Event};
 ghost use Rattle.ae_machine.specs.declared.verdict.Verdict.TheVariants.{Accept};
 ghost use Rattle.ae_machine.specs.Space.{placing};
 ghost use Rattle.ae_machine.specs.Verdict.{refused_before, verdict};
 ghost use Rattle.ae_machine.specs.Versions.{ShowsVersions};
+ghost use Rattle.ae_exec.specs.Devices.{SiteFailed};
 ghost use Rattle.ae_exec.specs.Directories.{LeavesDirs};
 ghost use Rattle.ae_exec.specs.Endings.{StopsPlanning, outcome_of, outcome_of_stop};
+ghost use Rattle.ae_exec.specs.Requested.{called_by};
 ghost use Rattle.ae_exec.specs.Plan.{IsMade, IsPlanned};
 ghost use Rattle.ae_exec.specs.Seen.{IsDecidedSo};
 
 use crate::plan::{Plan, answer_on, prepare};
+use crate::request::Request;
 use crate::running::{make_runs, ready};
 use crate::seeing::see;
 use crate::stop::Stop;
-use ae_base::User;
 use ae_evidence::RunRowList;
 use ae_machine::{Verdict, View, runs_dir};
 use ae_outside::{Disk, Site};
@@ -39,27 +34,21 @@ pub(crate) fn plan_runs<D: Disk, S: Site>(
     old: Option<&State>,
     disk: &mut D,
     site: &mut S,
-    command: &Command,
-    who: &User,
-    now: u64,
-    status_line: bool,
+    request: &Request,
 ) -> Result<Plan, Stop>
-    requires clean { D.tells → IsClean (D.state disk.old) }
-    requires formed { IsFormed command.now }
-    requires one { is_one_command command.now.function ≡ true }
-    requires moment { now ≤ last_moment }
-    requires runs { makes_runs command.now.function ≡ true }
-    requires passed { refused_before (option_copied old) command.now who.now ≡ None }
-    ensures planned { IfOk result (λ plan. IsPlanned (D.tells × S.tells) (effective (reads (D.state disk.old))) (option_copied old.entry) (called command.now who.now now (S.state site.old) (S.state site.new)) status_line plan.batch plan.finished) }
-    ensures stopped { IfErr result (StopsPlanning D.tells S.tells (reads (D.state disk.old)) (option_copied old.entry) (called command.now who.now now (S.state site.old) (S.state site.new)) (HasRisen (D.faults disk.old) (D.faults disk.new)) (HasRisen (S.faults site.old) (S.faults site.new))) }
-    ensures directories { S.tells → LeavesDirs command.now (S.state site.old) (S.state site.new) (outcome_of result) }
+    requires clean { IsCleanDisk D.Disk disk.old }
+    requires runs { makes_runs request.now.command.now.function ≡ true }
+    requires passed { refused_before (option_copied old) request.now.command.now request.now.who.now ≡ None }
+    ensures planned { IfOk result (λ plan. IsPlanned (D.tells × S.tells) (files_of D.Disk disk.old) (option_copied old.entry) (called_by request.now (S.state site.old) (S.state site.new)) request.now.status_line plan.batch plan.finished) }
+    ensures stopped { IfErr result (StopsPlanning D.tells S.tells (reads (D.state disk.old)) (option_copied old.entry) (called_by request.now (S.state site.old) (S.state site.new)) (DiskFailed D.Disk disk.old disk.new) (SiteFailed S.Site site.old site.new)) }
+    ensures directories { S.tells → LeavesDirs request.now.command.now (S.state site.old) (S.state site.new) (outcome_of result) }
     ensures early { S.tells → IfErr result (λ stop. outcome_of_stop stop ≡ Outcome.DiskFault → S.state site.new ≡ S.state site.old) }
-    ensures same { D.tells → GoesOn IsSame (D.state disk.old) (D.state disk.new) }
+    ensures same { OnlyReads D.Disk disk.old disk.new }
     ensures disk_later { D.faults disk.old ≤ D.faults disk.new }
     ensures site_later { S.faults site.old ≤ S.faults site.new }
 {
     let Some(state) = old else { unreachable!() };
-    plan_runs_on(alloc, state, disk, site, command, who, now, status_line)
+    plan_runs_on(alloc, state, disk, site, request)
 }
 
 // The view with these runs.
@@ -77,22 +66,22 @@ fn with_runs(view: View, runs: RunRowList) -> View
 fn plan_accepted(
     alloc: Global,
     state: &State,
-    command: &Command,
-    who: &User,
-    now: u64,
-    status_line: bool,
+    request: &Request,
     view: &View,
 ) -> Result<Plan, AllocError>
-    requires formed { IsFormed command.now }
-    requires one { is_one_command command.now.function ≡ true }
-    requires moment { now ≤ last_moment }
-    requires runs { makes_runs command.now.function ≡ true }
-    requires passed { refused_before (Some state.now) command.now who.now ≡ None }
-    requires accepted { (bytes : ℕ → List ℕ) × ShowsVersions (Some state.now) bytes command.now who.now view.now × (events : List Event) × (verdict placing (Some state.now) bytes command.now who.now now view.now ≡ Accept events) }
-    ensures { IfOk result (λ plan. (events : List Event) × IsDecidedSo (Some state.now) command.now who.now now view.now (Accept events) × IsMade (Some state.now) command.now status_line events plan.batch plan.finished) }
+    requires runs { makes_runs request.now.command.now.function ≡ true }
+    requires passed { refused_before (Some state.now) request.now.command.now request.now.who.now ≡ None }
+    requires accepted { (bytes : ℕ → List ℕ) × ShowsVersions (Some state.now) bytes request.now.command.now request.now.who.now view.now × (events : List Event) × (verdict placing (Some state.now) bytes request.now.command.now request.now.who.now request.now.when view.now ≡ Accept events) }
+    ensures { IfOk result (λ plan. (events : List Event) × IsDecidedSo (Some state.now) request.now.command.now request.now.who.now request.now.when view.now (Accept events) × IsMade (Some state.now) request.now.command.now request.now.status_line events plan.batch plan.finished) }
 {
-    match answer_on(alloc, state, command, who, now, view)? {
-        Verdict::Accept(events) => prepare(alloc, Some(state), command, events, status_line),
+    match answer_on(alloc, state, request, view)? {
+        Verdict::Accept(events) => prepare(
+            alloc,
+            Some(state),
+            request.command,
+            events,
+            request.status_line,
+        ),
         Verdict::Refuse(_) => unreachable!(),
     }
 }
@@ -103,36 +92,30 @@ fn plan_runs_on<D: Disk, S: Site>(
     state: &State,
     disk: &mut D,
     site: &mut S,
-    command: &Command,
-    who: &User,
-    now: u64,
-    status_line: bool,
+    request: &Request,
 ) -> Result<Plan, Stop>
-    requires clean { D.tells → IsClean (D.state disk.old) }
-    requires formed { IsFormed command.now }
-    requires one { is_one_command command.now.function ≡ true }
-    requires moment { now ≤ last_moment }
-    requires runs { makes_runs command.now.function ≡ true }
-    requires passed { refused_before (Some state.now) command.now who.now ≡ None }
-    ensures planned { IfOk result (λ plan. IsPlanned (D.tells × S.tells) (effective (reads (D.state disk.old))) (Some state.now) (called command.now who.now now (S.state site.old) (S.state site.new)) status_line plan.batch plan.finished) }
-    ensures stopped { IfErr result (StopsPlanning D.tells S.tells (reads (D.state disk.old)) (Some state.now) (called command.now who.now now (S.state site.old) (S.state site.new)) (HasRisen (D.faults disk.old) (D.faults disk.new)) (HasRisen (S.faults site.old) (S.faults site.new))) }
-    ensures directories { S.tells → LeavesDirs command.now (S.state site.old) (S.state site.new) (outcome_of result) }
+    requires clean { IsCleanDisk D.Disk disk.old }
+    requires runs { makes_runs request.now.command.now.function ≡ true }
+    requires passed { refused_before (Some state.now) request.now.command.now request.now.who.now ≡ None }
+    ensures planned { IfOk result (λ plan. IsPlanned (D.tells × S.tells) (files_of D.Disk disk.old) (Some state.now) (called_by request.now (S.state site.old) (S.state site.new)) request.now.status_line plan.batch plan.finished) }
+    ensures stopped { IfErr result (StopsPlanning D.tells S.tells (reads (D.state disk.old)) (Some state.now) (called_by request.now (S.state site.old) (S.state site.new)) (DiskFailed D.Disk disk.old disk.new) (SiteFailed S.Site site.old site.new)) }
+    ensures directories { S.tells → LeavesDirs request.now.command.now (S.state site.old) (S.state site.new) (outcome_of result) }
     ensures early { S.tells → IfErr result (λ stop. outcome_of_stop stop ≡ Outcome.DiskFault → S.state site.new ≡ S.state site.old) }
-    ensures same { D.tells → GoesOn IsSame (D.state disk.old) (D.state disk.new) }
+    ensures same { OnlyReads D.Disk disk.old disk.new }
     ensures disk_later { D.faults disk.old ≤ D.faults disk.new }
     ensures site_later { S.faults site.old ≤ S.faults site.new }
 {
     state.note_sound();
-    let view = see(alloc, state, disk, site, command)?;
-    if let Verdict::Refuse(refusal) = answer_on(alloc, state, command, who, now, &view)? {
+    let view = see(alloc, state, disk, site, request.command)?;
+    if let Verdict::Refuse(refusal) = answer_on(alloc, state, request, &view)? {
         return Err(Stop::Refused(refusal));
     }
-    let plan = ready(alloc, state, disk, command, &view)?;
-    let made = make_runs(alloc, site, runs_dir(state, command), &plan);
+    let plan = ready(alloc, state, disk, request.command, &view)?;
+    let made = make_runs(alloc, site, runs_dir(state, request.command), &plan);
     drop(plan);
     let runs = made?;
     let view = with_runs(view, runs);
-    let planned = plan_accepted(alloc, state, command, who, now, status_line, &view);
+    let planned = plan_accepted(alloc, state, request, &view);
     drop(view);
     Ok(planned?)
 }

@@ -1,25 +1,23 @@
 // What a build or a test sees of the directories and of the versions before its runs.
 ghost use Rattle.std.specs.Prelude.{◌≡◌, ◌≤◌, ◌++◌, ◌⊎◌, ℕ, List, [], Some, None, map, true, All, IfOk, IfErr, IsErrOf, IsSome, OnOk, option_copied};
 ghost use Rattle.std.specs.List.{cons_option};
-ghost use Rattle.ae_outside.specs.Causes.{Counted, HasRisen};
-ghost use Rattle.ae_outside.specs.Image.{IsSame};
+ghost use Rattle.ae_outside.specs.Causes.{Counted};
 ghost use Rattle.ae_outside.specs.Site.{IsAtMost, SiteState};
-ghost use Rattle.ae_outside.specs.State.{reads, GoesOn};
+ghost use Rattle.ae_outside.specs.State.{reads};
 ghost use Rattle.ae_dirs.specs.Reads.{file_bytes};
 ghost use Rattle.ae_dirs.specs.declared.error.DirsError.{DirsError};
-ghost use Rattle.ae_vault.specs.Commit.{IsClean};
-ghost use Rattle.ae_vault.specs.Vault.{effective};
+ghost use Rattle.ae_vault.specs.Disk.{DiskFailed, IsCleanDisk, OnlyReads, files_of};
 ghost use Rattle.ae_machine.specs.Accepted.{RowsShort};
-ghost use Rattle.ae_machine.specs.Call.{call_of, change_named, given_of};
-ghost use Rattle.ae_machine.specs.Called.{called, files_seen, given_at, given_before};
+ghost use Rattle.ae_machine.specs.Call.{call_of, change_named};
+ghost use Rattle.ae_machine.specs.Called.{called, files_seen, given_at};
 ghost use Rattle.ae_machine.specs.Fits.{config_row, makes_runs, path_of_row, paths_asked, reads_files};
 ghost use Rattle.ae_machine.specs.Sight.{with_bytes};
-ghost use Rattle.ae_machine.specs.Space.{placing};
 ghost use Rattle.ae_machine.specs.Versions.{ShowsVersions, config_version, files_refused, first_differing};
+ghost use Rattle.ae_exec.specs.Devices.{SiteFailed};
 ghost use Rattle.ae_exec.specs.Bytes.{HaveBytes};
-ghost use Rattle.ae_exec.specs.Endings.{EndsAs, StopsReading, outcome_of_stop};
-ghost use Rattle.ae_exec.specs.Reading.{AreKept, IsLostAmong, asked_of, compared_for, config_for, versions_of};
-ghost use Rattle.ae_exec.specs.Seen.{FilesRefuse, IsCompared, files_alone, no_bytes, seen_alone};
+ghost use Rattle.ae_exec.specs.Endings.{EndsAs, StopsAsking, StopsReading, StopsSeeing, outcome_of_stop};
+ghost use Rattle.ae_exec.specs.Reading.{AreKept, asked_of, compared_for, config_for, versions_of};
+ghost use Rattle.ae_exec.specs.Seen.{IsCompared, files_alone, seen_alone};
 
 use crate::comparing::compare;
 use crate::sight::look;
@@ -64,7 +62,7 @@ fn see_files<S: Site>(
     ensures paths { IfOk result (λ view. map path_of_row view.develop ≡ paths_asked (call_of state.now command.now []) (change_named state.now command.now.change)) }
     ensures short { IfOk result RowsShort }
     ensures same { S.tells → S.state site.new ≡ S.state site.old }
-    ensures stopped { IfErr result (λ stop. EndsAs ⊥ ⊥ (λ refusal. ⊥) (λ name. ⊥) ⊥ (HasRisen (S.faults site.old) (S.faults site.new) × (IsSome command.now.attributes ⊎ (reads_files command.now.function ≡ true))) (outcome_of_stop stop)) }
+    ensures stopped { IfErr result (λ stop. EndsAs ⊥ ⊥ (λ refusal. ⊥) (λ name. ⊥) ⊥ (SiteFailed S.Site site.old site.new × (IsSome command.now.attributes ⊎ (reads_files command.now.function ≡ true))) (outcome_of_stop stop)) }
     ensures later { S.faults site.old ≤ S.faults site.new }
 {
     let view = look(alloc, site, command.attributes.as_ref())?;
@@ -86,7 +84,7 @@ pub(crate) fn see_quiet<S: Site>(
     ensures seen { IfOk result (λ view. S.tells → (who : List ℕ) (when : ℕ) (after : SiteState) → view ≡ seen_alone (option_copied old.entry) (called command.now who when (S.state site.old) after)) }
     ensures short { IfOk result RowsShort }
     ensures same { S.tells → S.state site.new ≡ S.state site.old }
-    ensures stopped { IfErr result (λ stop. EndsAs ⊥ ⊥ (λ refusal. ⊥) (λ name. ⊥) ⊥ (HasRisen (S.faults site.old) (S.faults site.new) × (IsSome command.now.attributes ⊎ (reads_files command.now.function ≡ true))) (outcome_of_stop stop)) }
+    ensures stopped { IfErr result (λ stop. EndsAs ⊥ ⊥ (λ refusal. ⊥) (λ name. ⊥) ⊥ (SiteFailed S.Site site.old site.new × (IsSome command.now.attributes ⊎ (reads_files command.now.function ≡ true))) (outcome_of_stop stop)) }
     ensures later { S.faults site.old ≤ S.faults site.new }
 {
     match old {
@@ -102,12 +100,12 @@ fn read_config<D: Disk>(
     disk: &mut D,
     command: &Command,
 ) -> Result<Option<(Path, Content)>, Stop>
-    requires clean { D.tells → IsClean (D.state disk.old) }
+    requires clean { IsCleanDisk D.Disk disk.old }
     ensures row { IfOk result (λ row. (bytes : List ℕ) × (cons_option row [] ≡ config_row (λ number. bytes) (config_for command.now state.now))) }
-    ensures told { IfOk result (λ row. D.tells → (bytes : ℕ → List ℕ) → HaveBytes (effective (reads (D.state disk.old))) (Some state.now) bytes → cons_option row [] ≡ config_row bytes (config_for command.now state.now)) }
-    ensures kept { OnOk result (D.tells → AreKept (effective (reads (D.state disk.old))) (versions_of (cons_option (config_for command.now state.now) []))) }
-    ensures same { D.tells → GoesOn IsSame (D.state disk.old) (D.state disk.new) }
-    ensures stopped { IfErr result (λ stop. StopsReading D.tells (reads (D.state disk.old)) (versions_of (cons_option (config_for command.now state.now) [])) (HasRisen (D.faults disk.old) (D.faults disk.new)) stop) }
+    ensures told { IfOk result (λ row. D.tells → (bytes : ℕ → List ℕ) → HaveBytes (files_of D.Disk disk.old) (Some state.now) bytes → cons_option row [] ≡ config_row bytes (config_for command.now state.now)) }
+    ensures kept { OnOk result (D.tells → AreKept (files_of D.Disk disk.old) (versions_of (cons_option (config_for command.now state.now) []))) }
+    ensures same { OnlyReads D.Disk disk.old disk.new }
+    ensures stopped { IfErr result (λ stop. StopsReading D.tells (reads (D.state disk.old)) (versions_of (cons_option (config_for command.now state.now) [])) (DiskFailed D.Disk disk.old disk.new) stop) }
     ensures later { D.faults disk.old ≤ D.faults disk.new }
 {
     state.note_sound();
@@ -137,16 +135,15 @@ fn asked_row<D: Disk>(
     command: &Command,
     view: &View,
 ) -> Result<Option<(Path, Content)>, Stop>
-    requires clean { D.tells → IsClean (D.state disk.old) }
+    requires clean { IsCleanDisk D.Disk disk.old }
     requires runs { makes_runs command.now.function ≡ true }
     ensures row { IfOk result (λ row. (bytes : List ℕ) × (cons_option row [] ≡ config_row (λ number. bytes) (config_for command.now state.now))) }
-    ensures told { IfOk result (λ row. D.tells → (bytes : ℕ → List ℕ) → HaveBytes (effective (reads (D.state disk.old))) (Some state.now) bytes → cons_option row [] ≡ config_row bytes (config_for command.now state.now)) }
+    ensures told { IfOk result (λ row. D.tells → (bytes : ℕ → List ℕ) → HaveBytes (files_of D.Disk disk.old) (Some state.now) bytes → cons_option row [] ≡ config_row bytes (config_for command.now state.now)) }
     ensures some { OnOk result ((bytes : ℕ → List ℕ) × (first_differing view.now (with_bytes bytes (compared_for command.now state.now)) ≡ None)) }
-    ensures none { OnOk result (D.tells → IsCompared (effective (reads (D.state disk.old))) state.now command.now view.now None) }
-    ensures kept { OnOk result (D.tells → AreKept (effective (reads (D.state disk.old))) (asked_of command.now (Some state.now))) }
-    ensures same { D.tells → GoesOn IsSame (D.state disk.old) (D.state disk.new) }
-    ensures stopped { (who : List ℕ) (when : ℕ) → let refused = files_refused (given_of placing state.now no_bytes command.now who when view.now) in
-        IfErr result (λ stop. EndsAs ⊥ ⊥ (λ refusal. D.tells → (refused ≡ Some refusal) ⊎ ((refused ≡ None) × IsCompared (effective (reads (D.state disk.old))) state.now command.now view.now (Some refusal) × AreKept (effective (reads (D.state disk.old))) (asked_of command.now (Some state.now)))) (λ name. D.tells → (refused ≡ None) × IsLostAmong (reads (D.state disk.old)) (asked_of command.now (Some state.now)) name) (HasRisen (D.faults disk.old) (D.faults disk.new)) ⊥ (outcome_of_stop stop)) }
+    ensures none { OnOk result (D.tells → IsCompared (files_of D.Disk disk.old) state.now command.now view.now None) }
+    ensures kept { OnOk result (D.tells → AreKept (files_of D.Disk disk.old) (asked_of command.now (Some state.now))) }
+    ensures same { OnlyReads D.Disk disk.old disk.new }
+    ensures stopped { StopsAsking D.tells (reads (D.state disk.old)) state.now command.now view.now (DiskFailed D.Disk disk.old disk.new) result }
     ensures later { D.faults disk.old ≤ D.faults disk.new }
 {
     if let Some(refusal) = files_refused(alloc, state, command, view)? {
@@ -166,17 +163,17 @@ pub(crate) fn see<D: Disk, S: Site>(
     site: &mut S,
     command: &Command,
 ) -> Result<View, Stop>
-    requires clean { D.tells → IsClean (D.state disk.old) }
+    requires clean { IsCleanDisk D.Disk disk.old }
     requires runs { makes_runs command.now.function ≡ true }
-    ensures seen { IfOk result (λ view. D.tells → S.tells → (bytes : ℕ → List ℕ) (who : List ℕ) (when : ℕ) → HaveBytes (effective (reads (D.state disk.old))) (Some state.now) bytes → view ≡ (given_at state.now bytes (called command.now who when (S.state site.old) (S.state site.old))).view) }
+    ensures seen { IfOk result (λ view. D.tells → S.tells → (bytes : ℕ → List ℕ) (who : List ℕ) (when : ℕ) → HaveBytes (files_of D.Disk disk.old) (Some state.now) bytes → view ≡ (given_at state.now bytes (called command.now who when (S.state site.old) (S.state site.old))).view) }
     ensures shown { IfOk result (λ view. (bytes : ℕ → List ℕ) × ((who : List ℕ) → ShowsVersions (Some state.now) bytes command.now who view)) }
-    ensures shows { IfOk result (λ view. D.tells → (bytes : ℕ → List ℕ) (who : List ℕ) → HaveBytes (effective (reads (D.state disk.old))) (Some state.now) bytes → ShowsVersions (Some state.now) bytes command.now who view) }
+    ensures shows { IfOk result (λ view. D.tells → (bytes : ℕ → List ℕ) (who : List ℕ) → HaveBytes (files_of D.Disk disk.old) (Some state.now) bytes → ShowsVersions (Some state.now) bytes command.now who view) }
     ensures files { IfOk result (λ view. S.tells → (rest : List (List ℕ × Content)) × (view.develop ≡ files_seen (call_of state.now command.now []) (change_named state.now command.now.change) (S.state site.old) ++ rest)) }
-    ensures kept { OnOk result (D.tells → AreKept (effective (reads (D.state disk.old))) (asked_of command.now (Some state.now))) }
-    ensures same { D.tells → GoesOn IsSame (D.state disk.old) (D.state disk.new) }
+    ensures kept { OnOk result (D.tells → AreKept (files_of D.Disk disk.old) (asked_of command.now (Some state.now))) }
+    ensures same { OnlyReads D.Disk disk.old disk.new }
     ensures site_same { S.tells → S.state site.new ≡ S.state site.old }
-    ensures stopped { (who : List ℕ) (when : ℕ) → let call = called command.now who when (S.state site.old) (S.state site.old) in let refused = files_refused (given_before state.now no_bytes call (files_alone state.now call)) in
-        IfErr result (λ stop. EndsAs ⊥ ⊥ (λ refusal. D.tells → S.tells → FilesRefuse (effective (reads (D.state disk.old))) state.now call refusal) (λ name. D.tells → S.tells → (refused ≡ None) × IsLostAmong (reads (D.state disk.old)) (asked_of command.now (Some state.now)) name) (HasRisen (D.faults disk.old) (D.faults disk.new)) (HasRisen (S.faults site.old) (S.faults site.new)) (outcome_of_stop stop)) }
+    ensures stopped { StopsSeeing D.tells S.tells (reads (D.state disk.old)) state.now command.now (S.state site.old)
+        (DiskFailed D.Disk disk.old disk.new) (SiteFailed S.Site site.old site.new) result }
     ensures disk_later { D.faults disk.old ≤ D.faults disk.new }
     ensures site_later { S.faults site.old ≤ S.faults site.new }
 {

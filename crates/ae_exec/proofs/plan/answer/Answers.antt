@@ -10,7 +10,7 @@ pub returns-in-Some-clause-follow : goal.returns-in-Some-clause-follow
 returns-in-Some-clause-follow c =
     let there : option_copied c.args.old ≡ Some c.in-Some.state.now = search rules in
     subst (λ (o : Option Observation). IfOk c.answer_on.result (λ answer. IfAccepted answer (MayFollow o))) (sym there)
-    (c.answer_on.ensures.follow no_bytes (quiet-shows (Some c.in-Some.state.now) no_bytes c.args.command.now c.args.who.now c.args.view.now c.requires.quiet))
+    (c.answer_on.ensures.follow no_bytes (quiet-shows (Some c.in-Some.state.now) no_bytes c.args.request.now.command.now c.args.request.now.who.now c.args.view.now c.requires.quiet))
 
 pub returns-in-Some-clause-put : goal.returns-in-Some-clause-put
-returns-in-Some-clause-put c = c.answer_on.ensures.put no_bytes (quiet-shows (Some c.in-Some.state.now) no_bytes c.args.command.now c.args.who.now c.args.view.now c.requires.quiet)
+returns-in-Some-clause-put c = c.answer_on.ensures.put no_bytes (quiet-shows (Some c.in-Some.state.now) no_bytes c.args.request.now.command.now c.args.request.now.who.now c.args.view.now c.requires.quiet)

@@ -38,32 +38,32 @@ use Rattle.ae_exec.proofs.runs_plan.plan_runs_on.Goals as goal
 pub returns-in_err-view-clause-stopped : goal.returns-in_err-view-clause-stopped
 returns-in_err-view-clause-stopped g c =
     let is : c.from_residual.result ≡ Err c.in_err-view.field-0.0 = err_is _ _ c.from_residual.ensures.1 in
-    let call : Called = called c.args.command.now c.args.who.now c.args.now (g.S.Site.state c.args.site.now) (g.S.Site.state c.see.new.site) in
-    rw is (ends_for _ (c.in_err-view.ensures.stopped c.args.who.now c.args.now) (λ none. none)
+    let call : Called = called c.args.request.now.command.now c.args.request.now.who.now c.args.request.now.when (g.S.Site.state c.args.site.now) (g.S.Site.state c.see.new.site) in
+    rw is (ends_for _ (c.in_err-view.ensures.stopped c.args.request.now.who.now c.args.request.now.when) (λ none. none)
     (λ refusal seen tells told. refused-so (effective (reads (g.D.Disk.state c.args.disk.now))) c.args.state.now call c.requires.runs c.requires.passed (c.see.ensures.site_same told) refusal
-    (subst (λ (after : SiteState). FilesRefuse (effective (reads (g.D.Disk.state c.args.disk.now))) c.args.state.now (called c.args.command.now c.args.who.now c.args.now (g.S.Site.state c.args.site.now) after) refusal) (sym (c.see.ensures.site_same told)) (seen tells told)))
+    (subst (λ (after : SiteState). FilesRefuse (effective (reads (g.D.Disk.state c.args.disk.now))) c.args.state.now (called c.args.request.now.command.now c.args.request.now.who.now c.args.request.now.when (g.S.Site.state c.args.site.now) after) refusal) (sym (c.see.ensures.site_same told)) (seen tells told)))
     (λ name lost tells told. let both = lost tells told in answering (record { before = c.requires.passed; files = both.0 }) both.1)
-    (λ rose. rose) (λ rose. (rose, λ tells told. reading c.requires.passed (inr (reads-too c.args.command.now.function c.requires.runs)))))
+    (λ rose. rose) (λ rose. (rose, λ tells told. reading c.requires.passed (inr (reads-too c.args.request.now.command.now.function c.requires.runs)))))
 
 pub returns-in_err-plan-clause-stopped : goal.returns-in_err-plan-clause-stopped
 returns-in_err-plan-clause-stopped g c =
     let is : c.from_residual-in_err-plan.result ≡ Err c.in_err-plan.field-0.0 = err_is _ _ c.from_residual-in_err-plan.ensures.1 in
-    let call : Called = called c.args.command.now c.args.who.now c.args.now (g.S.Site.state c.args.site.now) (g.S.Site.state c.see.new.site) in
+    let call : Called = called c.args.request.now.command.now c.args.request.now.who.now c.args.request.now.when (g.S.Site.state c.args.site.now) (g.S.Site.state c.see.new.site) in
     rw is (ends_for _ c.in_err-plan.ensures.stopped (λ none. none) (λ refusal none. absurd none)
     (λ name lost tells told.
     let same : effective (reads (g.D.Disk.state c.see.new.disk)) ≡ effective (reads (g.D.Disk.state c.args.disk.now)) = ap effective (same_reads (g.D.Disk.state c.args.disk.now) (g.D.Disk.state c.see.new.disk) (c.see.ensures.same tells)) in
     seen_specs.accepted c.in_default.field-0
     (unrun-answer (effective (reads (g.D.Disk.state c.args.disk.now))) c.args.state.now call c.in_ok-view.view (Accept c.in_default.field-0) (c.see.ensures.site_same told)
-    (λ bytes have. c.in_ok-view.ensures.seen tells told bytes c.args.who.now c.args.now have) (λ bytes have. c.in_ok-view.ensures.shows tells bytes c.args.who.now have)
-    (subst (IsDecidedSo (Some c.args.state.now) c.args.command.now c.args.who.now c.args.now c.in_ok-view.view) c.in_default.is c.in_ok-refusal.ensures.is))
-    (lost-later c.args.state.now c.args.command.now c.args.who.now c.requires.formed c.requires.runs c.requires.passed (reads (g.D.Disk.state c.args.disk.now)) (reads (g.D.Disk.state c.see.new.disk)) name same
+    (λ bytes have. c.in_ok-view.ensures.seen tells told bytes c.args.request.now.who.now c.args.request.now.when have) (λ bytes have. c.in_ok-view.ensures.shows tells bytes c.args.request.now.who.now have)
+    (subst (IsDecidedSo (Some c.args.state.now) c.args.request.now.command.now c.args.request.now.who.now c.args.request.now.when c.in_ok-view.view) c.in_default.is c.in_ok-refusal.ensures.is))
+    (lost-later c.args.state.now c.args.request.now.command.now c.args.request.now.who.now c.args.request.now.formed c.requires.runs c.requires.passed (reads (g.D.Disk.state c.args.disk.now)) (reads (g.D.Disk.state c.see.new.disk)) name same
     (c.in_ok-view.ensures.kept tells) (lost tells)))
     (λ rose. risen_later _ _ _ c.see.ensures.disk_later rose) (λ none. absurd none))
 
 pub returns-in_err-runs-clause-stopped : goal.returns-in_err-runs-clause-stopped
 returns-in_err-runs-clause-stopped g c =
     let is : c.from_residual-in_err-runs.result ≡ Err (stop_of_dirs c.in_err-runs.field-0.0) = err_is _ _ c.from_residual-in_err-runs.ensures.1 in
-    rw is (dirs_ends c.in_err-runs.field-0.0 (λ failed. (risen_later _ _ _ c.see.ensures.site_later (c.in_err-runs.ensures.cause.rose (ap Err failed)), λ tells told. reading c.requires.passed (inr (reads-too c.args.command.now.function c.requires.runs)))))
+    rw is (dirs_ends c.in_err-runs.field-0.0 (λ failed. (risen_later _ _ _ c.see.ensures.site_later (c.in_err-runs.ensures.cause.rose (ap Err failed)), λ tells told. reading c.requires.passed (inr (reads-too c.args.request.now.command.now.function c.requires.runs)))))
 
 pub returns-in_err-runs-clause-same : goal.returns-in_err-runs-clause-same
 returns-in_err-runs-clause-same g c = λ tells. same_on (g.D.Disk.state c.args.disk.now) (g.D.Disk.state c.see.new.disk) (g.D.Disk.state c.ready.new.disk) (c.see.ensures.same tells) (c.ready.ensures.same tells)
@@ -81,29 +81,29 @@ pub ready-requires-clause-accepted : goal.ready-requires-clause-accepted
 ready-requires-clause-accepted g c =
     let shown = c.in_ok-view.ensures.shown in (
       shown.0,
-      c.args.who.now,
-      c.args.now,
-      shown.1 c.args.who.now,
-      accepted-configured c.args.state.now shown.0 c.args.command.now c.args.who.now c.args.now c.in_ok-view.view c.in_default.field-0 c.requires.runs c.requires.passed
-          (c.in_ok-refusal.ensures.is shown.0 (shown.1 c.args.who.now) ∙ c.in_default.is),
+      c.args.request.now.who.now,
+      c.args.request.now.when,
+      shown.1 c.args.request.now.who.now,
+      accepted-configured c.args.state.now shown.0 c.args.request.now.command.now c.args.request.now.who.now c.args.request.now.when c.in_ok-view.view c.in_default.field-0 c.requires.runs c.requires.passed
+          (c.in_ok-refusal.ensures.is shown.0 (shown.1 c.args.request.now.who.now) ∙ c.in_default.is),
     )
 
 pub returns-clause-planned : goal.returns-clause-planned
 returns-clause-planned g c =
     let files : Option Image = effective (reads (g.D.Disk.state c.args.disk.now)) in
     let o = c.args.state.now in
-    let call : Called = called c.args.command.now c.args.who.now c.args.now (g.S.Site.state c.args.site.now) (g.S.Site.state c.make_runs-made.new.site) in
-    let kept : g.D.Disk.tells → AreKept files (versions_for_runs c.args.command.now c.args.state.now) = λ tells.
-    subst (λ (x : Option Image). AreKept x (versions_for_runs c.args.command.now c.args.state.now)) (ap effective (same_reads (g.D.Disk.state c.args.disk.now) (g.D.Disk.state c.see.new.disk) (c.see.ensures.same tells))) (c.in_ok-plan.ensures.kept tells) in
-    let decided : IsDecidedSo (Some o) c.args.command.now c.args.who.now c.args.now (record c.in_ok-view.view { runs = c.in_ok-runs.runs }) (Accept c.in_ok-planned.ensures.0) =
-    subst (λ (v : View). IsDecidedSo (Some o) c.args.command.now c.args.who.now c.args.now v (Accept c.in_ok-planned.ensures.0)) c.with_runs-view.ensures c.in_ok-planned.ensures.1 in
+    let call : Called = called c.args.request.now.command.now c.args.request.now.who.now c.args.request.now.when (g.S.Site.state c.args.site.now) (g.S.Site.state c.make_runs-made.new.site) in
+    let kept : g.D.Disk.tells → AreKept files (versions_for_runs c.args.request.now.command.now c.args.state.now) = λ tells.
+    subst (λ (x : Option Image). AreKept x (versions_for_runs c.args.request.now.command.now c.args.state.now)) (ap effective (same_reads (g.D.Disk.state c.args.disk.now) (g.D.Disk.state c.see.new.disk) (c.see.ensures.same tells))) (c.in_ok-plan.ensures.kept tells) in
+    let decided : IsDecidedSo (Some o) c.args.request.now.command.now c.args.request.now.who.now c.args.request.now.when (record c.in_ok-view.view { runs = c.in_ok-runs.runs }) (Accept c.in_ok-planned.ensures.0) =
+    subst (λ (v : View). IsDecidedSo (Some o) c.args.request.now.command.now c.args.request.now.who.now c.args.request.now.when v (Accept c.in_ok-planned.ensures.0)) c.with_runs-view.ensures c.in_ok-planned.ensures.1 in
     let ran : g.D.Disk.tells → g.S.Site.tells → (bytes : ℕ → List ℕ) → HaveBytes files (Some c.args.state.now) bytes → (answer_to (Some c.args.state.now) bytes call ≡ Accept c.in_ok-planned.ensures.0) × IsLeft (Some c.args.state.now) bytes call = λ tells told bytes have.
-    let shows : ShowsVersions (Some c.args.state.now) bytes c.args.command.now c.args.who.now c.in_ok-view.view = c.in_ok-view.ensures.shows tells bytes c.args.who.now have in
+    let shows : ShowsVersions (Some c.args.state.now) bytes c.args.request.now.command.now c.args.request.now.who.now c.in_ok-view.view = c.in_ok-view.ensures.shows tells bytes c.args.request.now.who.now have in
     let same : effective (reads (g.D.Disk.state c.see.new.disk)) ≡ files = ap effective (same_reads (g.D.Disk.state c.args.disk.now) (g.D.Disk.state c.see.new.disk) (c.see.ensures.same tells)) in
-    ran-both files c.args.state.now call c.note_sound.ensures.sound c.requires.runs c.requires.formed c.requires.passed (c.in_ok-view.ensures.kept tells) (kept tells) bytes have
-    c.in_ok-view.view (c.in_ok-view.ensures.seen tells told bytes c.args.who.now c.args.now have) c.runs_dir.result c.in_ok-plan.plan.changes c.in_ok-plan.plan.tracked c.in_ok-plan.plan.jobs c.in_ok-runs.runs
-    (c.runs_dir.ensures c.args.who.now)
-    (c.in_ok-plan.ensures.are tells bytes c.args.who.now c.args.now (subst (λ (x : Option Image). HaveBytes x (Some c.args.state.now) bytes) (sym same) have) shows)
+    ran-both files c.args.state.now call c.note_sound.ensures.sound c.requires.runs c.args.request.now.formed c.requires.passed (c.in_ok-view.ensures.kept tells) (kept tells) bytes have
+    c.in_ok-view.view (c.in_ok-view.ensures.seen tells told bytes c.args.request.now.who.now c.args.request.now.when have) c.runs_dir.result c.in_ok-plan.plan.changes c.in_ok-plan.plan.tracked c.in_ok-plan.plan.jobs c.in_ok-runs.runs
+    (c.runs_dir.ensures c.args.request.now.who.now)
+    (c.in_ok-plan.ensures.are tells bytes c.args.request.now.who.now c.args.request.now.when (subst (λ (x : Option Image). HaveBytes x (Some c.args.state.now) bytes) (sym same) have) shows)
     c.in_ok-plan.ensures.ascends c.in_ok-runs.ensures.whole
     (subst (λ (st : SiteState). c.in_ok-plan.plan.tracked ≡ dir_reads.tracked_in (dirs_after c.in_ok-plan.plan.changes st.trees c.runs_dir.result) c.in_ok-plan.plan.tracked
     → HaveRun c.runs_dir.result c.in_ok-plan.plan.changes (paths_of c.in_ok-plan.plan.tracked) c.in_ok-plan.plan.jobs c.in_ok-runs.runs st (g.S.Site.state c.make_runs-made.new.site)) (c.see.ensures.site_same told) (c.in_ok-runs.ensures.ran told))
@@ -112,7 +112,7 @@ returns-clause-planned g c =
       events = c.in_ok-planned.ensures.0;
       accepted = λ told bytes have. (ran told.0 told.1 bytes have).0;
       left = λ told bytes have. (ran told.0 told.1 bytes have).1;
-      kept = λ told. all-kept c.args.state.now c.args.command.now c.args.who.now c.requires.formed c.requires.runs c.requires.passed files (c.in_ok-view.ensures.kept told.0) (kept told.0);
+      kept = λ told. all-kept c.args.state.now c.args.request.now.command.now c.args.request.now.who.now c.args.request.now.formed c.requires.runs c.requires.passed files (c.in_ok-view.ensures.kept told.0) (kept told.0);
       made = c.in_ok-planned.ensures.2;
     }
 
@@ -121,45 +121,45 @@ returns-in_err-refusal-clause-stopped g c = let is : c.from_residual-in_err-refu
 
 pub returns-in-Refuse-clause-stopped : goal.returns-in-Refuse-clause-stopped
 returns-in-Refuse-clause-stopped g c =
-    let call : Called = called c.args.command.now c.args.who.now c.args.now (g.S.Site.state c.args.site.now) (g.S.Site.state c.see.new.site) in
+    let call : Called = called c.args.request.now.command.now c.args.request.now.who.now c.args.request.now.when (g.S.Site.state c.args.site.now) (g.S.Site.state c.see.new.site) in
     refused c.in-Refuse.refusal (λ tells told. record {
       answer = unrun-answer (effective (reads (g.D.Disk.state c.args.disk.now))) c.args.state.now call c.in_ok-view.view (Refuse c.in-Refuse.refusal) (c.see.ensures.site_same told)
-          (λ bytes have. c.in_ok-view.ensures.seen tells told bytes c.args.who.now c.args.now have) (λ bytes have. c.in_ok-view.ensures.shows tells bytes c.args.who.now have)
-          (same_answer (Some c.args.state.now) c.args.command.now c.args.who.now c.args.now _ _ _ _ refl c.in-Refuse.is c.in_ok-refusal.ensures.is);
+          (λ bytes have. c.in_ok-view.ensures.seen tells told bytes c.args.request.now.who.now c.args.request.now.when have) (λ bytes have. c.in_ok-view.ensures.shows tells bytes c.args.request.now.who.now have)
+          (same_answer (Some c.args.state.now) c.args.request.now.command.now c.args.request.now.who.now c.args.request.now.when _ _ _ _ refl c.in-Refuse.is c.in_ok-refusal.ensures.is);
       kept = λ passes. c.in_ok-view.ensures.kept tells;
     })
 
 pub returns-in_err-view-clause-directories : goal.returns-in_err-view-clause-directories
-returns-in_err-view-clause-directories g c = λ seen. leaves-still c.args.command.now (g.S.Site.state c.args.site.now) (g.S.Site.state c.see.new.site) _ (c.see.ensures.site_same seen)
+returns-in_err-view-clause-directories g c = λ seen. leaves-still c.args.request.now.command.now (g.S.Site.state c.args.site.now) (g.S.Site.state c.see.new.site) _ (c.see.ensures.site_same seen)
 
 pub returns-in_err-refusal-clause-directories : goal.returns-in_err-refusal-clause-directories
-returns-in_err-refusal-clause-directories g c = λ seen. leaves-still c.args.command.now (g.S.Site.state c.args.site.now) (g.S.Site.state c.see.new.site) _ (c.see.ensures.site_same seen)
+returns-in_err-refusal-clause-directories g c = λ seen. leaves-still c.args.request.now.command.now (g.S.Site.state c.args.site.now) (g.S.Site.state c.see.new.site) _ (c.see.ensures.site_same seen)
 
 pub returns-in-Refuse-clause-directories : goal.returns-in-Refuse-clause-directories
-returns-in-Refuse-clause-directories g c = λ seen. leaves-still c.args.command.now (g.S.Site.state c.args.site.now) (g.S.Site.state c.see.new.site) _ (c.see.ensures.site_same seen)
+returns-in-Refuse-clause-directories g c = λ seen. leaves-still c.args.request.now.command.now (g.S.Site.state c.args.site.now) (g.S.Site.state c.see.new.site) _ (c.see.ensures.site_same seen)
 
 pub returns-in_err-plan-clause-directories : goal.returns-in_err-plan-clause-directories
-returns-in_err-plan-clause-directories g c = λ seen. leaves-still c.args.command.now (g.S.Site.state c.args.site.now) (g.S.Site.state c.see.new.site) _ (c.see.ensures.site_same seen)
+returns-in_err-plan-clause-directories g c = λ seen. leaves-still c.args.request.now.command.now (g.S.Site.state c.args.site.now) (g.S.Site.state c.see.new.site) _ (c.see.ensures.site_same seen)
 
 pub returns-in_err-runs-clause-directories : goal.returns-in_err-runs-clause-directories
 returns-in_err-runs-clause-directories g c = λ seen.
-    dirs_err c.args.command.now (g.S.Site.state c.args.site.now) (g.S.Site.state c.make_runs-made.new.site) _ (stop_of_dirs c.in_err-runs.field-0.0) (err_is _ _ c.from_residual-in_err-runs.ensures.1)
-    (leaves-runs c.args.command.now c.in_ok-plan.plan.changes (g.S.Site.state c.args.site.now) (g.S.Site.state c.make_runs-made.new.site) _ c.requires.runs (dirs_touch c.in_err-runs.field-0.0)
+    dirs_err c.args.request.now.command.now (g.S.Site.state c.args.site.now) (g.S.Site.state c.make_runs-made.new.site) _ (stop_of_dirs c.in_err-runs.field-0.0) (err_is _ _ c.from_residual-in_err-runs.ensures.1)
+    (leaves-runs c.args.request.now.command.now c.in_ok-plan.plan.changes (g.S.Site.state c.args.site.now) (g.S.Site.state c.make_runs-made.new.site) _ c.requires.runs (dirs_touch c.in_err-runs.field-0.0)
     (subst (λ (st : SiteState). MakesByteRuns st (g.S.Site.state c.make_runs-made.new.site)) (c.see.ensures.site_same seen) (c.make_runs-made.ensures.bytes seen)) c.in_ok-plan.ensures.own
     (λ other same. subst (λ (st : SiteState). ChangesThese c.in_ok-plan.plan.changes st (g.S.Site.state c.make_runs-made.new.site)) (c.see.ensures.site_same seen)
     (c.in_err-runs.ensures.unrun seen (site-stops c.in_err-runs.field-0.0 other) (same ∙ sym (ap (λ (st : SiteState). st.runs) (c.see.ensures.site_same seen))))))
 
 pub returns-in_err-planned-clause-directories : goal.returns-in_err-planned-clause-directories
 returns-in_err-planned-clause-directories g c = λ seen.
-    dirs_err c.args.command.now (g.S.Site.state c.args.site.now) (g.S.Site.state c.make_runs-made.new.site) _ stop.Memory (err_is _ _ c.from_residual-in_err-planned.ensures.1)
-    (leaves-runs c.args.command.now c.in_ok-plan.plan.changes (g.S.Site.state c.args.site.now) (g.S.Site.state c.make_runs-made.new.site) _ c.requires.runs (λ none. none)
+    dirs_err c.args.request.now.command.now (g.S.Site.state c.args.site.now) (g.S.Site.state c.make_runs-made.new.site) _ stop.Memory (err_is _ _ c.from_residual-in_err-planned.ensures.1)
+    (leaves-runs c.args.request.now.command.now c.in_ok-plan.plan.changes (g.S.Site.state c.args.site.now) (g.S.Site.state c.make_runs-made.new.site) _ c.requires.runs (λ none. none)
     (subst (λ (st : SiteState). MakesByteRuns st (g.S.Site.state c.make_runs-made.new.site)) (c.see.ensures.site_same seen) (c.make_runs-made.ensures.bytes seen)) c.in_ok-plan.ensures.own
     (λ other same. subst (λ (st : SiteState). ChangesThese c.in_ok-plan.plan.changes st (g.S.Site.state c.make_runs-made.new.site)) (c.see.ensures.site_same seen)
     (c.in_ok-runs.ensures.unrun seen (ok_is_no_err _ _) (same ∙ sym (ap (λ (st : SiteState). st.runs) (c.see.ensures.site_same seen))))))
 
 pub returns-clause-directories : goal.returns-clause-directories
 returns-clause-directories g c = λ seen.
-    leaves-runs c.args.command.now c.in_ok-plan.plan.changes (g.S.Site.state c.args.site.now) (g.S.Site.state c.make_runs-made.new.site) _ c.requires.runs (λ none. none)
+    leaves-runs c.args.request.now.command.now c.in_ok-plan.plan.changes (g.S.Site.state c.args.site.now) (g.S.Site.state c.make_runs-made.new.site) _ c.requires.runs (λ none. none)
     (subst (λ (st : SiteState). MakesByteRuns st (g.S.Site.state c.make_runs-made.new.site)) (c.see.ensures.site_same seen) (c.make_runs-made.ensures.bytes seen)) c.in_ok-plan.ensures.own
     (λ other same. subst (λ (st : SiteState). ChangesThese c.in_ok-plan.plan.changes st (g.S.Site.state c.make_runs-made.new.site)) (c.see.ensures.site_same seen)
     (c.in_ok-runs.ensures.unrun seen (ok_is_no_err _ _) (same ∙ sym (ap (λ (st : SiteState). st.runs) (c.see.ensures.site_same seen)))))
@@ -167,12 +167,12 @@ returns-clause-directories g c = λ seen.
 pub plan_accepted-planned-requires-clause-accepted : goal.plan_accepted-planned-requires-clause-accepted
 plan_accepted-planned-requires-clause-accepted g c =
     let shown = c.in_ok-view.ensures.shown in
-    let first : verdict placing (Some c.args.state.now) shown.0 c.args.command.now c.args.who.now c.args.now c.in_ok-view.view ≡ Accept c.in_default.field-0 = c.in_ok-refusal.ensures.is shown.0 (shown.1 c.args.who.now) ∙ c.in_default.is in (
+    let first : verdict placing (Some c.args.state.now) shown.0 c.args.request.now.command.now c.args.request.now.who.now c.args.request.now.when c.in_ok-view.view ≡ Accept c.in_default.field-0 = c.in_ok-refusal.ensures.is shown.0 (shown.1 c.args.request.now.who.now) ∙ c.in_default.is in (
       shown.0,
-      subst (ShowsVersions (Some c.args.state.now) shown.0 c.args.command.now c.args.who.now) (sym c.with_runs-view.ensures) (shown.1 c.args.who.now),
+      subst (ShowsVersions (Some c.args.state.now) shown.0 c.args.request.now.command.now c.args.request.now.who.now) (sym c.with_runs-view.ensures) (shown.1 c.args.request.now.who.now),
       _,
-      ap (verdict placing (Some c.args.state.now) shown.0 c.args.command.now c.args.who.now c.args.now) c.with_runs-view.ensures
-          ∙ accepted-with c.args.state.now shown.0 c.args.command.now c.args.who.now c.args.now c.in_ok-view.view c.in_ok-runs.runs c.in_default.field-0 c.requires.runs c.requires.passed first,
+      ap (verdict placing (Some c.args.state.now) shown.0 c.args.request.now.command.now c.args.request.now.who.now c.args.request.now.when) c.with_runs-view.ensures
+          ∙ accepted-with c.args.state.now shown.0 c.args.request.now.command.now c.args.request.now.who.now c.args.request.now.when c.in_ok-view.view c.in_ok-runs.runs c.in_default.field-0 c.requires.runs c.requires.passed first,
     )
 
 -- ---- what follows from the calls alone
@@ -248,15 +248,6 @@ returns-in_err-runs-clause-early g c = λ told. early-so (g.S.Site.state c.args.
 
 pub returns-in_err-planned-clause-early : goal.returns-in_err-planned-clause-early
 returns-in_err-planned-clause-early g c = λ told. early-so (g.S.Site.state c.args.site.now) (g.S.Site.state c.make_runs-made.new.site) _ stop.Memory c.from_residual-in_err-planned.ensures.1 (λ fault. cc)
-
-pub plan_accepted-planned-requires-clause-formed : goal.plan_accepted-planned-requires-clause-formed
-plan_accepted-planned-requires-clause-formed g c = c.requires.formed
-
-pub plan_accepted-planned-requires-clause-one : goal.plan_accepted-planned-requires-clause-one
-plan_accepted-planned-requires-clause-one g c = c.requires.one
-
-pub plan_accepted-planned-requires-clause-moment : goal.plan_accepted-planned-requires-clause-moment
-plan_accepted-planned-requires-clause-moment g c = c.requires.moment
 
 pub plan_accepted-planned-requires-clause-runs : goal.plan_accepted-planned-requires-clause-runs
 plan_accepted-planned-requires-clause-runs g c = c.requires.runs
