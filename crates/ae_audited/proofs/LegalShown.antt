@@ -38,6 +38,7 @@ use Rattle.ae_log.specs.Log.{Log, Happened, course, standing, who_of}
 use Rattle.ae_log.specs.Observed.{observation, observation_with, change, change_with}
 use Rattle.ae_log.specs.People.{reviewer_mark}
 use Rattle.ae_log.specs.Phases.{history}
+use Rattle.ae_log.specs.Maker.{made_by}
 use Rattle.ae_log.proofs.ChangeSteps.{integrated-is}
 use Rattle.ae_log.proofs.Following.{follows}
 use Rattle.ae_log.proofs.OneChange.{in-own}
@@ -132,15 +133,15 @@ apart o n kind s a m x e c is =
     never kind (ap (comes_in kind) (sym (completed-is x.phase c)) ∙ ap (λ (z : Change). comes_in kind z.phase) (sym same) ∙ y.2.0)
 
 -- a change that isn't the event's is as before
-other-change : (log : Log) (who : List ℕ) (when n : ℕ) (kind : EventKind) (o later : Observation) → observation log ≡ Some o → observation (of_change who when n kind ∷ log) ≡ Some later
+other-change : (log : Log) (who : List ℕ) (when n : ℕ) (kind : EventKind) (o later : Observation) → observation log ≡ Some o → observation (of_change (made_by who when) n kind ∷ log) ≡ Some later
     → (m : ℕ) (x : Change) → change_at o m ≡ Some x → (m ≡ n → ⊥) → change_at later m ≡ Some x
 other-change log who when n kind o later stood stands m x e differs =
     let w = attributes-of log o stood in
-    let v = attributes-of (of_change who when n kind ∷ log) later stands in
+    let v = attributes-of (of_change (made_by who when) n kind ∷ log) later stands in
     let here : IsOf log m x = found-is log w.0 m x (ap (λ (q : Observation). change_at q m) w.2 ∙ e) in
     ap (λ (q : Observation). change_at q m) (sym v.2)
-    ∙ found (of_change who when n kind ∷ log) v.0 m here.numbered
-    ∙ other-fact (change m) log who when n kind m differs
+    ∙ found (of_change (made_by who when) n kind ∷ log) v.0 m here.numbered
+    ∙ other-fact (change m) log (made_by who when) n kind m differs
     ∙ sym (found log w.0 m here.numbered)
     ∙ ap (λ (q : Observation). change_at q m) w.2 ∙ e
 
@@ -165,10 +166,10 @@ deltas-stay event (on.RoleDrop role user) p e = roles-stay role _ p
 deltas-stay event _ p e = refl
 
 -- an event of a change that isn't the pass of its integration
-quiet : (log : Log) (who : List ℕ) (when n : ℕ) (kind : EventKind) → passes kind ≡ false → (o : Observation) → observation log ≡ Some o → Sound o → Applies o (of_change who when n kind)
-    → AllOld o o.project.deltas → AllOld (after o (of_change who when n kind)) (after o (of_change who when n kind)).project.deltas
+quiet : (log : Log) (who : List ℕ) (when n : ℕ) (kind : EventKind) → passes kind ≡ false → (o : Observation) → observation log ≡ Some o → Sound o → Applies o (of_change (made_by who when) n kind)
+    → AllOld o o.project.deltas → AllOld (after o (of_change (made_by who when) n kind)) (after o (of_change (made_by who when) n kind)).project.deltas
 quiet log who when n kind none o stood s a all =
-    let event = of_change who when n kind in
+    let event = of_change (made_by who when) n kind in
     let later = after o event in
     let same_deltas : later.project.deltas ≡ o.project.deltas = deltas-stay event kind o.project none in
     let same_files : later.files ≡ o.files = rows-stay kind _ _ o.files none in
@@ -193,10 +194,10 @@ of-project event alone o none all =
 
 -- ---- the pass of an integration
 
-module _ (log : Log) (who : List ℕ) (when n : ℕ) (o : Observation) (stood : observation log ≡ Some o) (s : Sound o) (a : Applies o (of_change who when n on.IPass)) (x : Change) (at_n : change_at o n ≡ Some x)
+module _ (log : Log) (who : List ℕ) (when n : ℕ) (o : Observation) (stood : observation log ≡ Some o) (s : Sound o) (a : Applies o (of_change (made_by who when) n on.IPass)) (x : Change) (at_n : change_at o n ≡ Some x)
     (right : is_integrating x.phase ≡ true) (runs : missing o x Integrate (digest_rows (candidate_of o x)) ≡ None) (f : FactsAt log n) where
   abbrev passing : Event
-  passing = of_change who when n on.IPass
+  passing = of_change (made_by who when) n on.IPass
 
   abbrev later : Observation
   later = after o passing

@@ -13,6 +13,7 @@ use Rattle.ae_log.specs.declared.event.EventKind.TheVariants as on
 use Rattle.ae_log.specs.Log.{Happened, Course, Mark, makes, ends, leaves, marked, standing}
 use Rattle.ae_log.specs.People.{reviewer_mark}
 use Rattle.ae_log.specs.Phases.{word_of, with_row, history}
+use Rattle.ae_log.specs.Maker.{made_by}
 use Rattle.ae_log.proofs.RunSteps.{standing-makes}
 use Rattle.ae_machine.specs.Provenance.{pass_or_end_mark}
 use Rattle.ae_audit.specs.Review.{passer_after, passer_from, passer_of}
@@ -45,7 +46,7 @@ abbrev word_after : Option What → List ℕ → Option (List ℕ) → Option (L
 word_after (Some word) who earlier = passer_after word who earlier
 word_after None who earlier = earlier
 
-with-word : (word : Option What) (who : List ℕ) (when : ℕ) (rows : List HistoryRow) → passer_of (with_row word who when rows) ≡ word_after word who (passer_of rows)
+with-word : (word : Option What) (who : List ℕ) (when : ℕ) (rows : List HistoryRow) → passer_of (with_row word (made_by who when) rows) ≡ word_after word who (passer_of rows)
 with-word (Some word) who when rows = passed-more None rows (record { what = word; who = who; when = when })
 with-word None who when rows = refl
 

@@ -14,7 +14,8 @@ use Rattle.ae_words.specs.declared.command.Command.{Command}
 use Rattle.ae_machine.specs.declared.view.View.{View}
 use Rattle.ae_machine.specs.Call.{call_of, change_named}
 use Rattle.ae_machine.specs.Fits.{config_row, makes_runs}
-use Rattle.ae_machine.specs.Sight.{config_path, has_config, row_at, with_bytes}
+use Rattle.ae_files.specs.InTree.{row_at}
+use Rattle.ae_machine.specs.Sight.{config_path, has_config, with_bytes}
 use Rattle.ae_machine.specs.Versions.{config_version, first_differing, rows_compared}
 use Rattle.ae_exec.specs.Bytes.{rows_at}
 use Rattle.ae_exec.specs.Reading.{AreKept, FirstIsLost, IsLostAmong, asked_of, compared_for, versions_of}

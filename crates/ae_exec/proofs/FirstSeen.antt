@@ -27,7 +27,8 @@ use Rattle.ae_machine.specs.Called.{files_seen}
 use Rattle.ae_machine.specs.Fits.{config_row, makes_runs, path_of_row, paths_asked, reads_files}
 use Rattle.ae_machine.specs.Freezing.{is_these}
 use Rattle.ae_machine.specs.Jobs.{dir_of_files}
-use Rattle.ae_machine.specs.Sight.{config_below, config_path, content_of, has_config, kept_paths, paths_read, row_at, with_bytes}
+use Rattle.ae_files.specs.InTree.{row_at}
+use Rattle.ae_machine.specs.Sight.{config_below, config_path, content_of, has_config, kept_paths, paths_read, with_bytes}
 use Rattle.ae_machine.specs.Space.{placing}
 use Rattle.ae_machine.specs.Versions.{ShowsVersions, config_version, first_differing, is_shown, rows_compared, versions_of_runs}
 use Rattle.ae_machine.proofs.AskedFor.{none-differs}

@@ -9,7 +9,7 @@ use Rattle.ae_outside.specs.Image.{Image}
 use Rattle.ae_types.specs.declared.file_table.FileRow.{FileRow}
 use Rattle.ae_types.specs.declared.version.VersionRef.{VersionRef}
 use Rattle.ae_types.specs.Trees.{TreeRow, tree_at, tree_row}
-use Rattle.ae_machine.specs.Sight.{row_at}
+use Rattle.ae_files.specs.InTree.{row_at}
 use Rattle.ae_exec.specs.Bytes.{row_version}
 use Rattle.ae_exec.specs.Reading.{AreKept, FirstIsLost, here, later, versions_at, versions_of}
 

@@ -28,7 +28,8 @@ use Rattle.ae_words.specs.declared.table.Function.TheVariants as function
 use Rattle.ae_machine.specs.Call.{Call, call_of, change_named}
 use Rattle.ae_machine.specs.Fits.{makes_runs}
 use Rattle.ae_machine.specs.Runs.{kind_of}
-use Rattle.ae_machine.specs.Sight.{config_below, config_path, has_config, row_at}
+use Rattle.ae_files.specs.InTree.{row_at}
+use Rattle.ae_machine.specs.Sight.{config_below, config_path, has_config}
 use Rattle.ae_machine.specs.Versions.{config_version, rows_based, rows_compared, rows_refreshed, rows_under, versions_asked, versions_of_change, versions_of_runs}
 use Rattle.ae_machine.proofs.Lists.{filter-in}
 use Rattle.std.specs.Prelude.{All}

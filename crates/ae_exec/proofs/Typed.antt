@@ -27,7 +27,8 @@ use Rattle.ae_machine.specs.Call.{Call, Given, call_of, change_named, change_of}
 use Rattle.ae_machine.specs.Called.{Called, attributes_seen, files_dir, files_seen, given_at, new_runs, occasion_after, rows_of, view}
 use Rattle.ae_machine.specs.Fits.{config_asked, config_row, makes_runs, paths_asked, runs_asked, tracked_in}
 use Rattle.ae_machine.specs.Legal.{Legal}
-use Rattle.ae_machine.specs.Sight.{config_below, config_path, has_config, paths_read, row_at}
+use Rattle.ae_files.specs.InTree.{row_at}
+use Rattle.ae_machine.specs.Sight.{config_below, config_path, has_config, paths_read}
 use Rattle.ae_machine.specs.Typed.{IsContent, IsReadFile, IsRun, IsView}
 use Rattle.ae_machine.specs.TypedPaths.{ArePaths}
 use Rattle.ae_machine.proofs.TypedPaths.{asked-paths, legal-paths}

@@ -17,6 +17,7 @@ use Rattle.ae_log.specs.Baseline.{holds}
 use Rattle.ae_log.specs.Observed.{observation, observation_with}
 use Rattle.ae_log.specs.After.{after}
 use Rattle.ae_log.specs.Applies.{comes_in, Suits, is_being_developed, is_awaiting_review, is_being_reviewed, is_awaiting_integration}
+use Rattle.ae_log.specs.Maker.{Maker}
 use Rattle.ae_log.proofs.Steps.{of_change, happens, IsOf, found-is, stands-after}
 
 -- ---- phases
@@ -56,14 +57,14 @@ pub record Finds (log : Log) (o : Observation) (a : Attributes) (c : ℕ) (kind 
   pub suits : Suits o change kind
   pub stands : observation_with log a ≡ o
 
-pub after-found : (log : Log) (who : List ℕ) (when c : ℕ) (kind : EventKind) (o : Observation) → attributes (of_change who when c kind ∷ log) ≡ attributes log → observation log ≡ Some o
+pub after-found : (log : Log) (maker : Maker) (c : ℕ) (kind : EventKind) (o : Observation) → attributes (of_change maker c kind ∷ log) ≡ attributes log → observation log ≡ Some o
     → IsSomeAnd (change_at o c) (λ (change : Change). (comes_in kind change.phase ≡ true) × Suits o change kind)
-    → ((a : Attributes) → Finds log o a c kind → observation_with (of_change who when c kind ∷ log) a ≡ after (observation_with log a) (of_change who when c kind))
-    → observation (of_change who when c kind ∷ log) ≡ Some (after o (of_change who when c kind))
-after-found log who when c kind o same stood m this = go (change_at o c) refl m
+    → ((a : Attributes) → Finds log o a c kind → observation_with (of_change maker c kind ∷ log) a ≡ after (observation_with log a) (of_change maker c kind))
+    → observation (of_change maker c kind ∷ log) ≡ Some (after o (of_change maker c kind))
+after-found log maker c kind o same stood m this = go (change_at o c) refl m
   where
-    go : (x : Option Change) → change_at o c ≡ x → IsSomeAnd x (λ (change : Change). (comes_in kind change.phase ≡ true) × Suits o change kind) → observation (of_change who when c kind ∷ log) ≡ Some (after o (of_change who when c kind))
-    go (Some x) e n = stands-after log (of_change who when c kind) o same stood (λ a is.
+    go : (x : Option Change) → change_at o c ≡ x → IsSomeAnd x (λ (change : Change). (comes_in kind change.phase ≡ true) × Suits o change kind) → observation (of_change maker c kind ∷ log) ≡ Some (after o (of_change maker c kind))
+    go (Some x) e n = stands-after log (of_change maker c kind) o same stood (λ a is.
         let i = found-is log a c x (ap (λ q. change_at q c) is ∙ e) in
         this a (record { change = x; there = e; is_of = i; comes = ap (λ (y : Change). comes_in kind y.phase) (sym i.is) ∙ n.0; suits = n.1; stands = is }))
     go None e n = absurd n
@@ -73,9 +74,9 @@ pub at-its : (log : Log) (c n : ℕ) (P : ℕ → Type 0) → nat_eq c n ≡ tru
 at-its log c n P e h = subst P (eqb-true c n e) h
 
 -- a change that holds before and after, and has the same files
-pub holds-both : (log : Log) (who : List ℕ) (when c : ℕ) (kind : EventKind) → holds_locks (phase_of (course log c)) ≡ true
-    → ((n : ℕ) → is_there (continued kind (happens log who when c kind) (course log n)) ≡ is_there (course log n))
-    → ((p : List ℕ) (n : ℕ) → file (continued kind (happens log who when c kind) (course log n)) p ≡ file (course log n) p)
-    → ((n : ℕ) → holds_locks (phase_of (continued kind (happens log who when c kind) (course log n))) ≡ true)
-    → (p : List ℕ) (n : ℕ) → nat_eq c n ≡ true → holds p (continued kind (happens log who when c kind) (course log n)) ≡ holds p (course log n)
-holds-both log who when c kind held there same held_then p n e = λ i. there n i && is_some (same p n i) && (held_then n ∙ sym (at-its log c n (λ m. holds_locks (phase_of (course log m)) ≡ true) e held)) i
+pub holds-both : (log : Log) (maker : Maker) (c : ℕ) (kind : EventKind) → holds_locks (phase_of (course log c)) ≡ true
+    → ((n : ℕ) → is_there (continued kind (happens log maker c kind) (course log n)) ≡ is_there (course log n))
+    → ((p : List ℕ) (n : ℕ) → file (continued kind (happens log maker c kind) (course log n)) p ≡ file (course log n) p)
+    → ((n : ℕ) → holds_locks (phase_of (continued kind (happens log maker c kind) (course log n))) ≡ true)
+    → (p : List ℕ) (n : ℕ) → nat_eq c n ≡ true → holds p (continued kind (happens log maker c kind) (course log n)) ≡ holds p (course log n)
+holds-both log maker c kind held there same held_then p n e = λ i. there n i && is_some (same p n i) && (held_then n ∙ sym (at-its log c n (λ m. holds_locks (phase_of (course log m)) ≡ true) e held)) i

@@ -13,6 +13,7 @@ use Rattle.ae_log.specs.Log.{Log, Course, Happened, standing, marked, makes, end
 use Rattle.ae_log.specs.Files.{FileFact, file, file_by, file_mark, course_paths}
 use Rattle.ae_log.specs.Observed.{change_file, change_file_of, change_files, frozen_version}
 use Rattle.ae_log.specs.After.{new_file, with_file, without_file, thawed}
+use Rattle.ae_log.specs.Maker.{Maker}
 use Rattle.ae_log.proofs.Lists.{option_map-step, filter_map-step, filter_map-same}
 use Rattle.ae_log.proofs.Ascending.{course_paths-ascend}
 use Rattle.ae_log.proofs.Listed.{own_file}
@@ -20,9 +21,9 @@ use Rattle.ae_log.proofs.Steps.{happens}
 
 -- ---- a file is put
 
-module _ (ss : Course) (before : Log) (who : List ℕ) (when c : ℕ) (p : List ℕ) (action : Action) (usage : Usage) (origin : ℕ) where
+module _ (ss : Course) (before : Log) (maker : Maker) (c : ℕ) (p : List ℕ) (action : Action) (usage : Usage) (origin : ℕ) where
   abbrev pub put : Happened
-  put = happens before who when c (on.File p action usage origin)
+  put = happens before maker c (on.File p action usage origin)
 
   module _ (none : (q : List ℕ) → frozen_version ss q ≡ None) (none_then : (q : List ℕ) → frozen_version (put ∷ ss) q ≡ None) where
     gives : change_file (put ∷ ss) p ≡ Some (new_file p action usage origin)
@@ -39,9 +40,9 @@ module _ (ss : Course) (before : Log) (who : List ℕ) (when c : ℕ) (p : List 
 
 -- ---- a file is taken out
 
-module _ (ss : Course) (before : Log) (who : List ℕ) (when c : ℕ) (p : List ℕ) where
+module _ (ss : Course) (before : Log) (maker : Maker) (c : ℕ) (p : List ℕ) where
   abbrev pub out : Happened
-  out = happens before who when c (on.Unfile p)
+  out = happens before maker c (on.Unfile p)
 
   module _ (none : (q : List ℕ) → frozen_version ss q ≡ None) (none_then : (q : List ℕ) → frozen_version (out ∷ ss) q ≡ None) where
     gone : change_file (out ∷ ss) p ≡ None

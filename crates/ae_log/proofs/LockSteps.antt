@@ -22,6 +22,7 @@ use Rattle.ae_log.specs.Files.{FileFact, file, paths}
 use Rattle.ae_log.specs.Baseline.{holds, locked}
 use Rattle.ae_log.specs.Observed.{observation_with, change_with, change_file_of, frozen_version, lock, lock_of}
 use Rattle.ae_log.specs.After.{with_locks, without_locks}
+use Rattle.ae_log.specs.Maker.{Maker}
 use Rattle.ae_log.proofs.Lists.{find-same}
 use Rattle.ae_log.proofs.Ascending.{paths-ascend}
 use Rattle.ae_log.proofs.Listed.{own_lock, at-files}
@@ -87,10 +88,10 @@ find-without t c (x ∷ xs) one = go (t x) refl (nat_eq c x) refl (find-without 
     go false is false e rest = rest
 
 -- the locks of a change go with an event after which it holds none
-pub locks-go : (log : Log) (who : List ℕ) (when c : ℕ) (kind : EventKind) → OneHolder log
-    → ((p : List ℕ) (n : ℕ) → nat_eq c n ≡ true → holds p (continued kind (happens log who when c kind) (course log n)) ≡ false)
-    → filter_map (lock (of_change who when c kind ∷ log)) (paths log) ≡ without_locks c (filter_map (lock log) (paths log))
-locks-go log who when c kind one gone = listed-is by_text lock_path (lock (of_change who when c kind ∷ log)) (own_lock (of_change who when c kind ∷ log)) (paths log) _ (paths-ascend log)
+pub locks-go : (log : Log) (maker : Maker) (c : ℕ) (kind : EventKind) → OneHolder log
+    → ((p : List ℕ) (n : ℕ) → nat_eq c n ≡ true → holds p (continued kind (happens log maker c kind) (course log n)) ≡ false)
+    → filter_map (lock (of_change maker c kind ∷ log)) (paths log) ≡ without_locks c (filter_map (lock log) (paths log))
+locks-go log maker c kind one gone = listed-is by_text lock_path (lock (of_change maker c kind ∷ log)) (own_lock (of_change maker c kind ∷ log)) (paths log) _ (paths-ascend log)
     (filter-ascends by_text lock_path _ _ (filter_map-ascends by_text lock_path (lock log) (own_lock log) (paths log) (paths-ascend log)))
     (λ p. listed p (member by_text p (paths log)) ∙ sym (
     at-filter by_text lock_path (λ (l : Lock). not (nat_eq c l.change)) p _ (filter_map-ascends by_text lock_path (lock log) (own_lock log) (paths log) (paths-ascend log))
@@ -107,15 +108,15 @@ locks-go log who when c kind one gone = listed-is by_text lock_path (lock (of_ch
     left_of p (Some m) = left p m
     left_of p None = refl
 
-    holds-then : (p : List ℕ) (n : ℕ) → holds p (course (of_change who when c kind ∷ log) n) ≡ cond (nat_eq c n) false (holds p (course log n))
-    holds-then p n = course-fact (holds p) log who when c kind n ∙ go (nat_eq c n) refl
+    holds-then : (p : List ℕ) (n : ℕ) → holds p (course (of_change maker c kind ∷ log) n) ≡ cond (nat_eq c n) false (holds p (course log n))
+    holds-then p n = course-fact (holds p) log maker c kind n ∙ go (nat_eq c n) refl
       where
-        go : (b : Bool) → nat_eq c n ≡ b → cond b (holds p (continued kind (happens log who when c kind) (course log n))) (holds p (course log n)) ≡ cond b false (holds p (course log n))
+        go : (b : Bool) → nat_eq c n ≡ b → cond b (holds p (continued kind (happens log maker c kind) (course log n))) (holds p (course log n)) ≡ cond b false (holds p (course log n))
         go true e = gone p n e
         go false e = refl
 
-    listed : (p : List ℕ) (b : Bool) → cond b (lock (of_change who when c kind ∷ log) p) None ≡ if_so by_text lock_path (λ (l : Lock). not (nat_eq c l.change)) (cond b (lock log p) None)
-    listed p true = ap (option_map (lock_of p)) (find-same (λ n. holds p (course (of_change who when c kind ∷ log) n)) (λ n. cond (nat_eq c n) false (holds p (course log n))) (holds-then p) change_numbers ∙ find-without (λ n. holds p (course log n)) c change_numbers (one p))
+    listed : (p : List ℕ) (b : Bool) → cond b (lock (of_change maker c kind ∷ log) p) None ≡ if_so by_text lock_path (λ (l : Lock). not (nat_eq c l.change)) (cond b (lock log p) None)
+    listed p true = ap (option_map (lock_of p)) (find-same (λ n. holds p (course (of_change maker c kind ∷ log) n)) (λ n. cond (nat_eq c n) false (holds p (course log n))) (holds-then p) change_numbers ∙ find-without (λ n. holds p (course log n)) c change_numbers (one p))
         ∙ left_of p (locked log p)
     listed p false = refl
 

@@ -26,6 +26,7 @@ use Rattle.ae_log.specs.Files.{FileFact, file, paths, frozen, next_version}
 use Rattle.ae_log.specs.Baseline.{Entry, past, with_entry, deltas}
 use Rattle.ae_log.specs.Observed.{observation_with, change, change_with, change_file, change_file_of, change_files, file_row, file_version, frozen_version}
 use Rattle.ae_log.specs.After.{after, change_after, new_entry, row_of, entered, all_entered, rows_after, files_of}
+use Rattle.ae_log.specs.Maker.{Maker}
 use Rattle.ae_log.proofs.Lists.{option_map-step}
 use Rattle.ae_log.proofs.Ascending.{paths-ascend}
 use Rattle.ae_log.proofs.Listed.{own_row, unlisted-file, at-files, files-ascend}
@@ -68,7 +69,7 @@ row-snoc : (p : List ℕ) (xs : List Entry) (y : Entry) → file_row p (xs ++ y 
 row-snoc p [] y = refl
 row-snoc p (x ∷ xs) y = ap (λ (vs : List FileVersion). Some (row_of p (file_version x ∷ vs))) (map-snoc file_version xs y)
 
-module _ (log : Log) (who : List ℕ) (when c : ℕ) (held : holds_locks (phase_of (course log c)) ≡ true) where
+module _ (log : Log) (maker : Maker) (c : ℕ) (held : holds_locks (phase_of (course log c)) ≡ true) where
   -- the entry of a path in the delta
   past-at : (p : List ℕ) (f : Option FileFact) → file (course log c) p ≡ f
       → cond (member by_text p (paths log)) (file_row p (with_entry (length (deltas log) + 1) (frozen_file (frozen (course log c)) p) f (past log p))) None
@@ -86,25 +87,25 @@ module _ (log : Log) (who : List ℕ) (when c : ℕ) (held : holds_locks (phase_
           (ap (λ (b : Bool). cond b (option_map ref_of (version_of (frozen_file (frozen (course log c)) p))) None) (sym held))
       go false e = none-some f (sym (unlisted-file log c p e) ∙ is)
 
-  rows-pass : filter_map (λ p. file_row p (past (of_change who when c on.IPass ∷ log) p)) (paths log) ≡ all_entered (length (deltas log) + 1) (change_files (course log c)) (filter_map (λ p. file_row p (past log p)) (paths log))
-  rows-pass = listed-is by_text row_path (λ p. file_row p (past (of_change who when c on.IPass ∷ log) p)) (own_row (of_change who when c on.IPass ∷ log)) (paths log) _ (paths-ascend log)
+  rows-pass : filter_map (λ p. file_row p (past (of_change maker c on.IPass ∷ log) p)) (paths log) ≡ all_entered (length (deltas log) + 1) (change_files (course log c)) (filter_map (λ p. file_row p (past log p)) (paths log))
+  rows-pass = listed-is by_text row_path (λ p. file_row p (past (of_change maker c on.IPass ∷ log) p)) (own_row (of_change maker c on.IPass ∷ log)) (paths log) _ (paths-ascend log)
       (all_entered-ascend _ (change_files (course log c)) _ (filter_map-ascends by_text row_path (λ p. file_row p (past log p)) (own_row log) (paths log) (paths-ascend log)))
       (λ p. past-at p (file (course log c) p) refl ∙ sym (
       at-all_entered _ (change_files (course log c)) _ p (files-ascend (course log c))
       ∙ ap (λ (f : Option ChangeFile). row_with (length (deltas log) + 1) f (row_in (filter_map (λ p. file_row p (past log p)) (paths log)) p)) (at-files (course log c) p)
       ∙ ap (row_with (length (deltas log) + 1) (change_file (course log c) p)) (at-filter_map by_text row_path (λ p. file_row p (past log p)) (own_row log) p (paths log))))
 
-change-pass : (ss : Course) (before : Log) (who : List ℕ) (when next c n : ℕ) → change n (happens before who when c on.IPass ∷ ss) ≡ option_map (change_after next (of_change who when c on.IPass)) (change n ss)
-change-pass ss before who when next c n =
-    let s : Happened = happens before who when c on.IPass in
+change-pass : (ss : Course) (before : Log) (maker : Maker) (next c n : ℕ) → change n (happens before maker c on.IPass ∷ ss) ≡ option_map (change_after next (of_change maker c on.IPass)) (change n ss)
+change-pass ss before maker next c n =
+    let s : Happened = happens before maker c on.IPass in
     option_map-step (change_with n (s ∷ ss)) (change_with n ss) (change_after next s.event) (λ a.
     ap (λ (fs : List ChangeFile). record (change_with n (s ∷ ss) a) { files = fs }) (files-thaw s ss (λ p. refl) refl (λ p. refl))) (change_attributes ss)
 
-pub with-pass : (log : Log) (who : List ℕ) (when c : ℕ) (a : Attributes) (x : ChangeAttributes) → member by_number c change_numbers ≡ true → change_attributes (course log c) ≡ Some x
+pub with-pass : (log : Log) (maker : Maker) (c : ℕ) (a : Attributes) (x : ChangeAttributes) → member by_number c change_numbers ≡ true → change_attributes (course log c) ≡ Some x
     → holds_locks (phase_of (course log c)) ≡ true → OneHolder log
-    → observation_with (of_change who when c on.IPass ∷ log) a ≡ after (observation_with log a) (of_change who when c on.IPass)
-with-pass log who when c a x is there held one = same-parts _ _ refl
-    (numbers-stay log who when c on.IPass (λ n e. refl))
-    (rows-pass log who when c held ∙ ap (λ (y : Option Change). rows_after on.IPass (length (deltas log) + 1) (files_of y) (filter_map (λ p. file_row p (past log p)) (paths log))) (sym (found log a c is ∙ ap (option_map (change_with c (course log c))) there)))
-    (locks-go log who when c on.IPass one (λ p n e. and_right (is_there (course log n) && is_some (file (course log n) p)) false refl))
-    (changes-step log who when c on.IPass _ (λ s ss. refl) (λ n e. change-pass (course log n) log who when (next_version log) c n))
+    → observation_with (of_change maker c on.IPass ∷ log) a ≡ after (observation_with log a) (of_change maker c on.IPass)
+with-pass log maker c a x is there held one = same-parts _ _ refl
+    (numbers-stay log maker c on.IPass (λ n e. refl))
+    (rows-pass log maker c held ∙ ap (λ (y : Option Change). rows_after on.IPass (length (deltas log) + 1) (files_of y) (filter_map (λ p. file_row p (past log p)) (paths log))) (sym (found log a c is ∙ ap (option_map (change_with c (course log c))) there)))
+    (locks-go log maker c on.IPass one (λ p n e. and_right (is_there (course log n) && is_some (file (course log n) p)) false refl))
+    (changes-step log maker c on.IPass _ (λ s ss. refl) (λ n e. change-pass (course log n) log maker (next_version log) c n))

@@ -25,15 +25,16 @@ use Rattle.ae_types.proofs.Keys.{by_number}
 use Rattle.ae_types.proofs.Ordered.{at-put, put-ascends, at-filter, filter-ascends, if_so, found-key, member-with_key, none-some}
 use Rattle.ae_log.specs.declared.event.EventKind.TheVariants as on
 use Rattle.ae_log.specs.After.{after, new_change, change_after}
+use Rattle.ae_log.specs.Maker.{Maker}
 use Rattle.ae_log.proofs.Steps.{of_change}
 use Rattle.ae_log.proofs.Still.{version_in}
 use Rattle.ae_log.proofs.Quiet.{quiet-keeps}
 
 -- ---- a change is made
 
-module _ (o : Observation) (s : Sound o) (who : List ℕ) (when c : ℕ) (a : ChangeAttributes) (moment : IsMoment when) (fresh : has_number o.numbers c ≡ false) where
+module _ (o : Observation) (s : Sound o) (maker : Maker) (c : ℕ) (a : ChangeAttributes) (moment : IsMoment maker.when) (fresh : has_number o.numbers c ≡ false) where
   abbrev pub made : Change
-  made = new_change who when c a
+  made = new_change maker c a
 
   abbrev pub with_made : List Change
   with_made = put_by nat_cmp number_of_change made o.changes
@@ -94,7 +95,7 @@ module _ (o : Observation) (s : Sound o) (who : List ℕ) (when c : ℕ) (a : Ch
     history = All-cons (λ (row : HistoryRow). IsMoment row.when) _ [] moment (All-nil (λ (row : HistoryRow). IsMoment row.when));
   }
 
-  pub sound-new : Sound (after o (of_change who when c (on.New a)))
+  pub sound-new : Sound (after o (of_change maker c (on.New a)))
   sound-new = record {
     project = record {
       roles = s.project.roles;
@@ -146,7 +147,7 @@ awaits-not-holding : (p : Phase) → is_awaiting_development p ≡ true → hold
 awaits-not-holding phase.AwaitingDevelopment e = refl
 awaits-not-holding _ e = cc
 
-module _ (o : Observation) (s : Sound o) (who : List ℕ) (when c : ℕ) (x : Change) (at_c : change_in o.changes c ≡ Some x) (awaits : is_awaiting_development x.phase ≡ true) where
+module _ (o : Observation) (s : Sound o) (maker : Maker) (c : ℕ) (x : Change) (at_c : change_in o.changes c ≡ Some x) (awaits : is_awaiting_development x.phase ≡ true) where
   abbrev pub others : List Change
   others = filter (λ change. not (nat_eq c (number_of_change change))) o.changes
 
@@ -215,7 +216,7 @@ module _ (o : Observation) (s : Sound o) (who : List ℕ) (when c : ℕ) (x : Ch
       go (Some y) ey f = ap (λ (v : Option Change). is_some v) (stays n y ey).was
       go None ey f = absurd (false≢true f)
 
-  pub sound-undo : Sound (after o (of_change who when c on.NewUndo))
+  pub sound-undo : Sound (after o (of_change maker c on.NewUndo))
   sound-undo = record {
     project = record {
       roles = s.project.roles;
@@ -259,10 +260,10 @@ module _ (o : Observation) (s : Sound o) (who : List ℕ) (when c : ℕ) (x : Ch
 
 -- ---- its settings
 
-pub sound-settings : (o : Observation) → Sound o → (who : List ℕ) (when c : ℕ) (a : ChangeAttributes) (x : Change) → change_in o.changes c ≡ Some x → Sound (after o (of_change who when c (on.ChangeAttributes a)))
-sound-settings o s who when c a x at_c =
+pub sound-settings : (o : Observation) → Sound o → (maker : Maker) (c : ℕ) (a : ChangeAttributes) (x : Change) → change_in o.changes c ≡ Some x → Sound (after o (of_change maker c (on.ChangeAttributes a)))
+sound-settings o s maker c a x at_c =
     let good = s.changes.good c x at_c in
-    quiet-keeps o s c (change_after o.project.next_version (of_change who when c (on.ChangeAttributes a))) (λ _. refl) x at_c
+    quiet-keeps o s c (change_after o.project.next_version (of_change maker c (on.ChangeAttributes a))) (λ _. refl) x at_c
     (record { calm = record { integrating = refl; completed = refl; files = λ _. refl }; holds = refl; files = λ _. refl; frozen = λ _. refl })
     (record {
       people = record { developer = good.people.developer; reviewer = good.people.reviewer; reviewing = good.people.reviewing; integrator = good.people.integrator };

@@ -20,6 +20,7 @@ use Rattle.ae_log.specs.declared.event.EventKind.TheVariants as on
 use Rattle.ae_log.specs.After.{started, new_observation}
 use Rattle.ae_log.specs.Applies.{IsProject}
 use Rattle.ae_log.specs.Laws.{BeginsSound}
+use Rattle.ae_log.specs.Maker.{Maker, event_by, maker_of}
 
 -- ---- users of a role
 
@@ -112,9 +113,9 @@ sound-start who name attributes = record {
     roles Reviewer = record { differ = none-differ; few = omega arith }
     roles Integrator = record { differ = none-differ; few = omega arith }
 
-begins-by : (who : List ℕ) (when : ℕ) (c : Option ℕ) (kind : EventKind) → IsProject kind → IsSomeAnd (started (record { who = who; when = when; change = c; what = kind })) Sound
-begins-by who when c (on.Project name attributes) h = sound-start who name attributes
-begins-by who when c kind h = absurd h
+begins-by : (maker : Maker) (c : Option ℕ) (kind : EventKind) → IsProject kind → IsSomeAnd (started (event_by maker c kind)) Sound
+begins-by maker c (on.Project name attributes) h = sound-start maker.who name attributes
+begins-by maker c kind h = absurd h
 
 pub begins-sound : BeginsSound
-begins-sound event s = begins-by event.who event.when event.change event.what s.project
+begins-sound event s = begins-by (maker_of event) event.change event.what s.project

@@ -15,6 +15,7 @@ use Rattle.ae_log.specs.declared.event.EventKind.{EventKind}
 use Rattle.ae_log.specs.declared.event.EventKind.TheVariants as on
 use Rattle.ae_log.specs.After.{after, change_after, where_number}
 use Rattle.ae_log.specs.Applies.{comes_in}
+use Rattle.ae_log.specs.Maker.{Maker}
 use Rattle.ae_log.proofs.Steps.{of_change}
 use Rattle.ae_log.proofs.OneChange.{each-own, own-good}
 use Rattle.ae_log.proofs.Steady.{Steady, steady-deltas, steady-entries}
@@ -39,12 +40,12 @@ pub ended-fail : (p : Phase) → comes_in on.Fail p ≡ true → IsEnded p
 ended-fail phase.BeingReviewed e = record { developed = refl; integrator = refl; integrating = refl; completed = refl }
 ended-fail _ e = cc
 
-module _ (o : Observation) (s : Sound o) (who : List ℕ) (when c : ℕ) (moment : IsMoment when) (x : Change) (at_c : change_in o.changes c ≡ Some x) where
+module _ (o : Observation) (s : Sound o) (maker : Maker) (c : ℕ) (moment : IsMoment maker.when) (x : Change) (at_c : change_in o.changes c ≡ Some x) where
   abbrev pub good : IsGoodChange x
   good = s.changes.good c x at_c
 
   abbrev pub then_by : EventKind → Change → Change
-  then_by kind = change_after o.project.next_version (of_change who when c kind)
+  then_by kind = change_after o.project.next_version (of_change maker c kind)
 
   calm-back : (y : Change) → is_integrating y.phase ≡ false → is_completed y.phase ≡ false → IsEnded x.phase → Calm x y
   calm-back y i d e = record {
@@ -53,7 +54,7 @@ module _ (o : Observation) (s : Sound o) (who : List ℕ) (when c : ℕ) (moment
     files = λ f. absurd (false≢true (sym (or_from (is_integrating x.phase) (is_completed x.phase) e.integrating e.completed) ∙ f));
   }
 
-  pub sound-end_undo : IsEnded x.phase → Sound (after o (of_change who when c on.EndUndo))
+  pub sound-end_undo : IsEnded x.phase → Sound (after o (of_change maker c on.EndUndo))
   sound-end_undo e = let calm = calm-back (then_by on.EndUndo x) refl refl e in record {
     project = s.project;
     rows = s.rows;
@@ -71,7 +72,7 @@ module _ (o : Observation) (s : Sound o) (who : List ℕ) (when c : ℕ) (moment
     candidate = calm-candidate o s c (then_by on.EndUndo) (λ _. refl) x at_c calm;
   }
 
-  pub sound-fail : IsEnded x.phase → Sound (after o (of_change who when c on.Fail))
+  pub sound-fail : IsEnded x.phase → Sound (after o (of_change maker c on.Fail))
   sound-fail e = let calm = calm-back (then_by on.Fail x) refl refl e in record {
     project = s.project;
     rows = s.rows;
@@ -99,7 +100,7 @@ module _ (o : Observation) (s : Sound o) (who : List ℕ) (when c : ℕ) (moment
   steady-integrated : (y : Change) → is_completed y.phase ≡ false → x.phase ≡ phase.BeingIntegrated → Steady x y
   steady-integrated y d is = record { completed = d ∙ ap is_completed (sym is); files = λ e. absurd (false≢true (sym (ap is_completed is) ∙ e)) }
 
-  pub sound-integrate_fail : x.phase ≡ phase.BeingIntegrated → Sound (after o (of_change who when c on.IFail))
+  pub sound-integrate_fail : x.phase ≡ phase.BeingIntegrated → Sound (after o (of_change maker c on.IFail))
   sound-integrate_fail is = let steady = steady-integrated (then_by on.IFail x) refl is in record {
     project = s.project;
     rows = s.rows;

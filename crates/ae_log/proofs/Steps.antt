@@ -20,18 +20,19 @@ use Rattle.ae_log.specs.Settings.{attributes, change_attributes, is_there, chang
 use Rattle.ae_log.specs.Baseline.{holds}
 use Rattle.ae_log.specs.Observed.{observation, observation_with, change, change_with, lock, lock_of}
 use Rattle.ae_log.specs.After.{after, where_number}
+use Rattle.ae_log.specs.Maker.{Maker, event_by}
 use Rattle.ae_log.proofs.Lists.{option_map-step, filter_map-step, filter-same, find-same}
 use Rattle.ae_log.proofs.Listed.{own_change}
 
-abbrev pub of_change : List ℕ → ℕ → ℕ → EventKind → Event
-of_change who when c kind = record { who = who; when = when; change = Some c; what = kind }
+abbrev pub of_change : Maker → ℕ → EventKind → Event
+of_change maker c kind = event_by maker (Some c) kind
 
-abbrev pub of_none : List ℕ → ℕ → EventKind → Event
-of_none who when kind = record { who = who; when = when; change = None; what = kind }
+abbrev pub of_none : Maker → EventKind → Event
+of_none maker kind = event_by maker None kind
 
 -- the event, and the log before it
-abbrev pub happens : Log → List ℕ → ℕ → ℕ → EventKind → Happened
-happens log who when c kind = record { event = of_change who when c kind; before = log }
+abbrev pub happens : Log → Maker → ℕ → EventKind → Happened
+happens log maker c kind = record { event = of_change maker c kind; before = log }
 
 -- what stands is its parts
 pub same-parts : (o q : Observation) → o.project ≡ q.project → o.numbers ≡ q.numbers → o.files ≡ q.files → o.locks ≡ q.locks → o.changes ≡ q.changes → o ≡ q
@@ -40,21 +41,21 @@ same-parts o q p n f l c = λ i. record { project = p i; numbers = n i; files = 
 -- ---- facts of courses
 
 -- a fact of the course, after an event of a change
-pub course-fact : {A : Type 0} (f : Course → A) (log : Log) (who : List ℕ) (when c : ℕ) (kind : EventKind) (n : ℕ)
-    → f (course (of_change who when c kind ∷ log) n) ≡ cond (nat_eq c n) (f (continued kind (happens log who when c kind) (course log n))) (f (course log n))
-course-fact f log who when c kind n =
-    elim (nat_eq c n) as (λ b. f (cond b (continued kind (happens log who when c kind) (course log n)) (course log n)) ≡ cond b (f (continued kind (happens log who when c kind) (course log n))) (f (course log n))) [
+pub course-fact : {A : Type 0} (f : Course → A) (log : Log) (maker : Maker) (c : ℕ) (kind : EventKind) (n : ℕ)
+    → f (course (of_change maker c kind ∷ log) n) ≡ cond (nat_eq c n) (f (continued kind (happens log maker c kind) (course log n))) (f (course log n))
+course-fact f log maker c kind n =
+    elim (nat_eq c n) as (λ b. f (cond b (continued kind (happens log maker c kind) (course log n)) (course log n)) ≡ cond b (f (continued kind (happens log maker c kind) (course log n))) (f (course log n))) [
       | true ↦ refl
       | false ↦ refl
     ]
 
 -- one that is as before for the event's own change is so for all
-pub fact-same : {A : Type 0} (f : Course → A) (log : Log) (who : List ℕ) (when c : ℕ) (kind : EventKind) (n : ℕ)
-    → (nat_eq c n ≡ true → f (continued kind (happens log who when c kind) (course log n)) ≡ f (course log n))
-    → f (course (of_change who when c kind ∷ log) n) ≡ f (course log n)
-fact-same f log who when c kind n this = course-fact f log who when c kind n ∙ go (nat_eq c n) refl
+pub fact-same : {A : Type 0} (f : Course → A) (log : Log) (maker : Maker) (c : ℕ) (kind : EventKind) (n : ℕ)
+    → (nat_eq c n ≡ true → f (continued kind (happens log maker c kind) (course log n)) ≡ f (course log n))
+    → f (course (of_change maker c kind ∷ log) n) ≡ f (course log n)
+fact-same f log maker c kind n this = course-fact f log maker c kind n ∙ go (nat_eq c n) refl
   where
-    go : (b : Bool) → nat_eq c n ≡ b → cond b (f (continued kind (happens log who when c kind) (course log n))) (f (course log n)) ≡ f (course log n)
+    go : (b : Bool) → nat_eq c n ≡ b → cond b (f (continued kind (happens log maker c kind) (course log n))) (f (course log n)) ≡ f (course log n)
     go true e = this e
     go false e = refl
 
@@ -67,11 +68,11 @@ differ c n apart = go (nat_eq c n) refl
     go false e = refl
 
 -- a fact of the event's change, and of the others
-pub its-fact : {A : Type 0} (f : Course → A) (log : Log) (who : List ℕ) (when c : ℕ) (kind : EventKind) → f (course (of_change who when c kind ∷ log) c) ≡ f (continued kind (happens log who when c kind) (course log c))
-its-fact f log who when c kind = course-fact f log who when c kind c ∙ ap (λ b. cond b (f (continued kind (happens log who when c kind) (course log c))) (f (course log c))) (by_number.same_self c)
+pub its-fact : {A : Type 0} (f : Course → A) (log : Log) (maker : Maker) (c : ℕ) (kind : EventKind) → f (course (of_change maker c kind ∷ log) c) ≡ f (continued kind (happens log maker c kind) (course log c))
+its-fact f log maker c kind = course-fact f log maker c kind c ∙ ap (λ b. cond b (f (continued kind (happens log maker c kind) (course log c))) (f (course log c))) (by_number.same_self c)
 
-pub other-fact : {A : Type 0} (f : Course → A) (log : Log) (who : List ℕ) (when c : ℕ) (kind : EventKind) (n : ℕ) → (n ≡ c → ⊥) → f (course (of_change who when c kind ∷ log) n) ≡ f (course log n)
-other-fact f log who when c kind n apart = course-fact f log who when c kind n ∙ ap (λ b. cond b (f (continued kind (happens log who when c kind) (course log n))) (f (course log n))) (differ c n apart)
+pub other-fact : {A : Type 0} (f : Course → A) (log : Log) (maker : Maker) (c : ℕ) (kind : EventKind) (n : ℕ) → (n ≡ c → ⊥) → f (course (of_change maker c kind ∷ log) n) ≡ f (course log n)
+other-fact f log maker c kind n apart = course-fact f log maker c kind n ∙ ap (λ b. cond b (f (continued kind (happens log maker c kind) (course log n))) (f (course log n))) (differ c n apart)
 
 -- ---- an event that neither makes a change nor takes it away
 
@@ -92,38 +93,38 @@ own_moves c n h ss same = go (change_attributes ss)
     go (Some a) = ap (λ b. Some (cond b (h (change_with n ss a)) (change_with n ss a))) (sym same)
     go None = refl
 
-change-step : (log : Log) (who : List ℕ) (when c : ℕ) (kind : EventKind) (h : Change → Change) → GoesOn kind → Moves log (happens log who when c kind) c h
-    → (n : ℕ) → change n (course (of_change who when c kind ∷ log) n) ≡ option_map (where_number c h) (change n (course log n))
-change-step log who when c kind h goes this n =
-    elim (nat_eq c n) as (λ b. nat_eq c n ≡ b → change n (cond b (continued kind (happens log who when c kind) (course log n)) (course log n)) ≡ option_map (where_number c h) (change n (course log n))) [
+change-step : (log : Log) (maker : Maker) (c : ℕ) (kind : EventKind) (h : Change → Change) → GoesOn kind → Moves log (happens log maker c kind) c h
+    → (n : ℕ) → change n (course (of_change maker c kind ∷ log) n) ≡ option_map (where_number c h) (change n (course log n))
+change-step log maker c kind h goes this n =
+    elim (nat_eq c n) as (λ b. nat_eq c n ≡ b → change n (cond b (continued kind (happens log maker c kind) (course log n)) (course log n)) ≡ option_map (where_number c h) (change n (course log n))) [
       | true ↦ λ e. ap (change n) (goes _ (course log n)) ∙ this n e ∙ own_moves c n h (course log n) e
       | false ↦ λ e. other_stays c n h (course log n) e
     ] refl
 
 -- what an event makes of its own change it makes of that one among all
-pub changes-step : (log : Log) (who : List ℕ) (when c : ℕ) (kind : EventKind) (h : Change → Change) → GoesOn kind → Moves log (happens log who when c kind) c h
-    → filter_map (λ n. change n (course (of_change who when c kind ∷ log) n)) change_numbers ≡ map (where_number c h) (filter_map (λ n. change n (course log n)) change_numbers)
-changes-step log who when c kind h goes this = filter_map-step _ (λ n. change n (course log n)) (where_number c h) (change-step log who when c kind h goes this) change_numbers
+pub changes-step : (log : Log) (maker : Maker) (c : ℕ) (kind : EventKind) (h : Change → Change) → GoesOn kind → Moves log (happens log maker c kind) c h
+    → filter_map (λ n. change n (course (of_change maker c kind ∷ log) n)) change_numbers ≡ map (where_number c h) (filter_map (λ n. change n (course log n)) change_numbers)
+changes-step log maker c kind h goes this = filter_map-step _ (λ n. change n (course log n)) (where_number c h) (change-step log maker c kind h goes this) change_numbers
 
 -- no number comes or goes where the event's own change is there as before
-pub numbers-stay : (log : Log) (who : List ℕ) (when c : ℕ) (kind : EventKind)
-    → ((n : ℕ) → nat_eq c n ≡ true → is_there (continued kind (happens log who when c kind) (course log n)) ≡ is_there (course log n))
-    → numbers (of_change who when c kind ∷ log) ≡ numbers log
-numbers-stay log who when c kind this = filter-same _ _ (λ n. fact-same is_there log who when c kind n (this n)) change_numbers
+pub numbers-stay : (log : Log) (maker : Maker) (c : ℕ) (kind : EventKind)
+    → ((n : ℕ) → nat_eq c n ≡ true → is_there (continued kind (happens log maker c kind) (course log n)) ≡ is_there (course log n))
+    → numbers (of_change maker c kind ∷ log) ≡ numbers log
+numbers-stay log maker c kind this = filter-same _ _ (λ n. fact-same is_there log maker c kind n (this n)) change_numbers
 
 -- ---- locks that stay
 
 -- no lock comes or goes where the event's own change holds as before
-pub locks-stay : (log : Log) (who : List ℕ) (when c : ℕ) (kind : EventKind)
-    → ((p : List ℕ) (n : ℕ) → nat_eq c n ≡ true → holds p (continued kind (happens log who when c kind) (course log n)) ≡ holds p (course log n))
-    → (p : List ℕ) → lock (of_change who when c kind ∷ log) p ≡ lock log p
-locks-stay log who when c kind this p =
-    ap (option_map (lock_of p)) (find-same (λ n. holds p (course (of_change who when c kind ∷ log) n)) (λ n. holds p (course log n)) (λ n. fact-same (holds p) log who when c kind n (this p n)) change_numbers)
+pub locks-stay : (log : Log) (maker : Maker) (c : ℕ) (kind : EventKind)
+    → ((p : List ℕ) (n : ℕ) → nat_eq c n ≡ true → holds p (continued kind (happens log maker c kind) (course log n)) ≡ holds p (course log n))
+    → (p : List ℕ) → lock (of_change maker c kind ∷ log) p ≡ lock log p
+locks-stay log maker c kind this p =
+    ap (option_map (lock_of p)) (find-same (λ n. holds p (course (of_change maker c kind ∷ log) n)) (λ n. holds p (course log n)) (λ n. fact-same (holds p) log maker c kind n (this p n)) change_numbers)
 
 -- a change that holds none before and after
-pub holds-none : (log : Log) (who : List ℕ) (when c : ℕ) (kind : EventKind) → holds_locks (phase_of (course log c)) ≡ false → holds_locks (phase_of (continued kind (happens log who when c kind) (course log c))) ≡ false
-    → (p : List ℕ) (n : ℕ) → nat_eq c n ≡ true → holds p (continued kind (happens log who when c kind) (course log n)) ≡ holds p (course log n)
-holds-none log who when c kind none none_then p n e = subst (λ m. holds p (continued kind (happens log who when c kind) (course log m)) ≡ holds p (course log m)) (eqb-true c n e) (and_right _ _ none_then ∙ sym (and_right _ _ none))
+pub holds-none : (log : Log) (maker : Maker) (c : ℕ) (kind : EventKind) → holds_locks (phase_of (course log c)) ≡ false → holds_locks (phase_of (continued kind (happens log maker c kind) (course log c))) ≡ false
+    → (p : List ℕ) (n : ℕ) → nat_eq c n ≡ true → holds p (continued kind (happens log maker c kind) (course log n)) ≡ holds p (course log n)
+holds-none log maker c kind none none_then p n e = subst (λ m. holds p (continued kind (happens log maker c kind) (course log m)) ≡ holds p (course log m)) (eqb-true c n e) (and_right _ _ none_then ∙ sym (and_right _ _ none))
 
 -- ---- what is found
 

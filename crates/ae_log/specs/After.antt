@@ -30,6 +30,7 @@ use Rattle.ae_types.specs.Frozen.{numbered, ref_of, frozen_file, version_of, pre
 use Rattle.ae_log.specs.declared.event.Event.{Event}
 use Rattle.ae_log.specs.declared.event.EventKind.{EventKind}
 use Rattle.ae_log.specs.declared.event.EventKind.TheVariants as on
+use Rattle.ae_log.specs.Maker.{Maker, maker_of}
 use Rattle.ae_log.specs.Phases.{phase_after, word_of, with_row}
 use Rattle.ae_log.specs.Baseline.{deltas_after}
 use Rattle.ae_log.specs.Runs.{evidence_row}
@@ -94,11 +95,11 @@ moved None earlier = earlier
 abbrev pub change_after : ℕ → Event → Change → Change
 change_after next event change =
     let later = changed next event event.what change in
-    record later { phase = moved (phase_after event.what) change.phase; history = with_row (word_of event.what) event.who event.when change.history }
+    record later { phase = moved (phase_after event.what) change.phase; history = with_row (word_of event.what) (maker_of event) change.history }
 
 -- what a New makes
-abbrev pub new_change : List ℕ → ℕ → ℕ → ChangeAttributes → Change
-new_change who when number attributes = record {
+abbrev pub new_change : Maker → ℕ → ChangeAttributes → Change
+new_change maker number attributes = record {
   number = number;
   attributes = attributes;
   phase = phase.AwaitingDevelopment;
@@ -108,7 +109,7 @@ new_change who when number attributes = record {
   integrator = None;
   files = [];
   evidence = [];
-  history = with_row (word_of (on.New attributes)) who when [];
+  history = with_row (word_of (on.New attributes)) maker [];
 }
 
 -- ---- the changes
@@ -118,7 +119,7 @@ abbrev pub where_number : ℕ → (Change → Change) → Change → Change
 where_number number make change = if nat_eq number (number_of_change change) then make change else change
 
 abbrev pub changes_after : ℕ → Event → ℕ → EventKind → List Change → List Change
-changes_after next event number (on.New attributes) changes = put_by nat_cmp number_of_change (new_change event.who event.when number attributes) changes
+changes_after next event number (on.New attributes) changes = put_by nat_cmp number_of_change (new_change (maker_of event) number attributes) changes
 changes_after next event number on.NewUndo changes = filter (λ change. not (nat_eq number (number_of_change change))) changes
 changes_after next event number _ changes = map (where_number number (change_after next event)) changes
 

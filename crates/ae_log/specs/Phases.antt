@@ -7,6 +7,7 @@ use Rattle.ae_base.specs.declared.words.What.TheVariants as word
 use Rattle.ae_types.specs.declared.change.HistoryRow.{HistoryRow}
 use Rattle.ae_log.specs.declared.event.EventKind.{EventKind}
 use Rattle.ae_log.specs.declared.event.EventKind.TheVariants as on
+use Rattle.ae_log.specs.Maker.{Maker, maker_of}
 use Rattle.ae_log.specs.Log.{Happened, Course, Mark, makes, leaves, standing}
 
 -- the phase into which an event takes its change
@@ -64,11 +65,11 @@ word_of on.IFail = Some word.IntegrateFail
 word_of _ = None
 
 -- the rows with one more at the end, where there is a word for it
-abbrev pub with_row : Option What → List ℕ → ℕ → List HistoryRow → List HistoryRow
-with_row (Some word) who when rows = rows ++ record { what = word; who = who; when = when } ∷ []
-with_row None who when rows = rows
+abbrev pub with_row : Option What → Maker → List HistoryRow → List HistoryRow
+with_row (Some word) maker rows = rows ++ record { what = word; who = maker.who; when = maker.when } ∷ []
+with_row None maker rows = rows
 
 -- the events of the change that took it into a phase, in the order in which they happened
 abbrev pub history : Course → List HistoryRow
 history [] = []
-history (happened ∷ course) = with_row (word_of happened.event.what) happened.event.who happened.event.when (history course)
+history (happened ∷ course) = with_row (word_of happened.event.what) (maker_of happened.event) (history course)

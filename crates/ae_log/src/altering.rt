@@ -2,6 +2,7 @@
 ghost use Rattle.std.specs.Prelude.{◌≡◌, OnOk};
 ghost use Rattle.ae_log.specs.After.{changed, change_after, moved};
 ghost use Rattle.ae_log.specs.Applies.{MayAlter};
+ghost use Rattle.ae_log.specs.Maker.{maker_of};
 ghost use Rattle.ae_log.specs.Phases.{phase_after, with_row, word_of};
 
 use crate::development::set_developer;
@@ -53,7 +54,7 @@ fn change_parts(
 
 // The change goes into the phase of the event, and its history gets the row, where the event has one.
 fn enter_phase(alloc: Global, change: &mut Change, event: &Event) -> Result<(), AllocError>
-    ensures { OnOk result (change.new ≡ record change.old { phase = moved (phase_after event.now.what) change.old.phase; history = with_row (word_of event.now.what) event.now.who event.now.when change.old.history }) }
+    ensures { OnOk result (change.new ≡ record change.old { phase = moved (phase_after event.now.what) change.old.phase; history = with_row (word_of event.now.what) (maker_of event.now) change.old.history }) }
 {
     if let Some(phase) = phase_after(&event.what) {
         change.phase = phase;
