@@ -24,7 +24,7 @@ use Rattle.ae_machine.specs.Sight.{change_tree}
 use Rattle.ae_machine.specs.Space.{placing}
 use Rattle.ae_machine.specs.Verdict.{kinds_of, end_of_development}
 use Rattle.ae_machine.proofs.EndPlaces.{read-short}
-use Rattle.ae_machine.proofs.KindsMade.{kinds-all, maker_of}
+use Rattle.ae_machine.proofs.KindsMade.{kinds-all, function_making}
 use Rattle.ae_machine.proofs.Lists.{members-all}
 use Rattle.ae_exec.specs.Writing.{FitsRegion}
 
@@ -65,7 +65,7 @@ end-fits given is short change = (
 
 -- ---- each function
 
-of-alone : (kind : EventKind) (f : Function) → maker_of kind ≡ Some f → FitsRegion kind
+of-alone : (kind : EventKind) (f : Function) → function_making kind ≡ Some f → FitsRegion kind
 of-alone (on.End tree to places) f maker = cc
 of-alone _ f maker = tt
 

@@ -25,7 +25,7 @@ use Rattle.ae_machine.specs.Legal.{Legal, MayCome, Occasion}
 use Rattle.ae_evidence.specs.Directories.{bytes_of}
 use Rattle.ae_machine.specs.Sight.{bytes_read, content_of, read_at}
 use Rattle.ae_machine.specs.Typed.{IsContent, IsReadFile}
-use Rattle.ae_machine.proofs.KindsMade.{Each, HasEachKind, maker_of, project-maker}
+use Rattle.ae_machine.proofs.KindsMade.{Each, HasEachKind, function_making, project-maker}
 use Rattle.ae_machine.proofs.LegalKinds.{given_after, legal-each}
 use Rattle.ae_machine.proofs.Lists.{all-members, found-so}
 
@@ -64,7 +64,7 @@ abbrev FreezesBytes : EventKind → Type 0
 FreezesBytes (on.End tree to places) = All HasBytes tree
 FreezesBytes _ = Unit {0}
 
-of-alone : (kind : EventKind) (f : Function) → maker_of kind ≡ Some f → FreezesBytes kind
+of-alone : (kind : EventKind) (f : Function) → function_making kind ≡ Some f → FreezesBytes kind
 of-alone (on.End tree to places) f maker = cc
 of-alone _ f maker = tt
 

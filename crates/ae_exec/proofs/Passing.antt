@@ -26,7 +26,7 @@ use Rattle.ae_machine.specs.Space.{placing}
 use Rattle.ae_machine.specs.Verdict.{change_of_events, event_of, events_of, kinds_of}
 use Rattle.ae_machine.proofs.Accepted.{accepted-passes}
 use Rattle.ae_machine.proofs.AcceptedLogs.{accepted-starts}
-use Rattle.ae_machine.proofs.KindsMade.{kinds-all, maker_of}
+use Rattle.ae_machine.proofs.KindsMade.{kinds-all, function_making}
 use Rattle.ae_machine.proofs.LegalRightly.{legal-provided}
 use Rattle.ae_machine.proofs.Lists.{all-members}
 use Rattle.ae_exec.specs.Holding.{BaselineIsProvided, MayGive}
@@ -40,7 +40,7 @@ use Rattle.ae_exec.proofs.Shown.{in-list}
 abbrev PassesAlone : Function → Given → EventKind → Type 0
 PassesAlone f given kind = kind ≡ on.IPass → (makes_runs f ≡ false) × (kinds_of f given ≡ on.IPass ∷ [])
 
-passes-quietly : (f : Function) → maker_of on.IPass ≡ Some f → makes_runs f ≡ false
+passes-quietly : (f : Function) → function_making on.IPass ≡ Some f → makes_runs f ≡ false
 passes-quietly f maker = ap makes_runs (sym (same_Some function.IntegratePass f maker))
 
 pass-alone : (f : Function) (given : Given) → In (kinds_of f given) on.IPass → (makes_runs f ≡ false) × (kinds_of f given ≡ on.IPass ∷ [])
@@ -51,7 +51,7 @@ pass-alone f given there = all-members (PassesAlone f given) (kinds_of f given) 
   unfiled = λ path is. cc;
   ran = λ makes change there run among is. cc;
   ended = λ ends change there is. cc;
-  alone = λ kind maker only is. (passes-quietly f (ap maker_of (sym is) ∙ maker), only ∙ ap (λ (k : EventKind). k ∷ []) is);
+  alone = λ kind maker only is. (passes-quietly f (ap function_making (sym is) ∙ maker), only ∙ ap (λ (k : EventKind). k ∷ []) is);
 })) on.IPass there refl
 
 -- ---- the events of an answer

@@ -24,7 +24,8 @@ use Rattle.ae_log.proofs.PassedTree.{frozen_own, at-put_rows}
 use Rattle.ae_machine.specs.declared.view.View.{View}
 use Rattle.ae_machine.specs.Call.{Call, Given}
 use Rattle.ae_machine.specs.Rules.{PathsWithRule, PathsEverRule, CandidateRule, BaseTreeRule, there_by, row_by, path_of_row, bytes_row_at, row_with_bytes, is_test_read, row_of_base}
-use Rattle.ae_machine.specs.Sight.{row_at, with_bytes, kept_paths, read_at, tree_read, paths_read, overlaid, only_tests, base_tree}
+use Rattle.ae_files.specs.InTree.{row_at}
+use Rattle.ae_machine.specs.Sight.{with_bytes, kept_paths, read_at, tree_read, paths_read, overlaid, only_tests, base_tree}
 use Rattle.ae_evidence.specs.Directories.{bytes_of}
 use Rattle.ae_machine.proofs.PathsThere.{keys-has, paths-by, with-has}
 use Rattle.ae_machine.proofs.PathsUp.{baseline-up, keys-up, paths-with-ascend, with-up}

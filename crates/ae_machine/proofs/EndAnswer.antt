@@ -25,7 +25,7 @@ use Rattle.ae_machine.specs.Call.{Call, Given, call_of, change_of, first_of, unl
 use Rattle.ae_machine.specs.Freezing.{change_is_small, develop_runs_count, files_are_as_asked, first_content_refused, first_difference, size_of, versions_have_places}
 use Rattle.ae_machine.specs.Permission.{may_come_in, right_change, right_phase, right_project, within}
 use Rattle.ae_machine.specs.Sight.{change_tree, paths_read}
-use Rattle.ae_machine.specs.Verdict.{answer, asked, asked_of_sight, change_of_events, ends, event_of, events_of, is_new_project, kinds_of, phase_behind, refused_before}
+use Rattle.ae_machine.specs.Verdict.{answer, asked, asked_of_sight, change_of_events, ends, event_of, events_of, is_new_project, kinds_of, next_phase, refused_before}
 use Rattle.ae_machine.specs.Versions.{files_refused, kept_files_refused}
 use Rattle.ae_machine.proofs.AcceptedRoles.{both-none}
 
@@ -130,8 +130,8 @@ tree-why given change tree why found there is asks =
 -- and its end
 pub end-of : (given : Given) (change : Change) (tree : Rows) → tree ≡ change_tree given change
     → answer (unless (is_some (given.places given.call.stands tree)) SpaceFull)
-    (event_of given.call.who given.when given.call.command.change (on.End tree (phase_behind given.call.stands.project.attributes.develop_end_action) (unwrap_or (given.places given.call.stands tree) [])) ∷ [])
+    (event_of given.call.who given.when given.call.command.change (on.End tree (next_phase given.call.stands.project.attributes.develop_end_action) (unwrap_or (given.places given.call.stands tree) [])) ∷ [])
     ≡ answer (versions_have_places given change) (these given (Some change))
 end-of given change tree is =
     ap (λ (rows : Rows). answer (unless (is_some (given.places given.call.stands rows)) SpaceFull)
-    (event_of given.call.who given.when given.call.command.change (on.End rows (phase_behind given.call.stands.project.attributes.develop_end_action) (unwrap_or (given.places given.call.stands rows) [])) ∷ [])) is
+    (event_of given.call.who given.when given.call.command.change (on.End rows (next_phase given.call.stands.project.attributes.develop_end_action) (unwrap_or (given.places given.call.stands rows) [])) ∷ [])) is

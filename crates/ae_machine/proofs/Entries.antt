@@ -17,8 +17,8 @@ use Rattle.ae_types.specs.Trees.{tree_path, entry_row, last_up_to, tree_at, tree
 use Rattle.ae_base.specs.Rows.{text_cmp}
 use Rattle.ae_types.proofs.Keys.{by_text}
 use Rattle.ae_types.proofs.Ordered.{at-rows}
-use Rattle.ae_machine.specs.Filing.{usage_of_row}
-use Rattle.ae_machine.specs.Sight.{row_at}
+use Rattle.ae_evidence.specs.Needs.{usage_of}
+use Rattle.ae_files.specs.InTree.{row_at}
 
 -- ---- one entry more
 
@@ -54,17 +54,17 @@ usage_by (Some entry) = if is_some entry.version then Some entry.usage else None
 usage_by None = None
 
 -- the usage of a path's row
-pub usage-is : (o : Observation) (delta : ℕ) (path : List ℕ) → Sound o → option_map usage_of_row (row_at (tree_of o delta) path) ≡ option_and_then (λ (row : FileRow). usage_by (last_up_to delta row.past)) (row_in o.files path)
-usage-is o delta path s = ap (option_map usage_of_row) (row-at-is delta o.files path s.rows.ascend) ∙ go (row_in o.files path)
+pub usage-is : (o : Observation) (delta : ℕ) (path : List ℕ) → Sound o → option_map usage_of (row_at (tree_of o delta) path) ≡ option_and_then (λ (row : FileRow). usage_by (last_up_to delta row.past)) (row_in o.files path)
+usage-is o delta path s = ap (option_map usage_of) (row-at-is delta o.files path s.rows.ascend) ∙ go (row_in o.files path)
   where
-    of_version : (p : List ℕ) (usage : Usage) (v : Option VersionRef) → option_map usage_of_row (option_map (λ (version : VersionRef). record { path = p; usage = usage; version = version }) v) ≡ (if is_some v then Some usage else None)
+    of_version : (p : List ℕ) (usage : Usage) (v : Option VersionRef) → option_map usage_of (option_map (λ (version : VersionRef). record { path = p; usage = usage; version = version }) v) ≡ (if is_some v then Some usage else None)
     of_version p usage (Some v) = refl
     of_version p usage None = refl
 
-    of_entry : (p : List ℕ) (last : Option FileVersion) → option_map usage_of_row (option_and_then (entry_row p) last) ≡ usage_by last
+    of_entry : (p : List ℕ) (last : Option FileVersion) → option_map usage_of (option_and_then (entry_row p) last) ≡ usage_by last
     of_entry p (Some entry) = of_version p entry.usage entry.version
     of_entry p None = refl
 
-    go : (row : Option FileRow) → option_map usage_of_row (option_and_then (tree_row delta) row) ≡ option_and_then (λ (row : FileRow). usage_by (last_up_to delta row.past)) row
+    go : (row : Option FileRow) → option_map usage_of (option_and_then (tree_row delta) row) ≡ option_and_then (λ (row : FileRow). usage_by (last_up_to delta row.past)) row
     go (Some row) = of_entry row.path (last_up_to delta row.past)
     go None = refl

@@ -21,27 +21,27 @@ use Rattle.ae_machine.specs.Verdict.{kinds_of, end_of_development, ends, event_o
 use Rattle.ae_machine.proofs.Lists.{members-all}
 
 -- the function that makes such a kind, and nothing else
-abbrev pub maker_of : EventKind → Option Function
-maker_of (on.Project name attributes) = Some function.NewProject
-maker_of (on.Attributes attributes) = Some function.ProjectAttributes
-maker_of (on.New attributes) = Some function.NewChange
-maker_of on.NewUndo = Some function.NewChangeUndo
-maker_of (on.ChangeAttributes attributes) = Some function.ChangeAttributes
-maker_of on.Begin = Some function.DevelopBegin
-maker_of on.BeginUndo = Some function.DevelopBeginUndo
-maker_of on.EndUndo = Some function.DevelopEndUndo
-maker_of on.ReviewBegin = Some function.ReviewBegin
-maker_of on.ReviewBeginUndo = Some function.ReviewBeginUndo
-maker_of on.Pass = Some function.ReviewPass
-maker_of on.PassUndo = Some function.ReviewPassUndo
-maker_of on.Fail = Some function.ReviewFail
-maker_of on.IBegin = Some function.IntegrateBegin
-maker_of on.IBeginUndo = Some function.IntegrateBeginUndo
-maker_of on.IPass = Some function.IntegratePass
-maker_of on.IFail = Some function.IntegrateFail
-maker_of _ = None
+abbrev pub function_making : EventKind → Option Function
+function_making (on.Project name attributes) = Some function.NewProject
+function_making (on.Attributes attributes) = Some function.ProjectAttributes
+function_making (on.New attributes) = Some function.NewChange
+function_making on.NewUndo = Some function.NewChangeUndo
+function_making (on.ChangeAttributes attributes) = Some function.ChangeAttributes
+function_making on.Begin = Some function.DevelopBegin
+function_making on.BeginUndo = Some function.DevelopBeginUndo
+function_making on.EndUndo = Some function.DevelopEndUndo
+function_making on.ReviewBegin = Some function.ReviewBegin
+function_making on.ReviewBeginUndo = Some function.ReviewBeginUndo
+function_making on.Pass = Some function.ReviewPass
+function_making on.PassUndo = Some function.ReviewPassUndo
+function_making on.Fail = Some function.ReviewFail
+function_making on.IBegin = Some function.IntegrateBegin
+function_making on.IBeginUndo = Some function.IntegrateBeginUndo
+function_making on.IPass = Some function.IntegratePass
+function_making on.IFail = Some function.IntegrateFail
+function_making _ = None
 
-pub project-maker : (kind : EventKind) → IsProject kind → maker_of kind ≡ Some function.NewProject
+pub project-maker : (kind : EventKind) → IsProject kind → function_making kind ≡ Some function.NewProject
 project-maker (on.Project name attributes) is = refl
 project-maker _ is = absurd is
 
@@ -53,14 +53,14 @@ pub record HasEachKind (P : EventKind → Type 0) (f : Function) (given : Given)
   pub unfiled : (path : List ℕ) → P (on.Unfile path)
   pub ran : makes_runs f ≡ true → (change : Change) → change_of given.call ≡ Some change → (run : RunRow) → In given.view.runs run → P (on.Run (run_event given change run))
   pub ended : f ≡ function.DevelopEnd → (change : Change) → change_of given.call ≡ Some change → P (end_of_development given change)
-  pub alone : (kind : EventKind) → maker_of kind ≡ Some f → kinds_of f given ≡ kind ∷ [] → P kind
+  pub alone : (kind : EventKind) → function_making kind ≡ Some f → kinds_of f given ≡ kind ∷ [] → P kind
 
 -- the lists of each shape
 by-shape : (P : EventKind → Type 0) (f : Function) (given : Given)
     → ((role : Role) → All P (map (on.RoleAdd role) given.call.command.users)) → ((role : Role) → All P (map (on.RoleDrop role) given.call.command.users))
     → All P (map (path_event given.call) given.call.command.paths) → (makes_runs f ≡ true → All P (runs given (change_of given.call)))
     → (f ≡ function.DevelopEnd → All P (ends given (change_of given.call)))
-    → ((kind : EventKind) → maker_of kind ≡ Some f → kinds_of f given ≡ kind ∷ [] → All P (kind ∷ [])) → All P [] → All P (kinds_of f given)
+    → ((kind : EventKind) → function_making kind ≡ Some f → kinds_of f given ≡ kind ∷ [] → All P (kind ∷ [])) → All P [] → All P (kinds_of f given)
 by-shape P function.List given added dropped filed ran ended alone none = none
 by-shape P _ given added dropped filed ran ended alone none = search
 

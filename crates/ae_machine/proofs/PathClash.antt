@@ -28,7 +28,7 @@ use Rattle.ae_types.proofs.TreePaths.{stands}
 use Rattle.ae_words.specs.declared.table.Function.{Function}
 use Rattle.ae_words.specs.declared.table.Function.TheVariants as function
 use Rattle.ae_machine.specs.Call.{Call}
-use Rattle.ae_machine.specs.Filing.{are_clear, are_few, asked_behind}
+use Rattle.ae_machine.specs.Filing.{are_clear, are_few, asked_after}
 use Rattle.ae_machine.specs.LeastClash.{folder_in, row_stays}
 use Rattle.ae_machine.specs.PathClash.{IsClearBut, any_in_folder, asks_for_clashes, file_stays, from_folder, holds_paths, path_clash, place_to}
 use Rattle.ae_machine.specs.Paths.{file_made, files_with, paths_with}
@@ -197,6 +197,6 @@ first-none-of (Some a) b e = cc
 first-none-of None b e = refl
 
 -- where a function asks for clashes and nothing is refused, the files are clear
-pub asked-clear : (f : Function) (o : Observation) (files : List ChangeFile) → asked_behind f o files ≡ None → asks_for_clashes f ≡ true → are_clear o files ≡ None
+pub asked-clear : (f : Function) (o : Observation) (files : List ChangeFile) → asked_after f o files ≡ None → asks_for_clashes f ≡ true → are_clear o files ≡ None
 asked-clear function.List o files e asks = cc
 asked-clear _ o files e asks = let first = first-none-of (are_clear o files) (are_few files) in search

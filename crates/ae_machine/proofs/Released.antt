@@ -18,6 +18,7 @@ use Rattle.ae_log.specs.Baseline.{Entry, TreeFile, deltas, deltas_after, past, w
 use Rattle.ae_log.specs.Files.{FileFact, file, frozen, paths}
 use Rattle.ae_log.specs.Log.{Log, Happened, course}
 use Rattle.ae_log.specs.Observed.{observation, observation_with, change, file_row, file_version}
+use Rattle.ae_log.specs.Maker.{made_by}
 use Rattle.ae_log.proofs.Listed.{own_row, unlisted-past}
 use Rattle.ae_log.proofs.Steps.{of_change, happens, differ, attributes-of}
 use Rattle.ae_machine.specs.Evident.{EvidentAt, Evident}
@@ -36,10 +37,10 @@ some-and P (Some a) h = (a, h)
 some-and P None h = absurd h
 
 -- is the candidate, where the integration is provided for
-passed-is : (log : Log) (who : List ℕ) (when n : ℕ) → ProvidedAt log (of_change who when n on.IPass) (Some n) on.IPass → baseline (of_change who when n on.IPass ∷ log) ≡ candidate log n
+passed-is : (log : Log) (who : List ℕ) (when n : ℕ) → ProvidedAt log (of_change (made_by who when) n on.IPass) (Some n) on.IPass → baseline (of_change (made_by who when) n on.IPass ∷ log) ≡ candidate log n
 passed-is log who when n h =
-    let o = some-and (λ o. IsSomeAnd (change n (course log n)) (IsProvided log (of_change who when n on.IPass) n o)) (observation log) h in
-    let x = some-and (IsProvided log (of_change who when n on.IPass) n o.0) (change n (course log n)) o.1 in
+    let o = some-and (λ o. IsSomeAnd (change n (course log n)) (IsProvided log (of_change (made_by who when) n on.IPass) n o)) (observation log) h in
+    let x = some-and (IsProvided log (of_change (made_by who when) n on.IPass) n o.0) (change n (course log n)) o.1 in
     let provided = x.1 in
     provided.baseline
 
@@ -85,13 +86,13 @@ record IsTraced (log : Log) (entry : Entry) (file : TreeFile) : Type 0 where
   pub passed : pass_of log entry.delta ≡ Some pass
   pub came : CameBy file entry.delta number pass
 
-module _ (log : Log) (who : List ℕ) (when n : ℕ) (provided : ProvidedAt log (of_change who when n on.IPass) (Some n) on.IPass) (evident : EvidentAt log (Some n) on.IPass)
+module _ (log : Log) (who : List ℕ) (when n : ℕ) (provided : ProvidedAt log (of_change (made_by who when) n on.IPass) (Some n) on.IPass) (evident : EvidentAt log (Some n) on.IPass)
     (p : List ℕ) (entry : Entry) (t : TreeFile) (is : entry_file p entry ≡ Some t) where
   abbrev last : ℕ
   last = length (deltas log)
 
   abbrev pass : Happened
-  pass = happens log who when n on.IPass
+  pass = happens log (made_by who when) n on.IPass
 
   abbrev row : DeltaRow
   row = delta_row (last + 1) n pass.event

@@ -18,7 +18,8 @@ use Rattle.ae_machine.specs.Fits.{makes_runs}
 use Rattle.ae_machine.specs.Freezing.{first_content_refused, first_difference, right_files}
 use Rattle.ae_machine.specs.Runs.{config_bytes, version_bytes_of}
 use Rattle.ae_evidence.specs.Directories.{bytes_of}
-use Rattle.ae_machine.specs.Sight.{config_below, config_path, has_config, paths_read, read_at, row_at}
+use Rattle.ae_files.specs.InTree.{row_at}
+use Rattle.ae_machine.specs.Sight.{config_below, config_path, has_config, paths_read, read_at}
 use Rattle.ae_machine.specs.Versions.{files_refused, is_shown, versions_asked, versions_of_change, versions_of_runs}
 
 -- ---- one version

@@ -21,7 +21,8 @@ use Rattle.ae_machine.specs.declared.view.View.{View}
 use Rattle.ae_machine.specs.Call.{Call, Given, change_of}
 use Rattle.ae_machine.specs.Fits.{config_asked, config_row, makes_runs, path_of_row, paths_asked, reads_files}
 use Rattle.ae_machine.specs.Freezing.{content_is_good, first_content_refused, is_these}
-use Rattle.ae_machine.specs.Sight.{config_below, config_path, content_of, has_config, kept, kept_paths, paths_read, read_at, row_at}
+use Rattle.ae_files.specs.InTree.{row_at}
+use Rattle.ae_machine.specs.Sight.{config_below, config_path, content_of, has_config, kept, kept_paths, paths_read, read_at}
 use Rattle.ae_machine.specs.Versions.{config_version, files_refused, is_shown, kept_files_refused, versions_asked, versions_of_runs}
 use Rattle.ae_machine.proofs.ShownVersions.{below-at}
 

@@ -40,7 +40,7 @@ use Rattle.ae_machine.specs.Fits.{paths_asked, reads_files}
 use Rattle.ae_machine.specs.Legal.{Legal, MayCome, Occasion}
 use Rattle.ae_machine.specs.Sight.{kept_paths, paths_read}
 use Rattle.ae_machine.specs.TypedPaths.{ArePaths, LegalHasPaths, PathsAskedAre}
-use Rattle.ae_machine.proofs.KindsMade.{Each, HasEachKind, maker_of, project-maker}
+use Rattle.ae_machine.proofs.KindsMade.{Each, HasEachKind, function_making, project-maker}
 use Rattle.ae_machine.proofs.LegalKinds.{given_after, legal-each}
 use Rattle.ae_machine.proofs.CandidateStands.{is-of}
 use Rattle.ae_machine.proofs.Lists.{all-members, filter-in, members-all}
@@ -53,7 +53,7 @@ HasPath (on.File path action usage origin) = IsPath path
 HasPath _ = Unit {0}
 
 -- what comes alone is no File
-of-alone : (kind : EventKind) (f : Function) → maker_of kind ≡ Some f → HasPath kind
+of-alone : (kind : EventKind) (f : Function) → function_making kind ≡ Some f → HasPath kind
 of-alone (on.File path action usage origin) f maker = cc
 of-alone _ f maker = tt
 

@@ -26,7 +26,8 @@ use Rattle.ae_machine.specs.declared.view.View.{View}
 use Rattle.ae_machine.specs.Call.{given_in, refusal_in}
 use Rattle.ae_machine.specs.Jobs.{AreJobs, IsJob}
 use Rattle.ae_machine.specs.Runs.{command_by_template, needed_of, part_of}
-use Rattle.ae_machine.specs.Sight.{config_path, read_at, row_at}
+use Rattle.ae_files.specs.InTree.{row_at}
+use Rattle.ae_machine.specs.Sight.{config_path, read_at}
 
 -- ---- what was read
 

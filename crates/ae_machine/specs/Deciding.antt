@@ -1,6 +1,8 @@
 -- What is decided of a command with what it sees.
-use Rattle.std.specs.Prelude.{ℕ, List, [], ◌∷◌, Option, Result}
+use Rattle.std.specs.Prelude.{ℕ, List, [], ◌∷◌, is_some, unwrap_or, Option, Result}
+use Rattle.ae_base.specs.Rows.{Rows}
 use Rattle.ae_base.specs.declared.refusal.Refusal.{Refusal}
+use Rattle.ae_base.specs.declared.refusal.Refusal.TheVariants.{SpaceFull}
 use Rattle.ae_conf.specs.Change.{change_attributes}
 use Rattle.ae_conf.specs.Project.{project_attributes}
 use Rattle.ae_types.specs.declared.change.ChangeAttributes.{ChangeAttributes}
@@ -10,8 +12,9 @@ use Rattle.ae_log.specs.declared.event.EventKind.TheVariants as on
 use Rattle.ae_machine.specs.declared.verdict.Verdict.{Verdict}
 use Rattle.ae_machine.specs.declared.view.View.{View}
 use Rattle.ae_machine.specs.Attributes.{file_gives}
-use Rattle.ae_machine.specs.Call.{Call, Given, Placing, given_in, refusal_in}
-use Rattle.ae_machine.specs.Verdict.{answer, event_of, old_change_attributes}
+use Rattle.ae_machine.specs.Call.{Call, Given, Placing, given_in, refusal_in, unless}
+use Rattle.ae_machine.specs.Space.{placing}
+use Rattle.ae_machine.specs.Verdict.{answer, event_of, old_change_attributes, next_phase}
 
 -- what the answer to a call is made of
 abbrev pub given_to : Placing → Call → (ℕ → List ℕ) → ℕ → View → Given
@@ -41,3 +44,10 @@ abbrev pub change_answer : (ChangeAttributes → EventKind) → Option ℕ → C
 change_answer kind change call when view =
     let given = given_in (change_file_seen call view) (change_attributes_of call) in
     answer (refusal_in (change_file_seen call view)) (event_of call.who when change (kind given) ∷ [])
+
+-- refused where a version of the tree finds no place, or accepted with the end of the development
+abbrev pub end_answer : Call → ℕ → Rows → Verdict
+end_answer call when tree =
+    let places = placing call.stands tree in
+    let phase = next_phase call.stands.project.attributes.develop_end_action in
+    answer (unless (is_some places) SpaceFull) (event_of call.who when call.command.change (on.End tree phase (unwrap_or places [])) ∷ [])

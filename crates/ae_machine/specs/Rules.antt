@@ -17,7 +17,8 @@ use Rattle.ae_types.specs.Trees.{TreeRow, tree_path, frozen_row, baseline_of, ca
 use Rattle.ae_machine.specs.Call.{Call, Given}
 use Rattle.ae_machine.specs.Freezing.{paths_ever}
 use Rattle.ae_machine.specs.Paths.{is_in, paths_with}
-use Rattle.ae_machine.specs.Sight.{row_at, read_at, paths_read, base_tree}
+use Rattle.ae_files.specs.InTree.{row_at}
+use Rattle.ae_machine.specs.Sight.{read_at, paths_read, base_tree}
 use Rattle.ae_evidence.specs.Directories.{bytes_of}
 
 -- ---- what ascends

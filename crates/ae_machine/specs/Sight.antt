@@ -5,6 +5,7 @@ use Rattle.std.specs.Str.{bytes_eq}
 use Rattle.ae_base.specs.Rows.{Row, Rows, put_row}
 use Rattle.ae_outside.specs.declared.dir.Content.{Content}
 use Rattle.ae_outside.specs.declared.dir.Content.TheVariants.{Absent}
+use Rattle.ae_files.specs.InTree.{row_at}
 use Rattle.ae_types.specs.declared.change.Change.{Change}
 use Rattle.ae_types.specs.declared.change.ChangeFile.{ChangeFile}
 use Rattle.ae_types.specs.Found.{file_path}
@@ -17,10 +18,6 @@ use Rattle.ae_machine.specs.declared.view.View.{View}
 use Rattle.ae_machine.specs.Call.{Call, Given}
 
 -- ---- trees of what stands
-
--- the file of a tree at this path
-abbrev pub row_at : List TreeRow → List ℕ → Option TreeRow
-row_at rows path = find (λ row. bytes_eq path (tree_path row)) rows
 
 -- the files of a tree, with their bytes
 abbrev pub with_bytes : (ℕ → List ℕ) → List TreeRow → Rows

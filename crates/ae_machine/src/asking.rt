@@ -15,7 +15,8 @@ ghost use Rattle.ae_machine.specs.Fits.{makes_runs, paths_asked, reads_files};
 ghost use Rattle.ae_machine.specs.Freezing.{first_content_refused};
 ghost use Rattle.ae_machine.specs.Jobs.{dir_of_base, dir_of_files};
 ghost use Rattle.ae_machine.specs.Real.{dir_of_runs};
-ghost use Rattle.ae_machine.specs.Sight.{config_below, config_path, has_config, paths_read, row_at};
+ghost use Rattle.ae_files.specs.InTree.{row_at};
+ghost use Rattle.ae_machine.specs.Sight.{config_below, config_path, has_config, paths_read};
 ghost use Rattle.ae_machine.specs.Versions.{config_version, files_refused, rows_based, rows_refreshed};
 
 use crate::View;

@@ -11,11 +11,12 @@ ghost use Rattle.ae_base.specs.Rows.{text_cmp};
 ghost use Rattle.ae_log.specs.After.{new_file};
 ghost use Rattle.ae_machine.specs.declared.verdict.Verdict.TheVariants.{Accept};
 ghost use Rattle.ae_machine.specs.Call.{unless};
-ghost use Rattle.ae_machine.specs.Filing.{is_of_files, usage_of_row, asked_before, are_clear, are_few, asked_behind};
+ghost use Rattle.ae_evidence.specs.Needs.{usage_of};
+ghost use Rattle.ae_machine.specs.Filing.{is_of_files, asked_before, are_clear, are_few, asked_after};
 ghost use Rattle.ae_machine.specs.PathClash.{IsClearBut, asks_for_clashes};
 ghost use Rattle.ae_machine.specs.Paths.{asked_of_path, edit_named, file_made, files_then, files_with, in_baseline, in_change_so, in_trees, is_in, is_in_baseline, not_in_baseline, not_in_change, not_in_change_or_overwritten, path_event, path_refused, paths_are_right, takes_away, tree_named, usage_in_baseline, usage_of_new};
 ghost use Rattle.ae_machine.specs.Refused.{Answers, UnlessMemory};
-ghost use Rattle.ae_machine.specs.Sight.{row_at};
+ghost use Rattle.ae_files.specs.InTree.{row_at};
 ghost use Rattle.ae_machine.specs.Verdict.{event_of};
 
 use crate::Verdict;
@@ -33,7 +34,7 @@ use std::alloc::{AllocError, Global};
 
 // The usage of the path's file at a delta, where it is there.
 fn usage_at(state: &State, delta: usize, path: &Path) -> Option<Usage>
-    ensures { result ≡ option_map usage_of_row (row_at (tree_of state.now delta) path.now) }
+    ensures { result ≡ option_map usage_of (row_at (tree_of state.now delta) path.now) }
 {
     state.note_sound();
     let row = state.row(path)?;
@@ -309,7 +310,7 @@ fn asked_after(
     requires of_files { is_of_files call.now.command.function ≡ true }
     requires ascend { Ascends text_cmp file_path files.now }
     requires clear { were_clear ≡ true → IsClearBut path.now call.now.stands files.now }
-    ensures { Answers (asked_behind call.now.command.function call.now.stands files.now) result }
+    ensures { Answers (asked_after call.now.command.function call.now.stands files.now) result }
 {
     match call.command().function {
         Function::CopyFile | Function::NewFile | Function::NewTest => {

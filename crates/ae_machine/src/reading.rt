@@ -11,7 +11,8 @@ ghost use Rattle.ae_machine.specs.Commands.{config_seen};
 ghost use Rattle.ae_machine.specs.Freezing.{content_is_good, first_content_refused};
 ghost use Rattle.ae_machine.specs.Runs.{subject};
 ghost use Rattle.ae_evidence.specs.Directories.{bytes_of};
-ghost use Rattle.ae_machine.specs.Sight.{bytes_read, config_path, kept, paths_read, read_at, row_at};
+ghost use Rattle.ae_files.specs.InTree.{row_at};
+ghost use Rattle.ae_machine.specs.Sight.{bytes_read, config_path, kept, paths_read, read_at};
 
 use crate::View;
 use crate::runs::is_integrating;

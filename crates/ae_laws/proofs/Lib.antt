@@ -1,0 +1,10 @@
+pub mod RunStatuses
+pub mod ReversedReviews
+pub mod ReversedBegins
+pub mod ReversedMaking
+pub mod ReversedFiles
+pub mod ReversedRemovals
+pub mod ReversedEnd
+pub mod Reversed
+pub mod ExampleCommands
+pub mod ExampleLogs

@@ -1,5 +1,0 @@
-use Rattle.ae_machine.proofs.Released.{legal-released}
-use Rattle.ae_machine.proofs.laws.released_files_are_traced.Goals as goal
-
-pub returns : goal.returns
-returns c = legal-released
