@@ -1,6 +1,7 @@
 pub mod Places
 pub mod RowLists
 pub mod Texts
+pub mod ToldFormats
 pub mod Fine
 pub mod ReadAs
 pub mod Options

@@ -1,4 +1,4 @@
--- The fields of the three state files.
+-- The fields of the three state files. Those of `project` and of a change are by a format.
 use Rattle.std.specs.Prelude.{ℕ, List, [], ◌∷◌, ◌++◌, codes}
 use Rattle.ae_text.specs.Tree.{word, number, str}
 use Rattle.ae_base.specs.Words.{cause_word, phase_word}
@@ -8,16 +8,18 @@ use Rattle.ae_types.specs.declared.file_table.FileRow.{FileRow}
 use Rattle.ae_types.specs.declared.file_table.Lock.{Lock}
 use Rattle.ae_types.specs.declared.change.ChangeAttributes.{ChangeAttributes}
 use Rattle.ae_types.specs.declared.change.Change.{Change}
+use Rattle.ae_schema.specs.declared.format.Format.{Format}
 use Rattle.ae_schema.specs.Records.{Named}
+use Rattle.ae_schema.specs.Formats.{format_field}
 use Rattle.ae_schema.specs.Spelled.{flag, optional, list_of, delta_row, file_row, lock, change_file, evidence_row, history_row}
 use Rattle.ae_types.specs.Settings.{end_action_word}
 
 -- ---- project
 
 -- which format it is, and which project
-abbrev pub identity_fields : Project → List Named
-identity_fields p =
-    (codes "format", number 1)
+abbrev pub identity_fields : Format → Project → List Named
+identity_fields format p =
+    format_field format
     ∷ (codes "store", word (codes "packed"))
     ∷ (codes "name", str p.name)
     ∷ (codes "description", str p.attributes.description)
@@ -57,9 +59,9 @@ counted_fields p numbers =
     ∷ []
 
 -- the fields of `project`, of a project and the numbers of its changes
-abbrev pub project_fields : Project × List ℕ → List Named
-project_fields p =
-    identity_fields p.0 ++ (permission_fields p.0.attributes ++ (default_fields p.0.attributes ++ (role_fields p.0 ++ counted_fields p.0 p.1)))
+abbrev pub project_fields : Format → Project × List ℕ → List Named
+project_fields format p =
+    identity_fields format p.0 ++ (permission_fields p.0.attributes ++ (default_fields p.0.attributes ++ (role_fields p.0 ++ counted_fields p.0 p.1)))
 
 -- ---- files
 
@@ -97,13 +99,13 @@ people_fields c =
     ∷ []
 
 -- its files, its runs and its history
-abbrev pub row_fields : Change → List Named
-row_fields c =
+abbrev pub row_fields : Format → Change → List Named
+row_fields format c =
     (codes "files", list_of change_file c.files)
     ∷ (codes "evidence", list_of evidence_row c.evidence)
-    ∷ (codes "history", list_of history_row c.history)
+    ∷ (codes "history", list_of (history_row format) c.history)
     ∷ []
 
 -- the fields of a change's file
-abbrev pub change_fields : Change → List Named
-change_fields c = subject_fields c ++ (exemption_fields c.attributes ++ (people_fields c ++ row_fields c))
+abbrev pub change_fields : Format → Change → List Named
+change_fields format c = subject_fields c ++ (exemption_fields c.attributes ++ (people_fields c ++ row_fields format c))

@@ -1,5 +1,5 @@
 -- Which values stand in a record: those that their types can hold, whose lists are in their order.
-use Rattle.std.specs.Prelude.{◌≡◌, ◌≤◌, ◌<◌, ◌^◌, ℕ, List, IfSome, All, length}
+use Rattle.std.specs.Prelude.{◌≡◌, ◌≤◌, ◌<◌, ◌^◌, ℕ, List, [], IfSome, All, length}
 use Rattle.std.specs.Ordering.{nat_cmp}
 use Rattle.ae_base.specs.Limits.{most_deltas}
 use Rattle.hex.specs.Hex.{IsBytes}
@@ -15,6 +15,8 @@ use Rattle.ae_types.specs.declared.change.ChangeFile.{ChangeFile}
 use Rattle.ae_types.specs.declared.change.Evidence.{Evidence}
 use Rattle.ae_types.specs.declared.change.HistoryRow.{HistoryRow}
 use Rattle.ae_types.specs.declared.change.Change.{Change}
+use Rattle.ae_schema.specs.declared.format.Format.{Format}
+use Rattle.ae_schema.specs.declared.format.Format.TheVariants.{One, Two}
 use Rattle.ae_types.specs.Ordered.{Ascends, itself}
 use Rattle.ae_types.specs.Found.{file_path, row_path, lock_path}
 use Rattle.ae_base.specs.Rows.{text_cmp}
@@ -65,8 +67,13 @@ FitsOutcome run = IsDigest run.subject × (run.when < 2 ^ 64) × IsUser run.who
 abbrev pub FitsEvidence : Evidence → Type 0
 FitsEvidence run = FitsRun run × FitsOutcome run
 
-abbrev pub FitsHistory : HistoryRow → Type 0
-FitsHistory row = IsUser row.who × (row.when < 2 ^ 64)
+-- in the first format no reason is told
+abbrev pub FitsReason : Format → HistoryRow → Type 0
+FitsReason One row = row.why ≡ []
+FitsReason Two row = Unit {0}
+
+abbrev pub FitsHistory : Format → HistoryRow → Type 0
+FitsHistory format row = IsUser row.who × (row.when < 2 ^ 64) × FitsReason format row
 
 -- ---- what the types can hold
 
@@ -91,11 +98,11 @@ abbrev pub HoldsPeople : Change → Type 0
 HoldsPeople c = IfSome c.developer IsUser × IfSome c.reviewing IsUser × IfSome c.reviewer IsUser × IfSome c.integrator IsUser
 
 -- its files, its runs and its history
-abbrev pub HoldsRows : Change → Type 0
-HoldsRows c = All FitsChangeFile c.files × All FitsEvidence c.evidence × All FitsHistory c.history
+abbrev pub HoldsRows : Format → Change → Type 0
+HoldsRows format c = All FitsChangeFile c.files × All FitsEvidence c.evidence × All (FitsHistory format) c.history
 
-abbrev pub HoldsChange : Change → Type 0
-HoldsChange c = IsChangeNo c.number × HoldsPeople c × HoldsRows c
+abbrev pub HoldsChange : Format → Change → Type 0
+HoldsChange format c = IsChangeNo c.number × HoldsPeople c × HoldsRows format c
 
 -- ---- in their order
 
@@ -119,5 +126,5 @@ FitsProject p = HoldsProject p × ProjectAscends p
 abbrev pub FitsFiles : List FileRow × List Lock → Type 0
 FitsFiles t = HoldsFiles t × FilesAscend t
 
-abbrev pub FitsChange : Change → Type 0
-FitsChange c = HoldsChange c × ChangeAscends c
+abbrev pub FitsChange : Format → Change → Type 0
+FitsChange format c = HoldsChange format c × ChangeAscends c

@@ -19,7 +19,6 @@ use Rattle.ae_types.specs.declared.change.ChangeAttributes.{ChangeAttributes}
 use Rattle.ae_types.specs.declared.change.Change.{Change}
 use Rattle.ae_schema.specs.declared.fields.Then.{Then}
 use Rattle.ae_schema.specs.declared.fields.End.{End}
-use Rattle.ae_schema.specs.declared.project.Format.{Format}
 use Rattle.ae_schema.specs.declared.project.Packed.{Packed}
 
 -- a field, and then others
@@ -38,7 +37,7 @@ abbrev pub PermissionShape : Type 0
 PermissionShape = Then Bool (Then Bool (Then Bool (Then Bool (Then EndAction (Then Bool RoleShape)))))
 
 abbrev pub ProjectShape : Type 0
-ProjectShape = Then Format (Then Packed (Then (List ℕ) (Then (List ℕ) PermissionShape)))
+ProjectShape = Then (Unit {0}) (Then Packed (Then (List ℕ) (Then (List ℕ) PermissionShape)))
 
 -- the settings of these fields
 abbrev pub attributes_from : List ℕ → PermissionShape → Attributes
@@ -75,7 +74,7 @@ project_from f =
 -- the fields of a project and its numbers
 abbrev pub project_shape : Project × List ℕ → ProjectShape
 project_shape p = let project = p.0 in let attributes = project.attributes in
-    then (record {}) (then (record {}) (then project.name (then attributes.description (
+    then tt (then (record {}) (then project.name (then attributes.description (
     then attributes.developer_may_review (then attributes.developer_may_integrate (
     then attributes.reviewer_may_integrate (then attributes.developers_may_create_changes (
     then attributes.develop_end_action (then attributes.default_test_exemption (

@@ -19,6 +19,7 @@ use Rattle.ae_types.specs.declared.change.HistoryRow.{HistoryRow}
 use Rattle.std.specs.List.{IsDistinct}
 use Rattle.ae_base.specs.Names.{IsUser}
 use Rattle.ae_types.specs.Users.{AllDiffer}
+use Rattle.ae_schema.specs.declared.format.Format.TheVariants.{Two}
 use Rattle.ae_schema.specs.Fits.{AreUsers, IsDigest, FitsVersion, FitsDelta, FitsFileVersion, FitsFile, FitsLock, FitsChangeFile, FitsEvidence, FitsHistory}
 
 -- so many zeros
@@ -72,8 +73,8 @@ some_evidence = (
   ((tt, omega arith), (zero_digest_fits, omega arith, refl)),
 )
 
-pub some_history : (row : HistoryRow) × FitsHistory row
-some_history = (record { what = NewChange; who = codes "a"; when = 0 }, (refl, omega arith))
+pub some_history : (row : HistoryRow) × FitsHistory Two row
+some_history = (record { what = NewChange; who = codes "a"; when = 0; why = [] }, (refl, omega arith, tt))
 
 none_twice : AllDiffer []
 unfolding IsDistinct

@@ -4,14 +4,14 @@ ghost use Rattle.std.specs.Ordering.{is_lt};
 ghost use Rattle.std.specs.declared.cmp.Ordering.{Ordering};
 ghost use Rattle.ae_types.specs.Ordered.{ascends};
 
-use crate::value::Value;
+use crate::value::Decode;
 use ae_text::Tree;
 use ae_types::Rows;
 use std::alloc::{AllocError, Global};
 use std::marker::Model;
 
 /// A row that has a key.
-pub(crate) trait Keyed: Value {
+pub(crate) trait Keyed: Decode {
     // What a key is.
     ghost Key: { Type 0 };
 
@@ -71,7 +71,7 @@ impl<T: Keyed> Ascending<T> {
     }
 }
 
-impl<T: Keyed> Value for Ascending<T> {
+impl<T: Keyed> Decode for Ascending<T> {
     ghost use Rattle.std.specs.Prelude.{[], All, refl};
     ghost use Rattle.std.proofs.lemmas.List.Elements.{All-nil};
     ghost use Rattle.ae_schema.specs.Spelled.{list_of};
@@ -85,10 +85,6 @@ impl<T: Keyed> Value for Ascending<T> {
             Some(rows) => Ok(in_order(rows)),
             None => Ok(None),
         }
-    }
-
-    fn to_tree(&self, alloc: Global) -> Result<Tree, AllocError> {
-        self.rows.to_tree(alloc)
     }
 
     ghost some_value = { ([], (All-nil T.Fits, refl)) };

@@ -8,32 +8,36 @@ ghost use Rattle.ae_schema.specs.Files.{subject_fields, exemption_fields, people
 ghost use Rattle.ae_schema.specs.Fits.{IsChangeNo, HoldsPeople, HoldsRows, HoldsChange, FitsChange};
 ghost use Rattle.ae_schema.specs.Shapes.{settings_from, change_from};
 
-use crate::SchemaError;
 use crate::ascending::Ascending;
 use crate::fields::{End, Then};
+use crate::format::{FormatOne, FormatTwo, FormatType};
+use crate::history::History;
 use crate::record::read_record;
 use crate::structure::structure_of;
 use crate::value::{put_both, put_field};
+use crate::{Format, SchemaError};
 use ae_base::{Cause, ChangeNo, Phase, Text, User};
 use ae_text::{Field, print_tree};
-use ae_types::{Change, ChangeAttributes, ChangeFile, Evidence, HistoryList};
+use ae_types::{Change, ChangeAttributes, ChangeFile, Evidence};
 use std::alloc::{AllocError, Global};
 
-type RowFields = Then<Ascending<ChangeFile>, Then<Ascending<Evidence>, Then<HistoryList, End>>>;
+type RowFields<F> = Then<Ascending<ChangeFile>, Then<Ascending<Evidence>, Then<History<F>, End>>>;
 
-type PersonFields = Then<
+type PersonFields<F> = Then<
     Option<User>,
-    Then<Option<User>, Then<Option<User>, Then<Option<User>, RowFields>>>,
+    Then<Option<User>, Then<Option<User>, Then<Option<User>, RowFields<F>>>>,
 >;
 
-type ExemptionFields = Then<bool, Then<bool, Then<bool, Then<Phase, PersonFields>>>>;
+type ExemptionFields<F> = Then<bool, Then<bool, Then<bool, Then<Phase, PersonFields<F>>>>>;
 
-type SettingsFields = Then<Text, Then<Text, Then<Cause, ExemptionFields>>>;
+type SettingsFields<F> = Then<Text, Then<Text, Then<Cause, ExemptionFields<F>>>>;
 
-type ChangeFields = Then<ChangeNo, SettingsFields>;
+type ChangeFields<F> = Then<ChangeNo, SettingsFields<F>>;
 
 // The settings, and the fields after them.
-fn attributes_of(fields: SettingsFields) -> (ChangeAttributes, Then<Phase, PersonFields>)
+fn attributes_of<F: FormatType>(
+    fields: SettingsFields<F>,
+) -> (ChangeAttributes, Then<Phase, PersonFields<F>>)
     ensures settings { result.0 ≡ settings_from fields }
     ensures behind { result.1 ≡ fields.rest.rest.rest.rest.rest.rest }
 {
@@ -66,7 +70,7 @@ fn attributes_of(fields: SettingsFields) -> (ChangeAttributes, Then<Phase, Perso
     (attributes, rest)
 }
 
-fn change_of(fields: ChangeFields) -> Change
+fn change_of<F: FormatType>(fields: ChangeFields<F>) -> Change
     ensures { result ≡ change_from fields }
 {
     let Then {
@@ -110,7 +114,7 @@ fn change_of(fields: ChangeFields) -> Change
         integrator,
         files: files.into_rows(),
         evidence: evidence.into_rows(),
-        history,
+        history: history.into_rows(),
     }
 }
 
@@ -133,23 +137,69 @@ const FIELD_NAMES: [&[u8]; 15] = [
     b"history",
 ];
 
-/// The change of which the bytes are a text.
-pub fn read_change(alloc: Global, bytes: &[u8]) -> Result<Change, SchemaError>
-    // The bytes are a text of the fields of what is read.
-    ensures found { IfOk result (λ c. IsTextOf bytes.now (change_fields c)) }
-    // What is read keeps what its types can hold, and files and runs ascend.
-    ensures fits { IfOk result FitsChange }
-    // A text of the fields of such a change is read as it.
-    ensures only { (c : Change) → FitsChange c → IsTextOf bytes.now (change_fields c) → IsAnswer c result }
-    // A line is that of the first token or field that can't stand there.
-    ensures field { (line : ℕ) → result ≡ Err (SchemaError.Field line) → IsBadLine FitsChange change_fields bytes.now line }
-    // Where a token or field can't stand, that line comes.
-    ensures only_field { (line : ℕ) → IsBadLine FitsChange change_fields bytes.now line → IsRefusal line result }
+// The change of which the bytes are a text in the format of this type.
+fn read_as<F: FormatType>(alloc: Global, bytes: &[u8]) -> Result<Change, SchemaError>
+    ensures found { IfOk result (λ c. IsTextOf bytes.now (change_fields F.format c)) }
+    ensures fits { IfOk result (FitsChange F.format) }
+    ensures only { (c : Change) → FitsChange F.format c → IsTextOf bytes.now (change_fields F.format c) → IsAnswer c result }
+    ensures field { (line : ℕ) → result ≡ Err (SchemaError.Field line) → IsBadLine (FitsChange F.format) (change_fields F.format) bytes.now line }
+    ensures only_field { (line : ℕ) → IsBadLine (FitsChange F.format) (change_fields F.format) bytes.now line → IsRefusal line result }
 {
-    match read_record::<ChangeFields>(alloc, &FIELD_NAMES, bytes) {
+    match read_record::<ChangeFields<F>>(alloc, &FIELD_NAMES, bytes) {
         Ok(fields) => Ok(change_of(fields)),
         Err(error) => Err(error),
     }
+}
+
+/// The change of which the bytes are a text in this format. By the first each reason is empty.
+pub fn read_change_in(alloc: Global, format: Format, bytes: &[u8]) -> Result<Change, SchemaError>
+    // The bytes are a text of the fields of what is read.
+    ensures found { IfOk result (λ c. IsTextOf bytes.now (change_fields format c)) }
+    // What is read keeps what its types can hold, and files and runs ascend.
+    ensures fits { IfOk result (FitsChange format) }
+    // A text of the fields of such a change is read as it.
+    ensures only { (c : Change) → FitsChange format c → IsTextOf bytes.now (change_fields format c) → IsAnswer c result }
+    // A line is that of the first token or field that can't stand there.
+    ensures field { (line : ℕ) → result ≡ Err (SchemaError.Field line) → IsBadLine (FitsChange format) (change_fields format) bytes.now line }
+    // Where a token or field can't stand, that line comes.
+    ensures only_field { (line : ℕ) → IsBadLine (FitsChange format) (change_fields format) bytes.now line → IsRefusal line result }
+{
+    match format {
+        Format::One => read_as::<FormatOne>(alloc, bytes),
+        Format::Two => read_as::<FormatTwo>(alloc, bytes),
+    }
+}
+
+/// The change of which the bytes are a text in the second format.
+pub fn read_change(alloc: Global, bytes: &[u8]) -> Result<Change, SchemaError>
+    // The bytes are a text of the fields of what is read.
+    ensures found { IfOk result (λ c. IsTextOf bytes.now (change_fields Format.Two c)) }
+    // What is read keeps what its types can hold, and files and runs ascend.
+    ensures fits { IfOk result (FitsChange Format.Two) }
+    // A text of the fields of such a change is read as it.
+    ensures only { (c : Change) → FitsChange Format.Two c → IsTextOf bytes.now (change_fields Format.Two c) → IsAnswer c result }
+    // A line is that of the first token or field that can't stand there.
+    ensures field { (line : ℕ) → result ≡ Err (SchemaError.Field line) → IsBadLine (FitsChange Format.Two) (change_fields Format.Two) bytes.now line }
+    // Where a token or field can't stand, that line comes.
+    ensures only_field { (line : ℕ) → IsBadLine (FitsChange Format.Two) (change_fields Format.Two) bytes.now line → IsRefusal line result }
+{
+    read_as::<FormatTwo>(alloc, bytes)
+}
+
+/// The change, each of its reasons empty, of which the bytes are a text in the first format.
+pub fn read_change_1(alloc: Global, bytes: &[u8]) -> Result<Change, SchemaError>
+    // The bytes are a text of the fields of what is read.
+    ensures found { IfOk result (λ c. IsTextOf bytes.now (change_fields Format.One c)) }
+    // What is read keeps what its types can hold, and files and runs ascend.
+    ensures fits { IfOk result (FitsChange Format.One) }
+    // A text of the fields of such a change is read as it.
+    ensures only { (c : Change) → FitsChange Format.One c → IsTextOf bytes.now (change_fields Format.One c) → IsAnswer c result }
+    // A line is that of the first token or field that can't stand there.
+    ensures field { (line : ℕ) → result ≡ Err (SchemaError.Field line) → IsBadLine (FitsChange Format.One) (change_fields Format.One) bytes.now line }
+    // Where a token or field can't stand, that line comes.
+    ensures only_field { (line : ℕ) → IsBadLine (FitsChange Format.One) (change_fields Format.One) bytes.now line → IsRefusal line result }
+{
+    read_as::<FormatOne>(alloc, bytes)
 }
 
 // What the change is about.
@@ -228,8 +278,8 @@ fn put_people(fields: &mut Vec<Field>, alloc: Global, change: &Change) -> Result
 
 // Its files, its runs and its history.
 fn put_rows(fields: &mut Vec<Field>, alloc: Global, change: &Change) -> Result<(), AllocError>
-    ensures fields { OnOk result (map named_node fields.new.items ≡ map named_node fields.old.items ++ row_fields change.now) }
-    ensures fits { OnOk result (HoldsRows change.now) }
+    ensures fields { OnOk result (map named_node fields.new.items ≡ map named_node fields.old.items ++ row_fields Format.Two change.now) }
+    ensures fits { OnOk result (HoldsRows Format.Two change.now) }
 {
     put_both(
         fields,
@@ -245,8 +295,8 @@ fn put_rows(fields: &mut Vec<Field>, alloc: Global, change: &Change) -> Result<(
 
 // The fields of the change's file.
 fn fields_of(alloc: Global, change: &Change) -> Result<Vec<Field>, AllocError>
-    ensures fields { IfOk result (λ fields. map named_node fields.items ≡ change_fields change.now) }
-    ensures fits { OnOk result (HoldsChange change.now) }
+    ensures fields { IfOk result (λ fields. map named_node fields.items ≡ change_fields Format.Two change.now) }
+    ensures fits { OnOk result (HoldsChange Format.Two change.now) }
 {
     let mut fields = Vec::new(alloc);
     put_subject(&mut fields, alloc, change)?;
@@ -256,14 +306,14 @@ fn fields_of(alloc: Global, change: &Change) -> Result<Vec<Field>, AllocError>
     Ok(fields)
 }
 
-/// The text of a change's file.
+/// The text of a change's file in the second format.
 pub fn print_change(alloc: Global, change: &Change) -> Result<Vec<u8>, AllocError>
     // Each field in canonical form.
-    ensures value { IfOk result (λ text. text.items ≡ fields_text (members_of (change_fields change.now))) }
+    ensures value { IfOk result (λ text. text.items ≡ fields_text (members_of (change_fields Format.Two change.now))) }
     // What is printed is a text of the same fields.
-    ensures again { IfOk result (λ text. IsTextOf text.items (change_fields change.now)) }
+    ensures again { IfOk result (λ text. IsTextOf text.items (change_fields Format.Two change.now)) }
     // What is printed keeps what its types can hold.
-    ensures fits { OnOk result (HoldsChange change.now) }
+    ensures fits { OnOk result (HoldsChange Format.Two change.now) }
 {
     let fields = fields_of(alloc, change)?;
     print_tree(alloc, &structure_of(fields))

@@ -1,4 +1,4 @@
-// How the rows of a change are spelled: its files, its runs and its history.
+// How the files and the runs of a change are spelled.
 ghost use Rattle.std.specs.Prelude.{◌≡◌, ◌++◌, OnOk, map};
 ghost use Rattle.ae_schema.specs.Fits.{FitsRun, FitsOutcome};
 ghost use Rattle.ae_text.specs.View.{named_node};
@@ -7,10 +7,10 @@ ghost use Rattle.ae_schema.specs.Shapes.{evidence_from};
 
 use crate::fields::{End, Then};
 use crate::structure::{read_structure, structure_of};
-use crate::value::{Value, put_both, put_field};
-use ae_base::{Action, Ground, Kind, Path, Usage, User, What};
+use crate::value::{Decode, Encode, put_both, put_field};
+use ae_base::{Action, Ground, Kind, Path, Usage, User};
 use ae_text::{Field, Tree};
-use ae_types::{ChangeFile, Evidence, HistoryRow, VersionRef};
+use ae_types::{ChangeFile, Evidence, VersionRef};
 use std::alloc::{AllocError, Global};
 
 type ChangeFileFields = Then<
@@ -18,7 +18,7 @@ type ChangeFileFields = Then<
     Then<Action, Then<Usage, Then<u32, Then<Option<VersionRef>, End>>>>,
 >;
 
-impl Value for ChangeFile {
+impl Decode for ChangeFile {
     ghost use Rattle.ae_schema.specs.Spelled.{change_file};
     ghost use Rattle.ae_schema.specs.Fits.{FitsChangeFile};
     ghost use Rattle.ae_schema.specs.SomeValues.{some_change_file};
@@ -57,6 +57,10 @@ impl Value for ChangeFile {
         }
     }
 
+    ghost some_value = { some_change_file };
+}
+
+impl Encode for ChangeFile {
     fn to_tree(&self, alloc: Global) -> Result<Tree, AllocError> {
         let mut fields = Vec::new(alloc);
         put_both(
@@ -78,8 +82,6 @@ impl Value for ChangeFile {
         put_field(&mut fields, alloc, b"version", &self.frozen)?;
         Ok(structure_of(fields))
     }
-
-    ghost some_value = { some_change_file };
 }
 
 type OutcomeFields = Then<bool, Then<[u8; 32], Then<u64, Then<User, End>>>>;
@@ -148,7 +150,7 @@ fn put_outcome(fields: &mut Vec<Field>, alloc: Global, run: &Evidence) -> Result
     Ok(())
 }
 
-impl Value for Evidence {
+impl Decode for Evidence {
     ghost use Rattle.ae_schema.specs.Spelled.{evidence_row};
     ghost use Rattle.ae_schema.specs.Fits.{FitsEvidence};
     ghost use Rattle.ae_schema.specs.SomeValues.{some_evidence};
@@ -167,49 +169,14 @@ impl Value for Evidence {
         }
     }
 
+    ghost some_value = { some_evidence };
+}
+
+impl Encode for Evidence {
     fn to_tree(&self, alloc: Global) -> Result<Tree, AllocError> {
         let mut fields = Vec::new(alloc);
         put_run(&mut fields, alloc, self)?;
         put_outcome(&mut fields, alloc, self)?;
         Ok(structure_of(fields))
     }
-
-    ghost some_value = { some_evidence };
-}
-
-type HistoryFields = Then<What, Then<User, Then<u64, End>>>;
-
-impl Value for HistoryRow {
-    ghost use Rattle.ae_schema.specs.Spelled.{history_row};
-    ghost use Rattle.ae_schema.specs.Fits.{FitsHistory};
-    ghost use Rattle.ae_schema.specs.SomeValues.{some_history};
-
-    ghost spelled = { history_row };
-
-    ghost Fits = { FitsHistory };
-
-    fn of_tree(alloc: Global, tree: &Tree) -> Result<Option<HistoryRow>, AllocError> {
-        let names: &[&[u8]] = &[b"what", b"who", b"when"];
-        match read_structure::<HistoryFields>(alloc, names, tree)? {
-            Some(fields) => {
-                let Then { first: what, rest } = fields;
-                let Then { first: who, rest } = rest;
-                let Then {
-                    first: when,
-                    rest: End,
-                } = rest;
-                Ok(Some(HistoryRow { what, who, when }))
-            }
-            None => Ok(None),
-        }
-    }
-
-    fn to_tree(&self, alloc: Global) -> Result<Tree, AllocError> {
-        let mut fields = Vec::new(alloc);
-        put_both(&mut fields, alloc, b"what", &self.what, b"who", &self.who)?;
-        put_field(&mut fields, alloc, b"when", &self.when)?;
-        Ok(structure_of(fields))
-    }
-
-    ghost some_value = { some_history };
 }

@@ -4,7 +4,7 @@ ghost use Rattle.ae_text.specs.Tree.{Node};
 ghost use Rattle.ae_text.specs.View.{fields_seen, named_node};
 ghost use Rattle.ae_schema.specs.Records.{named, BadAt, BadFirst, IsWithin, stop_behind};
 
-use crate::value::Value;
+use crate::value::Decode;
 use ae_text::Field;
 use std::alloc::{AllocError, Global};
 
@@ -69,7 +69,7 @@ impl Fields for End {
 }
 
 // The value of the first field, where it has this name.
-fn read_first<A: Value>(alloc: Global, name: &[u8], field: &Field) -> Result<A, Stop>
+fn read_first<A: Decode>(alloc: Global, name: &[u8], field: &Field) -> Result<A, Stop>
     ensures found { IfOk result (λ x. (name.now, A.spelled x) ≡ named_node field.now) }
     ensures fits { IfOk result A.Fits }
     ensures only { (x : A) → A.Fits x → (name.now, A.spelled x) ≡ named_node field.now → IfOk result (λ y. y ≡ x) }
@@ -97,7 +97,7 @@ fn behind(stop: Stop, fields: &[Field]) -> Stop
     }
 }
 
-impl<A: Value, B: Fields> Fields for Then<A, B> {
+impl<A: Decode, B: Fields> Fields for Then<A, B> {
     ghost use Rattle.std.specs.Prelude.{suc, ◌∷◌};
 
     ghost count = { suc B.count };

@@ -15,7 +15,7 @@ use crate::fields::{End, Then};
 use crate::lists::put_list;
 use crate::record::read_record;
 use crate::structure::{read_structure, structure_of};
-use crate::value::{Value, put_both, put_field};
+use crate::value::{Decode, Encode, put_both, put_field};
 use ae_base::{ChangeNo, Delta, Path, Usage};
 use ae_text::{Field, Tree, print_tree};
 use ae_types::{FileRow, FileRows, FileVersion, FileVersionList, Lock, LockList, VersionRef};
@@ -23,7 +23,7 @@ use std::alloc::{AllocError, Global};
 
 type FileVersionFields = Then<Delta, Then<Usage, Then<Option<VersionRef>, End>>>;
 
-impl Value for FileVersion {
+impl Decode for FileVersion {
     ghost use Rattle.ae_schema.specs.Spelled.{file_version};
     ghost use Rattle.ae_schema.specs.Fits.{FitsFileVersion};
     ghost use Rattle.ae_schema.specs.SomeValues.{some_file_version};
@@ -52,6 +52,10 @@ impl Value for FileVersion {
         }
     }
 
+    ghost some_value = { some_file_version };
+}
+
+impl Encode for FileVersion {
     fn to_tree(&self, alloc: Global) -> Result<Tree, AllocError> {
         let mut fields = Vec::new(alloc);
         put_both(
@@ -65,8 +69,6 @@ impl Value for FileVersion {
         put_field(&mut fields, alloc, b"version", &self.version)?;
         Ok(structure_of(fields))
     }
-
-    ghost some_value = { some_file_version };
 }
 
 type FileRowFields = Then<Path, Then<u64, Then<FileVersionList, End>>>;
@@ -89,7 +91,7 @@ fn row_of(fields: FileRowFields) -> Option<FileRow>
     }
 }
 
-impl Value for FileRow {
+impl Decode for FileRow {
     ghost use Rattle.ae_schema.specs.Spelled.{file_row};
     ghost use Rattle.ae_schema.specs.Fits.{FitsFile};
     ghost use Rattle.ae_schema.specs.SomeValues.{some_file};
@@ -106,6 +108,10 @@ impl Value for FileRow {
         }
     }
 
+    ghost some_value = { some_file };
+}
+
+impl Encode for FileRow {
     fn to_tree(&self, alloc: Global) -> Result<Tree, AllocError> {
         let edit = self.past.len() as u64;
         let mut fields = Vec::new(alloc);
@@ -113,13 +119,11 @@ impl Value for FileRow {
         put_field(&mut fields, alloc, b"past", &self.past)?;
         Ok(structure_of(fields))
     }
-
-    ghost some_value = { some_file };
 }
 
 type LockFields = Then<Path, Then<ChangeNo, End>>;
 
-impl Value for Lock {
+impl Decode for Lock {
     ghost use Rattle.ae_schema.specs.Spelled.{lock};
     ghost use Rattle.ae_schema.specs.Fits.{FitsLock};
     ghost use Rattle.ae_schema.specs.SomeValues.{some_lock};
@@ -143,6 +147,10 @@ impl Value for Lock {
         }
     }
 
+    ghost some_value = { some_lock };
+}
+
+impl Encode for Lock {
     fn to_tree(&self, alloc: Global) -> Result<Tree, AllocError> {
         let mut fields = Vec::new(alloc);
         put_both(
@@ -155,8 +163,6 @@ impl Value for Lock {
         )?;
         Ok(structure_of(fields))
     }
-
-    ghost some_value = { some_lock };
 }
 
 type FileTableFields = Then<Ascending<FileRow>, Then<Ascending<Lock>, End>>;

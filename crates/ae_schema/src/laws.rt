@@ -4,6 +4,7 @@ ghost use Rattle.ae_types.specs.declared.project.Project.{Project};
 ghost use Rattle.ae_types.specs.declared.file_table.FileRow.{FileRow};
 ghost use Rattle.ae_types.specs.declared.file_table.Lock.{Lock};
 ghost use Rattle.ae_types.specs.declared.change.Change.{Change};
+ghost use Rattle.ae_schema.specs.declared.format.Format.{Format};
 ghost use Rattle.ae_schema.specs.Records.{IsTextOf, IsRecord, IsBadLine, HasBadLine, IsAnswer};
 ghost use Rattle.ae_schema.specs.Files.{project_fields, files_fields, change_fields};
 ghost use Rattle.ae_schema.specs.Fits.{ProjectAscends, FilesAscend, ChangeAscends, FitsProject, FitsFiles, FitsChange};
@@ -15,25 +16,33 @@ use ae_base::ChangeNo;
 use ae_types::{Change, FileRow, FileRows, Lock, LockList, NumberList, Project};
 use std::alloc::Global;
 
-/// Each text is a project's record or has a bad line, never both, and never two.
+/// In each format each text is a project's record or has a bad line, never both, and never two.
 pub fn note_project_lines()
-    ensures every { (bytes : List ℕ) → IsRecord FitsProject project_fields bytes ⊎ HasBadLine FitsProject project_fields bytes }
-    ensures never_both { (bytes : List ℕ) (p : Project × List ℕ) (line : ℕ) → FitsProject p → IsTextOf bytes (project_fields p) → IsBadLine FitsProject project_fields bytes line → ⊥ }
-    ensures one_line { (bytes : List ℕ) (line other : ℕ) → IsBadLine FitsProject project_fields bytes line → IsBadLine FitsProject project_fields bytes other → line ≡ other }
+    ensures every { (format : Format) (bytes : List ℕ)
+        → IsRecord FitsProject (project_fields format) bytes ⊎ HasBadLine FitsProject (project_fields format) bytes }
+    ensures never_both { (format : Format) (bytes : List ℕ) (p : Project × List ℕ) (line : ℕ)
+        → FitsProject p → IsTextOf bytes (project_fields format p) → IsBadLine FitsProject (project_fields format) bytes line → ⊥ }
+    ensures one_line { (format : Format) (bytes : List ℕ) (line other : ℕ)
+        → IsBadLine FitsProject (project_fields format) bytes line → IsBadLine FitsProject (project_fields format) bytes other → line ≡ other }
 {}
 
 /// Each text is a file table or has a bad line, never both, and never two.
 pub fn note_files_lines()
     ensures every { (bytes : List ℕ) → IsRecord FitsFiles files_fields bytes ⊎ HasBadLine FitsFiles files_fields bytes }
-    ensures never_both { (bytes : List ℕ) (t : List FileRow × List Lock) (line : ℕ) → FitsFiles t → IsTextOf bytes (files_fields t) → IsBadLine FitsFiles files_fields bytes line → ⊥ }
-    ensures one_line { (bytes : List ℕ) (line other : ℕ) → IsBadLine FitsFiles files_fields bytes line → IsBadLine FitsFiles files_fields bytes other → line ≡ other }
+    ensures never_both { (bytes : List ℕ) (t : List FileRow × List Lock) (line : ℕ)
+        → FitsFiles t → IsTextOf bytes (files_fields t) → IsBadLine FitsFiles files_fields bytes line → ⊥ }
+    ensures one_line { (bytes : List ℕ) (line other : ℕ)
+        → IsBadLine FitsFiles files_fields bytes line → IsBadLine FitsFiles files_fields bytes other → line ≡ other }
 {}
 
-/// Each text is a change's record or has a bad line, never both, and never two.
+/// In each format each text is a change's record or has a bad line, never both, and never two.
 pub fn note_change_lines()
-    ensures every { (bytes : List ℕ) → IsRecord FitsChange change_fields bytes ⊎ HasBadLine FitsChange change_fields bytes }
-    ensures never_both { (bytes : List ℕ) (c : Change) (line : ℕ) → FitsChange c → IsTextOf bytes (change_fields c) → IsBadLine FitsChange change_fields bytes line → ⊥ }
-    ensures one_line { (bytes : List ℕ) (line other : ℕ) → IsBadLine FitsChange change_fields bytes line → IsBadLine FitsChange change_fields bytes other → line ≡ other }
+    ensures every { (format : Format) (bytes : List ℕ)
+        → IsRecord (FitsChange format) (change_fields format) bytes ⊎ HasBadLine (FitsChange format) (change_fields format) bytes }
+    ensures never_both { (format : Format) (bytes : List ℕ) (c : Change) (line : ℕ)
+        → FitsChange format c → IsTextOf bytes (change_fields format c) → IsBadLine (FitsChange format) (change_fields format) bytes line → ⊥ }
+    ensures one_line { (format : Format) (bytes : List ℕ) (line other : ℕ)
+        → IsBadLine (FitsChange format) (change_fields format) bytes line → IsBadLine (FitsChange format) (change_fields format) bytes other → line ≡ other }
 {}
 
 /// The project and numbers, printed and read: the same where the numbers ascend, or memory ran out.

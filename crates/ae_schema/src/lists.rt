@@ -4,14 +4,14 @@ ghost use Rattle.ae_text.specs.View.{node, named_node};
 ghost use Rattle.ae_schema.specs.Spelled.{list_of};
 
 use crate::parts::list_in;
-use crate::value::Value;
+use crate::value::{Decode, Encode};
 use ae_base::{User, UserList};
 use ae_text::{Field, Tree, TreeList};
 use ae_types::{Rows, UserSet};
 use std::alloc::{AllocError, Global};
 
 // The rows that the trees spell, one each.
-fn read_rows<T: Value>(alloc: Global, trees: &[Tree]) -> Result<Option<Vec<T>>, AllocError>
+fn read_rows<T: Decode>(alloc: Global, trees: &[Tree]) -> Result<Option<Vec<T>>, AllocError>
     ensures some { IfOk result (λ read. IfSome read (λ rows. All T.Fits rows.items × (map T.spelled rows.items ≡ map node trees.now))) }
     ensures only { (xs : List T) → All T.Fits xs → map T.spelled xs ≡ map node trees.now → IfOk result (λ read. IsSomeAnd read (λ rows. rows.items ≡ xs)) }
 {
@@ -26,7 +26,7 @@ fn read_rows<T: Value>(alloc: Global, trees: &[Tree]) -> Result<Option<Vec<T>>, 
 }
 
 // The trees of the rows.
-fn row_trees<T: Value>(alloc: Global, rows: &[T]) -> Result<Vec<Tree>, AllocError>
+fn row_trees<T: Encode>(alloc: Global, rows: &[T]) -> Result<Vec<Tree>, AllocError>
     ensures trees { IfOk result (λ trees. map node trees.items ≡ map T.spelled rows.now) }
     ensures fits { OnOk result (All T.Fits rows.now) }
 {
@@ -38,7 +38,7 @@ fn row_trees<T: Value>(alloc: Global, rows: &[T]) -> Result<Vec<Tree>, AllocErro
 }
 
 // The field of this name and list.
-fn list_field<T: Value>(alloc: Global, name: &[u8], rows: &[T]) -> Result<Field, AllocError>
+fn list_field<T: Encode>(alloc: Global, name: &[u8], rows: &[T]) -> Result<Field, AllocError>
     ensures field { IfOk result (λ field. named_node field ≡ (name.now, list_of T.spelled rows.now)) }
     ensures fits { OnOk result (All T.Fits rows.now) }
 {
@@ -50,7 +50,7 @@ fn list_field<T: Value>(alloc: Global, name: &[u8], rows: &[T]) -> Result<Field,
 }
 
 /// Puts the field of this name and list after those that stand there.
-pub(crate) fn put_list<T: Value>(
+pub(crate) fn put_list<T: Encode>(
     fields: &mut Vec<Field>,
     alloc: Global,
     name: &[u8],
@@ -63,7 +63,7 @@ pub(crate) fn put_list<T: Value>(
     Ok(())
 }
 
-impl<T: Value> Value for Rows<T> {
+impl<T: Decode> Decode for Rows<T> {
     ghost use Rattle.std.specs.Prelude.{[], All};
     ghost use Rattle.ae_schema.specs.Spelled.{list_of};
     ghost use Rattle.std.proofs.Common.{rules};
@@ -82,14 +82,16 @@ impl<T: Value> Value for Rows<T> {
         }
     }
 
-    fn to_tree(&self, alloc: Global) -> Result<Tree, AllocError> {
-        Ok(Tree::List(TreeList::of(row_trees(alloc, self.as_slice())?)))
-    }
-
     ghost some_value = { ([], Prim.search rules) };
 }
 
-impl Value for UserSet {
+impl<T: Encode> Encode for Rows<T> {
+    fn to_tree(&self, alloc: Global) -> Result<Tree, AllocError> {
+        Ok(Tree::List(TreeList::of(row_trees(alloc, self.as_slice())?)))
+    }
+}
+
+impl Decode for UserSet {
     ghost use Rattle.ae_text.specs.Tree.{str};
     ghost use Rattle.ae_schema.specs.Spelled.{list_of};
     ghost use Rattle.ae_schema.specs.Fits.{AreUsers};
@@ -109,9 +111,11 @@ impl Value for UserSet {
         }
     }
 
+    ghost some_value = { some_users };
+}
+
+impl Encode for UserSet {
     fn to_tree(&self, alloc: Global) -> Result<Tree, AllocError> {
         Ok(Tree::List(TreeList::of(row_trees(alloc, self.users())?)))
     }
-
-    ghost some_value = { some_users };
 }

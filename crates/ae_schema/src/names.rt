@@ -4,13 +4,13 @@ ghost use Rattle.ae_text.specs.Tree.{str};
 ghost use Rattle.ae_text.specs.View.{node};
 
 use crate::parts::string_in;
-use crate::value::Value;
+use crate::value::{Decode, Encode};
 use ae_base::limits::MOST_DELTAS;
 use ae_base::{ChangeNo, Delta, Path, ProjectName, User};
 use ae_text::Tree;
 use std::alloc::{AllocError, Global};
 
-impl Value for Path {
+impl Decode for Path {
     ghost use Rattle.std.specs.Prelude.{codes, refl};
     ghost use Rattle.ae_text.specs.Tree.{str};
     ghost use Rattle.ae_base.specs.Names.{IsPath};
@@ -26,14 +26,16 @@ impl Value for Path {
         }
     }
 
-    fn to_tree(&self, alloc: Global) -> Result<Tree, AllocError> {
-        Tree::string(alloc, self.bytes())
-    }
-
     ghost some_value = { (codes "a", refl) };
 }
 
-impl Value for User {
+impl Encode for Path {
+    fn to_tree(&self, alloc: Global) -> Result<Tree, AllocError> {
+        Tree::string(alloc, self.bytes())
+    }
+}
+
+impl Decode for User {
     ghost use Rattle.std.specs.Prelude.{codes, refl};
     ghost use Rattle.ae_text.specs.Tree.{str};
     ghost use Rattle.ae_base.specs.Names.{IsUser};
@@ -49,14 +51,16 @@ impl Value for User {
         }
     }
 
-    fn to_tree(&self, alloc: Global) -> Result<Tree, AllocError> {
-        Tree::string(alloc, self.bytes())
-    }
-
     ghost some_value = { (codes "a", refl) };
 }
 
-impl Value for ProjectName {
+impl Encode for User {
+    fn to_tree(&self, alloc: Global) -> Result<Tree, AllocError> {
+        Tree::string(alloc, self.bytes())
+    }
+}
+
+impl Decode for ProjectName {
     ghost use Rattle.std.specs.Prelude.{codes, refl};
     ghost use Rattle.ae_text.specs.Tree.{str};
     ghost use Rattle.ae_base.specs.Names.{IsProjectName};
@@ -72,11 +76,13 @@ impl Value for ProjectName {
         }
     }
 
+    ghost some_value = { (codes "a", refl) };
+}
+
+impl Encode for ProjectName {
     fn to_tree(&self, alloc: Global) -> Result<Tree, AllocError> {
         Tree::string(alloc, self.bytes())
     }
-
-    ghost some_value = { (codes "a", refl) };
 }
 
 fn is_empty_string(tree: &Tree) -> bool
@@ -88,7 +94,7 @@ fn is_empty_string(tree: &Tree) -> bool
     }
 }
 
-impl Value for Option<Path> {
+impl Decode for Option<Path> {
     ghost use Rattle.std.specs.Prelude.{None, IfSome};
     ghost use Rattle.ae_base.specs.Names.{IsPath};
     ghost use Rattle.ae_schema.specs.Spelled.{optional};
@@ -107,17 +113,19 @@ impl Value for Option<Path> {
         }
     }
 
+    ghost some_value = { (None, tt) };
+}
+
+impl Encode for Option<Path> {
     fn to_tree(&self, alloc: Global) -> Result<Tree, AllocError> {
         match self {
             Some(path) => path.to_tree(alloc),
             None => Tree::string(alloc, b""),
         }
     }
-
-    ghost some_value = { (None, tt) };
 }
 
-impl Value for Option<User> {
+impl Decode for Option<User> {
     ghost use Rattle.std.specs.Prelude.{None, IfSome};
     ghost use Rattle.ae_base.specs.Names.{IsUser};
     ghost use Rattle.ae_schema.specs.Spelled.{optional};
@@ -136,17 +144,19 @@ impl Value for Option<User> {
         }
     }
 
+    ghost some_value = { (None, tt) };
+}
+
+impl Encode for Option<User> {
     fn to_tree(&self, alloc: Global) -> Result<Tree, AllocError> {
         match self {
             Some(user) => user.to_tree(alloc),
             None => Tree::string(alloc, b""),
         }
     }
-
-    ghost some_value = { (None, tt) };
 }
 
-impl Value for ChangeNo {
+impl Decode for ChangeNo {
     ghost use Rattle.ae_text.specs.Tree.{number};
     ghost use Rattle.ae_schema.specs.Fits.{IsChangeNo};
     ghost use Rattle.std.proofs.Common.{rules};
@@ -162,14 +172,16 @@ impl Value for ChangeNo {
         }
     }
 
-    fn to_tree(&self, _alloc: Global) -> Result<Tree, AllocError> {
-        Ok(Tree::Number(u64::from(self.number())))
-    }
-
     ghost some_value = { (10, Prim.search rules) };
 }
 
-impl Value for Delta {
+impl Encode for ChangeNo {
+    fn to_tree(&self, _alloc: Global) -> Result<Tree, AllocError> {
+        Ok(Tree::Number(u64::from(self.number())))
+    }
+}
+
+impl Decode for Delta {
     ghost use Rattle.ae_text.specs.Tree.{number};
     ghost use Rattle.ae_schema.specs.Fits.{IsDelta};
     ghost use Rattle.std.proofs.Common.{rules};
@@ -185,9 +197,11 @@ impl Value for Delta {
         }
     }
 
+    ghost some_value = { (0, Prim.search rules) };
+}
+
+impl Encode for Delta {
     fn to_tree(&self, _alloc: Global) -> Result<Tree, AllocError> {
         Ok(Tree::Number(u64::from(self.number())))
     }
-
-    ghost some_value = { (0, Prim.search rules) };
 }

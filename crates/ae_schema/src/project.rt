@@ -9,48 +9,57 @@ ghost use Rattle.ae_schema.specs.Fits.{HoldsRoles, HoldsCounted, HoldsProject, F
 ghost use Rattle.ae_base.specs.Names.{IsProjectName};
 ghost use Rattle.ae_schema.specs.Shapes.{attributes_from, project_from};
 
-use crate::SchemaError;
 use crate::ascending::Ascending;
 use crate::fields::{End, Then};
+use crate::format::{FormatOne, FormatTwo, FormatType};
 use crate::lists::put_list;
 use crate::record::read_record;
 use crate::structure::{read_structure, structure_of};
-use crate::value::{Value, put_both, put_field};
+use crate::value::{Decode, Encode, put_both, put_field};
+use crate::{Format, SchemaError};
 use ae_base::{ChangeNo, Delta, ProjectName, Text, User};
 use ae_text::{Field, Tree, print_tree};
 use ae_types::{Attributes, DeltaList, DeltaRow, EndAction, NumberList, Project, UserSet};
 use std::alloc::{AllocError, Global};
+use std::marker::{Model, PhantomData};
 
-/// The format of the state files: 1.
-#[derive(Clone, Copy, Drop)]
-struct Format;
+/// The number of a format.
+#[derive(Drop)]
+struct FormatNumber<F: FormatType> {
+    of: PhantomData<F>,
+}
 
-impl Value for Format {
+impl<F: FormatType> Model for FormatNumber<F> {
+    ghost Value = { Unit {0} };
+
+    ghost view = { λ n. tt };
+}
+
+impl<F: FormatType> Decode for FormatNumber<F> {
     ghost use Rattle.ae_text.specs.Tree.{number};
+    ghost use Rattle.ae_schema.specs.Formats.{format_number};
 
-    ghost spelled = { λ format. number 1 };
+    ghost spelled = { λ n. number (format_number F.format) };
 
-    ghost Fits = { λ format. Unit {0} };
+    ghost Fits = { λ n. Unit {0} };
 
-    fn of_tree(_alloc: Global, tree: &Tree) -> Result<Option<Format>, AllocError> {
+    fn of_tree(_alloc: Global, tree: &Tree) -> Result<Option<FormatNumber<F>>, AllocError> {
         match tree {
-            Tree::Number(1) => Ok(Some(Format)),
+            Tree::Number(n) if *n == F::value().number() => {
+                Ok(Some(FormatNumber { of: PhantomData }))
+            }
             _ => Ok(None),
         }
     }
 
-    fn to_tree(&self, _alloc: Global) -> Result<Tree, AllocError> {
-        Ok(Tree::Number(1))
-    }
-
-    ghost some_value = { (record {}, tt) };
+    ghost some_value = { (tt, tt) };
 }
 
 /// Where the bytes of files lie: packed in one region.
 #[derive(Clone, Copy, Drop)]
 struct Packed;
 
-impl Value for Packed {
+impl Decode for Packed {
     ghost use Rattle.std.specs.Prelude.{codes};
     ghost use Rattle.ae_text.specs.Tree.{word};
 
@@ -65,16 +74,18 @@ impl Value for Packed {
         }
     }
 
+    ghost some_value = { (record {}, tt) };
+}
+
+impl Encode for Packed {
     fn to_tree(&self, alloc: Global) -> Result<Tree, AllocError> {
         Tree::word(alloc, b"packed")
     }
-
-    ghost some_value = { (record {}, tt) };
 }
 
 type DeltaRowFields = Then<Delta, Then<ChangeNo, Then<u64, Then<User, End>>>>;
 
-impl Value for DeltaRow {
+impl Decode for DeltaRow {
     ghost use Rattle.ae_schema.specs.Spelled.{delta_row};
     ghost use Rattle.ae_schema.specs.Fits.{FitsDelta};
     ghost use Rattle.ae_schema.specs.SomeValues.{some_delta};
@@ -108,6 +119,10 @@ impl Value for DeltaRow {
         }
     }
 
+    ghost some_value = { some_delta };
+}
+
+impl Encode for DeltaRow {
     fn to_tree(&self, alloc: Global) -> Result<Tree, AllocError> {
         let mut fields = Vec::new(alloc);
         put_both(
@@ -121,8 +136,6 @@ impl Value for DeltaRow {
         put_both(&mut fields, alloc, b"when", &self.when, b"who", &self.who)?;
         Ok(structure_of(fields))
     }
-
-    ghost some_value = { some_delta };
 }
 
 type CountedFields = Then<u64, Then<Ascending<ChangeNo>, Then<DeltaList, End>>>;
@@ -133,7 +146,10 @@ type DefaultFields = Then<EndAction, Then<bool, RoleFields>>;
 
 type PermissionFields = Then<bool, Then<bool, Then<bool, Then<bool, DefaultFields>>>>;
 
-type ProjectFields = Then<Format, Then<Packed, Then<ProjectName, Then<Text, PermissionFields>>>>;
+type ProjectFields<F> = Then<
+    FormatNumber<F>,
+    Then<Packed, Then<ProjectName, Then<Text, PermissionFields>>>,
+>;
 
 // The settings, and the fields after them.
 fn attributes_of(description: Text, fields: PermissionFields) -> (Attributes, RoleFields)
@@ -176,7 +192,7 @@ fn attributes_of(description: Text, fields: PermissionFields) -> (Attributes, Ro
     (attributes, rest)
 }
 
-fn project_of(fields: ProjectFields) -> (Project, NumberList)
+fn project_of<F: FormatType>(fields: ProjectFields<F>) -> (Project, NumberList)
     ensures { result ≡ project_from fields }
 {
     let Then { first: _, rest } = fields;
@@ -249,31 +265,82 @@ const FIELD_NAMES: [&[u8]; 17] = [
     b"deltas",
 ];
 
-/// The project and the numbers of its changes, of which the bytes are a text.
-pub fn read_project(alloc: Global, bytes: &[u8]) -> Result<(Project, NumberList), SchemaError>
-    // The bytes are a text of the fields of what is read.
-    ensures found { IfOk result (λ p. IsTextOf bytes.now (project_fields p)) }
-    // What is read keeps what its types can hold, and the numbers ascend.
+// The project and the numbers of its changes, of which the bytes are a text in the format of this type.
+fn read_as<F: FormatType>(alloc: Global, bytes: &[u8]) -> Result<(Project, NumberList), SchemaError>
+    ensures found { IfOk result (λ p. IsTextOf bytes.now (project_fields F.format p)) }
     ensures fits { IfOk result FitsProject }
-    // A text of the fields of such a project is read as it.
-    ensures only { (p : Project × List ℕ) → FitsProject p → IsTextOf bytes.now (project_fields p) → IsAnswer p result }
-    // A line is that of the first token or field that can't stand there.
-    ensures field { (line : ℕ) → result ≡ Err (SchemaError.Field line) → IsBadLine FitsProject project_fields bytes.now line }
-    // Where a token or field can't stand, that line comes.
-    ensures only_field { (line : ℕ) → IsBadLine FitsProject project_fields bytes.now line → IsRefusal line result }
+    ensures only { (p : Project × List ℕ) → FitsProject p → IsTextOf bytes.now (project_fields F.format p) → IsAnswer p result }
+    ensures field { (line : ℕ) → result ≡ Err (SchemaError.Field line) → IsBadLine FitsProject (project_fields F.format) bytes.now line }
+    ensures only_field { (line : ℕ) → IsBadLine FitsProject (project_fields F.format) bytes.now line → IsRefusal line result }
 {
-    match read_record::<ProjectFields>(alloc, &FIELD_NAMES, bytes) {
+    match read_record::<ProjectFields<F>>(alloc, &FIELD_NAMES, bytes) {
         Ok(fields) => Ok(project_of(fields)),
         Err(error) => Err(error),
     }
 }
 
+/// The project and the numbers of its changes, of which the bytes are a text in this format.
+pub fn read_project_in(
+    alloc: Global,
+    format: Format,
+    bytes: &[u8],
+) -> Result<(Project, NumberList), SchemaError>
+    // The bytes are a text of the fields of what is read.
+    ensures found { IfOk result (λ p. IsTextOf bytes.now (project_fields format p)) }
+    // What is read keeps what its types can hold, and the numbers ascend.
+    ensures fits { IfOk result FitsProject }
+    // A text of the fields of such a project is read as it.
+    ensures only { (p : Project × List ℕ) → FitsProject p → IsTextOf bytes.now (project_fields format p) → IsAnswer p result }
+    // A line is that of the first token or field that can't stand there.
+    ensures field { (line : ℕ) → result ≡ Err (SchemaError.Field line) → IsBadLine FitsProject (project_fields format) bytes.now line }
+    // Where a token or field can't stand, that line comes.
+    ensures only_field { (line : ℕ) → IsBadLine FitsProject (project_fields format) bytes.now line → IsRefusal line result }
+{
+    match format {
+        Format::One => read_as::<FormatOne>(alloc, bytes),
+        Format::Two => read_as::<FormatTwo>(alloc, bytes),
+    }
+}
+
+/// The project and the numbers of its changes, of which the bytes are a text in the second format.
+pub fn read_project(alloc: Global, bytes: &[u8]) -> Result<(Project, NumberList), SchemaError>
+    // The bytes are a text of the fields of what is read.
+    ensures found { IfOk result (λ p. IsTextOf bytes.now (project_fields Format.Two p)) }
+    // What is read keeps what its types can hold, and the numbers ascend.
+    ensures fits { IfOk result FitsProject }
+    // A text of the fields of such a project is read as it.
+    ensures only { (p : Project × List ℕ) → FitsProject p → IsTextOf bytes.now (project_fields Format.Two p) → IsAnswer p result }
+    // A line is that of the first token or field that can't stand there.
+    ensures field { (line : ℕ) → result ≡ Err (SchemaError.Field line) → IsBadLine FitsProject (project_fields Format.Two) bytes.now line }
+    // Where a token or field can't stand, that line comes.
+    ensures only_field { (line : ℕ) → IsBadLine FitsProject (project_fields Format.Two) bytes.now line → IsRefusal line result }
+{
+    read_as::<FormatTwo>(alloc, bytes)
+}
+
+/// The project and the numbers of its changes, of which the bytes are a text in the first format.
+pub fn read_project_1(alloc: Global, bytes: &[u8]) -> Result<(Project, NumberList), SchemaError>
+    // The bytes are a text of the fields of what is read.
+    ensures found { IfOk result (λ p. IsTextOf bytes.now (project_fields Format.One p)) }
+    // What is read keeps what its types can hold, and the numbers ascend.
+    ensures fits { IfOk result FitsProject }
+    // A text of the fields of such a project is read as it.
+    ensures only { (p : Project × List ℕ) → FitsProject p → IsTextOf bytes.now (project_fields Format.One p) → IsAnswer p result }
+    // A line is that of the first token or field that can't stand there.
+    ensures field { (line : ℕ) → result ≡ Err (SchemaError.Field line) → IsBadLine FitsProject (project_fields Format.One) bytes.now line }
+    // Where a token or field can't stand, that line comes.
+    ensures only_field { (line : ℕ) → IsBadLine FitsProject (project_fields Format.One) bytes.now line → IsRefusal line result }
+{
+    read_as::<FormatOne>(alloc, bytes)
+}
+
 // Which format it is, and which project.
 fn put_identity(fields: &mut Vec<Field>, alloc: Global, project: &Project) -> Result<(), AllocError>
-    ensures fields { OnOk result (map named_node fields.new.items ≡ map named_node fields.old.items ++ identity_fields project.now) }
+    ensures fields { OnOk result (map named_node fields.new.items ≡ map named_node fields.old.items ++ identity_fields Format.Two project.now) }
     ensures fits { OnOk result (IsProjectName project.now.name) }
 {
-    put_both(fields, alloc, b"format", &Format, b"store", &Packed)?;
+    let number = Format::Two.number();
+    put_both(fields, alloc, b"format", &number, b"store", &Packed)?;
     put_both(
         fields,
         alloc,
@@ -376,7 +443,7 @@ fn fields_of(
     project: &Project,
     numbers: &[ChangeNo],
 ) -> Result<Vec<Field>, AllocError>
-    ensures fields { IfOk result (λ fields. map named_node fields.items ≡ project_fields (project.now, numbers.now)) }
+    ensures fields { IfOk result (λ fields. map named_node fields.items ≡ project_fields Format.Two (project.now, numbers.now)) }
     ensures fits { OnOk result (HoldsProject (project.now, numbers.now)) }
 {
     let mut fields = Vec::new(alloc);
@@ -388,16 +455,16 @@ fn fields_of(
     Ok(fields)
 }
 
-/// The text of `project`, of a project and the numbers of its changes.
+/// The text of `project` in the second format, of a project and the numbers of its changes.
 pub fn print_project(
     alloc: Global,
     project: &Project,
     numbers: &[ChangeNo],
 ) -> Result<Vec<u8>, AllocError>
     // Each field in canonical form.
-    ensures value { IfOk result (λ text. text.items ≡ fields_text (members_of (project_fields (project.now, numbers.now)))) }
+    ensures value { IfOk result (λ text. text.items ≡ fields_text (members_of (project_fields Format.Two (project.now, numbers.now)))) }
     // What is printed is a text of the same fields.
-    ensures again { IfOk result (λ text. IsTextOf text.items (project_fields (project.now, numbers.now))) }
+    ensures again { IfOk result (λ text. IsTextOf text.items (project_fields Format.Two (project.now, numbers.now))) }
     // What is printed keeps what its types can hold.
     ensures fits { OnOk result (HoldsProject (project.now, numbers.now)) }
 {

@@ -28,8 +28,8 @@ fn end_line(bytes: &[u8]) -> u32
     line_behind(bytes.iter().filter(|b| **b == b'\n').count())
 }
 
-// The line of a field, or that of the end.
-fn line_at(bytes: &[u8], lines: &[u32], at: usize) -> u32
+/// The line of a field, or that of the end.
+pub(crate) fn line_at(bytes: &[u8], lines: &[u32], at: usize) -> u32
     ensures { result ≡ unwrap_or (slice_get lines.now at) (last_line bytes.now) }
 {
     match lines.get(at) {
@@ -38,8 +38,8 @@ fn line_at(bytes: &[u8], lines: &[u32], at: usize) -> u32
     }
 }
 
-// The fields of a text that was read.
-fn fields_of(parsed: &Parsed) -> &[Field]
+/// The fields of a text that was read.
+pub(crate) fn fields_of(parsed: &Parsed) -> &[Field]
     requires { IsStructure (node parsed.now.tree) }
     ensures { node parsed.now.tree ≡ structure (fields_seen result.now) }
 {
@@ -59,8 +59,8 @@ fn refusal(error: TextError) -> SchemaError
     }
 }
 
-// The text, or the line of its first wrong token.
-fn read_text(alloc: Global, bytes: &[u8]) -> Result<Parsed, SchemaError>
+/// The text, or the line of its first wrong token.
+pub(crate) fn read_text(alloc: Global, bytes: &[u8]) -> Result<Parsed, SchemaError>
     ensures found { IfOk result (λ p. Reads bytes.now (node p.tree) p.lines) }
     ensures bad { (line : ℕ) → result ≡ Err (SchemaError.Field line) → IsError bytes.now line }
 {

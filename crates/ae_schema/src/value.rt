@@ -8,8 +8,8 @@ use ae_base::Text;
 use ae_text::{Field, Tree};
 use std::alloc::{AllocError, Global};
 
-/// A type whose values are spelled as trees.
-pub(crate) trait Value: Drop {
+/// A type whose values are read from the trees that spell them.
+pub(crate) trait Decode: Drop {
     // The tree of a value.
     ghost spelled: { Self → Node };
 
@@ -21,16 +21,19 @@ pub(crate) trait Value: Drop {
         ensures some { IfOk result (λ read. IfSome read (λ x. Fits x × (spelled x ≡ node tree.now))) }
         ensures only { (x : Self) → Fits x → spelled x ≡ node tree.now → IfOk result (λ read. read ≡ Some x) };
 
-    /// The tree that spells it.
-    fn to_tree(&self, alloc: Global) -> Result<Tree, AllocError>
-        ensures tree { IfOk result (λ tree. node tree ≡ spelled self.now) }
-        ensures fits { OnOk result (Fits self.now) };
-
     ghost some_value: { (x : Self) × Fits x };
 }
 
+/// A type whose values are written too. What is only read, as the history of the first format, isn't one.
+pub(crate) trait Encode: Decode {
+    /// The tree that spells it.
+    fn to_tree(&self, alloc: Global) -> Result<Tree, AllocError>
+        ensures tree { IfOk result (λ tree. node tree ≡ Self.spelled self.now) }
+        ensures fits { OnOk result (Self.Fits self.now) };
+}
+
 /// The field of this name and value.
-pub(crate) fn field<T: Value>(alloc: Global, name: &[u8], value: &T) -> Result<Field, AllocError>
+pub(crate) fn field<T: Encode>(alloc: Global, name: &[u8], value: &T) -> Result<Field, AllocError>
     ensures field { IfOk result (λ field. named_node field ≡ (name.now, T.spelled value.now)) }
     ensures fits { OnOk result (T.Fits value.now) }
 {
@@ -38,7 +41,7 @@ pub(crate) fn field<T: Value>(alloc: Global, name: &[u8], value: &T) -> Result<F
 }
 
 /// Puts the field of this name and value after those that stand there.
-pub(crate) fn put_field<T: Value>(
+pub(crate) fn put_field<T: Encode>(
     fields: &mut Vec<Field>,
     alloc: Global,
     name: &[u8],
@@ -52,7 +55,7 @@ pub(crate) fn put_field<T: Value>(
 }
 
 /// Puts the fields of these two names and values after those that stand there.
-pub(crate) fn put_both<T: Value, U: Value>(
+pub(crate) fn put_both<T: Encode, U: Encode>(
     fields: &mut Vec<Field>,
     alloc: Global,
     first_name: &[u8],
@@ -70,7 +73,7 @@ pub(crate) fn put_both<T: Value, U: Value>(
     Ok(())
 }
 
-impl Value for Text {
+impl Decode for Text {
     ghost use Rattle.std.specs.Prelude.{[]};
     ghost use Rattle.ae_text.specs.Tree.{str};
 
@@ -85,14 +88,16 @@ impl Value for Text {
         }
     }
 
-    fn to_tree(&self, alloc: Global) -> Result<Tree, AllocError> {
-        Tree::string(alloc, self.bytes())
-    }
-
     ghost some_value = { ([], tt) };
 }
 
-impl Value for bool {
+impl Encode for Text {
+    fn to_tree(&self, alloc: Global) -> Result<Tree, AllocError> {
+        Tree::string(alloc, self.bytes())
+    }
+}
+
+impl Decode for bool {
     ghost use Rattle.std.specs.Prelude.{true};
     ghost use Rattle.ae_schema.specs.Spelled.{flag};
 
@@ -107,11 +112,13 @@ impl Value for bool {
         }
     }
 
+    ghost some_value = { (true, tt) };
+}
+
+impl Encode for bool {
     fn to_tree(&self, alloc: Global) -> Result<Tree, AllocError> {
         Tree::word(alloc, if *self { b"true" } else { b"false" })
     }
-
-    ghost some_value = { (true, tt) };
 }
 
 // The flag of a word.
@@ -128,7 +135,7 @@ fn flag_of(text: &[u8]) -> Option<bool>
     }
 }
 
-impl Value for u64 {
+impl Decode for u64 {
     ghost use Rattle.std.specs.Prelude.{◌<◌, ◌^◌};
     ghost use Rattle.ae_text.specs.Tree.{number};
     ghost use Rattle.std.proofs.Common.{rules};
@@ -144,14 +151,16 @@ impl Value for u64 {
         }
     }
 
-    fn to_tree(&self, _alloc: Global) -> Result<Tree, AllocError> {
-        Ok(Tree::Number(*self))
-    }
-
     ghost some_value = { (0, Prim.search rules) };
 }
 
-impl Value for u32 {
+impl Encode for u64 {
+    fn to_tree(&self, _alloc: Global) -> Result<Tree, AllocError> {
+        Ok(Tree::Number(*self))
+    }
+}
+
+impl Decode for u32 {
     ghost use Rattle.std.specs.Prelude.{◌<◌, ◌^◌};
     ghost use Rattle.ae_text.specs.Tree.{number};
     ghost use Rattle.std.proofs.Common.{rules};
@@ -167,14 +176,16 @@ impl Value for u32 {
         }
     }
 
-    fn to_tree(&self, _alloc: Global) -> Result<Tree, AllocError> {
-        Ok(Tree::Number(u64::from(*self)))
-    }
-
     ghost some_value = { (0, Prim.search rules) };
 }
 
-impl Value for u16 {
+impl Encode for u32 {
+    fn to_tree(&self, _alloc: Global) -> Result<Tree, AllocError> {
+        Ok(Tree::Number(u64::from(*self)))
+    }
+}
+
+impl Decode for u16 {
     ghost use Rattle.std.specs.Prelude.{◌<◌, ◌^◌};
     ghost use Rattle.ae_text.specs.Tree.{number};
     ghost use Rattle.std.proofs.Common.{rules};
@@ -190,9 +201,11 @@ impl Value for u16 {
         }
     }
 
+    ghost some_value = { (0, Prim.search rules) };
+}
+
+impl Encode for u16 {
     fn to_tree(&self, _alloc: Global) -> Result<Tree, AllocError> {
         Ok(Tree::Number(u64::from(*self)))
     }
-
-    ghost some_value = { (0, Prim.search rules) };
 }

@@ -9,7 +9,7 @@ ghost use Rattle.ae_schema.specs.Records.{structure};
 use crate::fields::{End, Then};
 use crate::parts::{fields_in, string_in};
 use crate::structure::{read_structure, structure_of};
-use crate::value::{Value, put_both};
+use crate::value::{Decode, Encode, put_both};
 use ae_text::{Field, Tree};
 use ae_types::VersionRef;
 use std::alloc::{AllocError, Global};
@@ -43,7 +43,7 @@ fn digest_of(alloc: Global, text: &[u8]) -> Result<Option<[u8; 32]>, AllocError>
     }
 }
 
-impl Value for [u8; 32] {
+impl Decode for [u8; 32] {
     ghost use Rattle.ae_schema.specs.Spelled.{hex_string};
     ghost use Rattle.ae_schema.specs.Fits.{IsDigest};
     ghost use Rattle.ae_schema.specs.SomeValues.{some_digest};
@@ -59,17 +59,19 @@ impl Value for [u8; 32] {
         }
     }
 
+    ghost some_value = { some_digest };
+}
+
+impl Encode for [u8; 32] {
     fn to_tree(&self, alloc: Global) -> Result<Tree, AllocError> {
         let digits = hex::encode(alloc, *self)?;
         Tree::string(alloc, digits.as_bytes())
     }
-
-    ghost some_value = { some_digest };
 }
 
 type VersionFields = Then<u64, Then<u64, Then<u32, Then<[u8; 32], End>>>>;
 
-impl Value for VersionRef {
+impl Decode for VersionRef {
     ghost use Rattle.ae_schema.specs.Spelled.{version};
     ghost use Rattle.ae_schema.specs.Fits.{FitsVersion};
     ghost use Rattle.ae_schema.specs.SomeValues.{some_version};
@@ -86,6 +88,10 @@ impl Value for VersionRef {
         }
     }
 
+    ghost some_value = { some_version };
+}
+
+impl Encode for VersionRef {
     fn to_tree(&self, alloc: Global) -> Result<Tree, AllocError> {
         let mut fields = Vec::new(alloc);
         put_both(&mut fields, alloc, b"number", &self.number, b"at", &self.at)?;
@@ -99,8 +105,6 @@ impl Value for VersionRef {
         )?;
         Ok(structure_of(fields))
     }
-
-    ghost some_value = { some_version };
 }
 
 fn version_of(fields: VersionFields) -> VersionRef
@@ -142,7 +146,7 @@ fn is_empty_structure(tree: &Tree) -> bool
     }
 }
 
-impl Value for Option<VersionRef> {
+impl Decode for Option<VersionRef> {
     ghost use Rattle.std.specs.Prelude.{None, IfSome};
     ghost use Rattle.ae_schema.specs.Spelled.{optional_version};
     ghost use Rattle.ae_schema.specs.Fits.{FitsVersion};
@@ -161,12 +165,14 @@ impl Value for Option<VersionRef> {
         }
     }
 
+    ghost some_value = { (None, tt) };
+}
+
+impl Encode for Option<VersionRef> {
     fn to_tree(&self, alloc: Global) -> Result<Tree, AllocError> {
         match self {
             Some(version) => version.to_tree(alloc),
             None => Ok(structure_of(Vec::new(alloc))),
         }
     }
-
-    ghost some_value = { (None, tt) };
 }

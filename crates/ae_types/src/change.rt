@@ -36,12 +36,13 @@ pub struct Evidence {
 /// Runs, ascending by when in a change's life they were made, by kind and by path.
 pub type EvidenceList = Rows<Evidence>;
 
-/// What happened to a change, who did it and when, in seconds since 1970.
+/// What happened to a change, who did it, when, in seconds since 1970, and why; the empty text where no reason was given.
 #[derive(Drop)]
 pub struct HistoryRow {
     pub what: What,
     pub who: User,
     pub when: u64,
+    pub why: Text,
 }
 
 /// The history of a change, in the order in which it happened.
@@ -110,6 +111,7 @@ impl TryCopy for HistoryRow {
             what: self.what,
             who: self.who.copy(alloc)?,
             when: self.when,
+            why: self.why.copy(alloc)?,
         })
     }
 }

@@ -4,6 +4,6 @@ use Rattle.ae_schema.proofs.lists.row_trees.Given as goal
 
 abbrev pub invariant-loop-row : goal.invariant-loop-row
 invariant-loop-row g l = record {
-  trees : map node l.trees.items ≡ map g.T.Value.spelled (take l.row-index l.rows);
-  fits : All g.T.Value.Fits (take l.row-index l.rows);
+  trees : map node l.trees.items ≡ map g.T.Decode.spelled (take l.row-index l.rows);
+  fits : All g.T.Decode.Fits (take l.row-index l.rows);
 }

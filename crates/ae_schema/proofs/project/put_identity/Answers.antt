@@ -5,4 +5,4 @@ use Rattle.ae_schema.proofs.project.put_identity.Goals as goal
 
 pub returns-clause-fields : goal.returns-clause-fields
 returns-clause-fields c =
-    joined (map named_node c.args.fields.now.items) _ _ _ _ c.in_ok-put_both.ensures.fields c.in_ok-put_both-2.ensures.fields
+    joined (map named_node c.args.fields.now.items) _ _ _ _ (rw c.number-number.ensures at c.in_ok-put_both.ensures.fields) c.in_ok-put_both-2.ensures.fields
