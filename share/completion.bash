@@ -60,12 +60,16 @@ _aegis_line_of() {
     done
 }
 
-# The options of a function's line; -Project goes with each but one.
+# The options of a function's line; -Project goes with each but one, -REAson with those that add to a history.
 _aegis_options() {
     local entry
     case $line in
     -New_PRoject*) ;;
     *) _aegis_names -Project ;;
+    esac
+    case $line in
+    -New_Change_Undo*) ;;
+    -New_Change* | -Develop_* | -Review_* | -Integrate_*) _aegis_names -REAson ;;
     esac
     for entry in ${line#* }; do
         entry=${entry#[}

@@ -21,7 +21,7 @@ use Rattle.ae_words.proofs.FirstBad.{answer_command}
 
 -- the command of a function, with nothing else
 abbrev pub bare : Function → Command
-bare f = record { function = f; project = None; change = None; attributes = None; delta = None; overwriting = false; baseline = false; regression = false; name = None; users = []; paths = []; listing = None; numbers = [] }
+bare f = record { function = f; project = None; change = None; attributes = None; delta = None; overwriting = false; baseline = false; regression = false; name = None; users = []; paths = []; listing = None; numbers = []; reason = None }
 
 -- the same on a change and paths
 abbrev pub on_paths : Function → ℕ → List (List ℕ) → Command

@@ -1,4 +1,5 @@
 pub mod RunStatuses
+pub mod ReasonsTold
 pub mod ReversedReviews
 pub mod ReversedBegins
 pub mod ReversedMaking

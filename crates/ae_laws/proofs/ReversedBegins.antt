@@ -23,7 +23,6 @@ use Rattle.ae_log.specs.Files.{version_bytes}
 use Rattle.ae_log.specs.Log.{Log, Course, course}
 use Rattle.ae_log.specs.Observed.{observation}
 use Rattle.ae_log.specs.Runs.{latest, row_of_run, run_keys, evidence, evidence_at}
-use Rattle.ae_log.specs.Maker.{made_by}
 use Rattle.ae_log.proofs.ChangeSteps.{awaits-is, awaits_integration-is}
 use Rattle.ae_log.proofs.RunSteps.{own_evidence}
 use Rattle.ae_log.proofs.Steps.{of_change}
@@ -39,6 +38,7 @@ use Rattle.ae_machine.proofs.CandidateStands.{is-of}
 use Rattle.ae_machine.proofs.LegalRightly.{legal-sound, legal-facts}
 use Rattle.ae_machine.proofs.Reversing.{Reversal, reverses-of, first-passed, pair-reversed, same-bytes, occasion_of, named, project-still, change-still, on-named}
 use Rattle.ae_laws.proofs.ReversedReviews.{same-caller}
+use Rattle.ae_machine.specs.Legal.{maker_at}
 
 -- ---- no run of what hasn't begun
 
@@ -80,7 +80,7 @@ development-begun c d who by when then_ view sight log o events legal stood may 
     let s : Sound o = legal-sound log o legal stood in
     let x = m.change in
     let good = s.changes.good m.n x m.there in
-    let event = of_change (made_by who when) m.n on.Begin in
+    let event = of_change (maker_at done) m.n on.Begin in
     let now = after o event in
     let later = change_after o.project.next_version event x in
     let at_later : change_at now m.n ≡ Some later = changed-at o.changes m.n (change_after o.project.next_version event) (λ y. refl) x m.there in
@@ -90,10 +90,10 @@ development-begun c d who by when then_ view sight log o events legal stood may 
     let no_files : x.files ≡ [] = good.files.none_yet m.so in
     let no_runs : without_runs part.Develop (without_runs part.Develop x.evidence) ≡ x.evidence = clears-nothing log o m.n x stood m.there part.Develop
     (((legal-facts log legal).each m.n).cleared.development (ap (λ (y : Change). is_awaiting_development y.phase) (sym (is-of log o m.n x stood m.there).is) ∙ m.so)) in
-    let same : without_history (change_after o.project.next_version (of_change (made_by by then_) m.n on.BeginUndo) later) ≡ without_history x =
+    let same : without_history (change_after o.project.next_version (of_change (maker_at undone) m.n on.BeginUndo) later) ≡ without_history x =
     λ i. record (without_history x) { phase = sym is i; developer = sym nobody i; files = sym no_files i; evidence = no_runs i } in
     let call = call_of now (with_function function.DevelopBeginUndo d) by in
-    pair-reversed log done undone o events legal stood may accepted may_then m.n x m.is dn m.there on.Begin on.BeginUndo (λ o who when n. refl) (λ o who when n. refl) (λ y. refl) refl (λ next now. refl) same refl refl
+    pair-reversed log done undone o events legal stood may accepted may_then m.n x m.is dn m.there on.Begin on.BeginUndo (λ o maker n. refl) (λ o maker n. refl) (λ y. refl) refl (λ next now. refl) same refl refl
     (project-still o now d refl undo.project, (change-still now d.change m.n later dn at_later, (on-named phase_is_right call m.n later dn at_later refl, (on-named developer_is_caller call m.n later dn at_later (same-caller by who (NotThisDeveloper who) undo.who), tt))))
     (same-bytes (version_bytes log))
 
@@ -109,7 +109,7 @@ integration-begun c d who by when then_ view sight log o events legal stood may 
     let s : Sound o = legal-sound log o legal stood in
     let x = m.change in
     let good = s.changes.good m.n x m.there in
-    let event = of_change (made_by who when) m.n on.IBegin in
+    let event = of_change (maker_at done) m.n on.IBegin in
     let now = after o event in
     let later = change_after o.project.next_version event x in
     let at_later : change_at now m.n ≡ Some later = changed-at o.changes m.n (change_after o.project.next_version event) (λ y. refl) x m.there in
@@ -118,10 +118,10 @@ integration-begun c d who by when then_ view sight log o events legal stood may 
     let nobody : x.integrator ≡ None = not-some x.integrator (good.people.integrator ∙ ap has_integrator is) in
     let no_runs : without_runs part.Integrate (without_runs part.Integrate x.evidence) ≡ x.evidence = clears-nothing log o m.n x stood m.there part.Integrate
     (((legal-facts log legal).each m.n).cleared.integration (ap (λ (y : Change). has_integrator y.phase) (sym (is-of log o m.n x stood m.there).is) ∙ ap has_integrator is)) in
-    let same : without_history (change_after o.project.next_version (of_change (made_by by then_) m.n on.IBeginUndo) later) ≡ without_history x =
+    let same : without_history (change_after o.project.next_version (of_change (maker_at undone) m.n on.IBeginUndo) later) ≡ without_history x =
     λ i. record (without_history x) { phase = sym is i; integrator = sym nobody i; evidence = no_runs i } in
     let call = call_of now (with_function function.IntegrateBeginUndo d) by in
-    pair-reversed log done undone o events legal stood may accepted may_then m.n x m.is dn m.there on.IBegin on.IBeginUndo (λ o who when n. refl) (λ o who when n. refl) (λ y. refl) refl (λ next now. refl) same refl refl
+    pair-reversed log done undone o events legal stood may accepted may_then m.n x m.is dn m.there on.IBegin on.IBeginUndo (λ o maker n. refl) (λ o maker n. refl) (λ y. refl) refl (λ next now. refl) same refl refl
     (project-still o now d refl undo.project, (change-still now d.change m.n later dn at_later, (on-named phase_is_right call m.n later dn at_later refl, (on-named integrator_is_caller call m.n later dn at_later (same-caller by who (NotThisIntegrator who) undo.who), tt))))
     (same-bytes (version_bytes log))
 

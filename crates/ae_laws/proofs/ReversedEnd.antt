@@ -40,7 +40,7 @@ use Rattle.ae_log.specs.Log.{Log, Course, course, followed}
 use Rattle.ae_log.specs.Observed.{observation, observation_with, change, change_with, change_file, change_file_of, change_files, frozen_version, file_row, file_version, lock_of}
 use Rattle.ae_log.specs.Phases.{phase_of}
 use Rattle.ae_log.specs.Settings.{change_attributes, change_numbers}
-use Rattle.ae_log.specs.Maker.{made_by}
+use Rattle.ae_log.specs.Maker.{Maker, event_by}
 use Rattle.ae_log.proofs.ChangeSteps.{developed-is}
 use Rattle.ae_log.proofs.LockSteps.{at-with_locks, with_locks-ascends}
 use Rattle.ae_log.proofs.Steps.{of_change, attributes-of}
@@ -48,12 +48,12 @@ use Rattle.ae_words.specs.declared.table.Function.TheVariants as function
 use Rattle.ae_machine.specs.declared.verdict.Verdict.TheVariants.{Accept}
 use Rattle.ae_machine.specs.Call.{call_of, unless}
 use Rattle.ae_machine.specs.Laws.{ReversesOf, IsReversed}
-use Rattle.ae_machine.specs.Legal.{MayCome}
+use Rattle.ae_machine.specs.Legal.{MayCome, maker_at}
 use Rattle.ae_machine.specs.Permission.{phase_is_right, developer_is_caller}
 use Rattle.ae_machine.specs.Same.{without_history, without_histories, SameBytes}
 use Rattle.ae_machine.specs.Sight.{change_tree}
 use Rattle.ae_machine.specs.Space.{placing}
-use Rattle.ae_machine.specs.Verdict.{event_of, ends, next_phase}
+use Rattle.ae_machine.specs.Verdict.{ends, next_phase}
 use Rattle.ae_machine.proofs.Accepted.{change-there, with_function}
 use Rattle.ae_machine.proofs.AcceptedPaths.{changed-at}
 use Rattle.ae_machine.proofs.Lists.{members-all}
@@ -171,12 +171,12 @@ may-be-resumed goto.AwaitingReview = refl
 may-be-resumed goto.AwaitingIntegration = refl
 
 -- what stands after both is what stood
-ended-and-resumed : (o : Observation) → Sound o → (n : ℕ) (x : Change) → change_at o n ≡ Some x → x.phase ≡ phase.BeingDeveloped → (who by : List ℕ) (when then_ : ℕ) (tree : Rows) (to : Phase) (places : List ℕ) → MayEnd o x tree to places
-    → without_histories (after (after o (of_change (made_by who when) n (on.End tree to places))) (of_change (made_by by then_) n on.EndUndo)) ≡ without_histories o
-ended-and-resumed o s n x at_n is who by when then_ tree to places may = λ i. record (without_histories o) { locks = locks i; changes = changes i }
+ended-and-resumed : (o : Observation) → Sound o → (n : ℕ) (x : Change) → change_at o n ≡ Some x → x.phase ≡ phase.BeingDeveloped → (maker undoing : Maker) (tree : Rows) (to : Phase) (places : List ℕ) → MayEnd o x tree to places
+    → without_histories (after (after o (of_change maker n (on.End tree to places))) (of_change undoing n on.EndUndo)) ≡ without_histories o
+ended-and-resumed o s n x at_n is maker undoing tree to places may = λ i. record (without_histories o) { locks = locks i; changes = changes i }
   where
     first : Event
-    first = of_change (made_by who when) n (on.End tree to places)
+    first = of_change maker n (on.End tree to places)
 
     good-files : (f : ChangeFile) → In x.files f → f.frozen ≡ None
     good-files f m = not-some f.frozen ((s.changes.good n x at_n).files.frozen f.path f (in-found by_text file_path x.files (s.changes.good n x at_n).files.ascend f m) ∙ ap (λ p. holds_locks p && not (is_remove f.action)) is)
@@ -202,8 +202,8 @@ ended-and-resumed o s n x at_n is who by when then_ tree to places may = λ i. r
     locks : without_locks n (with_locks n (files_of (change_at o n)) o.locks) ≡ o.locks
     locks = ap (λ (y : Option Change). without_locks n (with_locks n (files_of y) o.locks)) at_n ∙ taken-and-freed n x.files o.locks s.locks.ascend may.free other
 
-    changes : map without_history (map (where_number n (change_after (after o (of_change (made_by who when) n (on.End tree to places))).project.next_version (of_change (made_by by then_) n on.EndUndo))) (map (where_number n (change_after o.project.next_version (of_change (made_by who when) n (on.End tree to places)))) o.changes)) ≡ map without_history o.changes
-    changes = there-and-back n (change_after o.project.next_version (of_change (made_by who when) n (on.End tree to places))) (change_after (after o (of_change (made_by who when) n (on.End tree to places))).project.next_version (of_change (made_by by then_) n on.EndUndo)) x (λ y. refl)
+    changes : map without_history (map (where_number n (change_after (after o (of_change maker n (on.End tree to places))).project.next_version (of_change undoing n on.EndUndo))) (map (where_number n (change_after o.project.next_version (of_change maker n (on.End tree to places)))) o.changes)) ≡ map without_history o.changes
+    changes = there-and-back n (change_after o.project.next_version (of_change maker n (on.End tree to places))) (change_after (after o (of_change maker n (on.End tree to places))).project.next_version (of_change undoing n on.EndUndo)) x (λ y. refl)
         (λ i. record (without_history x) { phase = sym is i; reviewing = sym nobody i; reviewer = sym unpassed i; files = thawed-again o.project.next_version tree places x.files good-files i }) o.changes
         (λ y m e. same_Some y x (sym (in-found by_number number_of_change o.changes s.changes.ascend y m) ∙ ap (change_in o.changes) (sym (by_number.same_is n y.number e)) ∙ at_n))
 
@@ -219,18 +219,18 @@ development-ended c d who by when then_ view sight log o events legal stood may 
     let tree = change_tree given x in
     let to = next_phase o.project.attributes.develop_end_action in
     let places = unwrap_or (placing o tree) [] in
-    let first = of_change (made_by who when) m.n (on.End tree to places) in
-    let second = of_change (made_by by then_) m.n on.EndUndo in
+    let first = of_change (maker_at done) m.n (on.End tree to places) in
+    let second = of_change (maker_at undone) m.n on.EndUndo in
     let now = after o first in
     let later = change_after o.project.next_version first x in
     let at_later : change_at now m.n ≡ Some later = changed-at o.changes m.n (change_after o.project.next_version first) (λ y. refl) x m.there in
     let is : x.phase ≡ phase.BeingDeveloped = developed-is x.phase m.so in
     let dn : d.change ≡ Some m.n = undo.change ∙ m.is in
-    let are : first ∷ [] ≡ events = ap (λ (v : Option Change). map (event_of who when (Some m.n)) (ends given v)) (sym m.there) ∙ ap (λ (v : Option ℕ). map (event_of who when v) (ends given (option_and_then (change_at o) v))) (sym m.is) ∙ p.these in
+    let are : first ∷ [] ≡ events = ap (λ (v : Option Change). map (event_by (maker_at done) (Some m.n)) (ends given v)) (sym m.there) ∙ ap (λ (v : Option ℕ). map (event_by (maker_at done) v) (ends given (option_and_then (change_at o) v))) (sym m.is) ∙ p.these in
     let accepted_first = accepted ∙ ap (λ (es : List Event). Accept es) (sym are) in
     let applies = first-applies log done o (first ∷ []) legal stood may accepted_first in
     let ready = subst (λ (v : Option Change). IsSomeAnd v (λ (change : Change). (comes_in (on.End tree to places) change.phase ≡ true) × MayEnd o change tree to places)) m.there applies.0.comes in
-    let same : without_histories (after now second) ≡ without_histories o = ended-and-resumed o s m.n x m.there is who by when then_ tree to places ready.1 in
+    let same : without_histories (after now second) ≡ without_histories o = ended-and-resumed o s m.n x m.there is (maker_at done) (maker_at undone) tree to places ready.1 in
     let develops = on-found developer_is_caller (call_of o (with_function function.DevelopEnd c) who) m.n x m.is m.there p.before.1.1.1.1.0 in
     let call = call_of now (with_function function.DevelopEndUndo d) by in
     subst (λ (es : List Event). IsReversed log (followed log es) o done undone) are
@@ -246,7 +246,7 @@ development-ended c d who by when then_ view sight log o events legal stood may 
       ),
     ))
     refl
-    (ap (λ (v : Option ℕ). event_of by then_ v on.EndUndo ∷ []) dn)
+    (ap (λ (v : Option ℕ). event_by (maker_at undone) v on.EndUndo ∷ []) dn)
     same
     (end-bytes log (second ∷ first ∷ log) o (after now second) (present tree) stood refl same))
 

@@ -20,16 +20,16 @@ use Rattle.ae_log.specs.After.{after, new_change}
 use Rattle.ae_log.specs.Applies.{IsChangeNumber}
 use Rattle.ae_log.specs.Files.{version_bytes}
 use Rattle.ae_log.specs.Log.{followed}
-use Rattle.ae_log.specs.Maker.{made_by}
+use Rattle.ae_log.specs.Maker.{Maker, event_by}
 use Rattle.ae_log.proofs.Steps.{of_change}
 use Rattle.ae_words.specs.declared.table.Function.TheVariants as function
 use Rattle.ae_machine.specs.declared.verdict.Verdict.TheVariants.{Accept}
 use Rattle.ae_machine.specs.Call.{call_of, given_in}
 use Rattle.ae_machine.specs.Laws.{ReversesOf, IsReversed}
-use Rattle.ae_machine.specs.Legal.{MayCome}
+use Rattle.ae_machine.specs.Legal.{MayCome, maker_at}
 use Rattle.ae_machine.specs.Permission.{phase_is_right}
 use Rattle.ae_machine.specs.Same.{without_history, without_histories}
-use Rattle.ae_machine.specs.Verdict.{event_of, free_number, change_file, old_change_attributes}
+use Rattle.ae_machine.specs.Verdict.{free_number, change_file, old_change_attributes}
 use Rattle.ae_machine.proofs.Accepted.{tested, with_function}
 use Rattle.ae_machine.proofs.AcceptedNumbers.{a-number-is-free}
 use Rattle.ae_machine.proofs.LegalRightly.{legal-sound}
@@ -73,11 +73,11 @@ a-free : (o : Observation) (v : Option ℕ) → free_number o ≡ v → IsSomeAn
 a-free o (Some n) e h = record { n = n; is = e; free = h.1 }
 a-free o None e h = absurd h
 
-made-and-taken : (o : Observation) → Sound o → (n : ℕ) → has_number o.numbers n ≡ false → (who by : List ℕ) (when then_ : ℕ) (attributes : ChangeAttributes)
-    → without_histories (after (after o (of_change (made_by who when) n (on.New attributes))) (of_change (made_by by then_) n on.NewUndo)) ≡ without_histories o
-made-and-taken o s n free who by when then_ attributes =
+made-and-taken : (o : Observation) → Sound o → (n : ℕ) → has_number o.numbers n ≡ false → (maker undoing : Maker) (attributes : ChangeAttributes)
+    → without_histories (after (after o (of_change maker n (on.New attributes))) (of_change undoing n on.NewUndo)) ≡ without_histories o
+made-and-taken o s n free maker undoing attributes =
     let numbers = put-back by_number itself n o.numbers s.project.numbers_ascend (not-some _ free) in
-    let changes = put-back by_number number_of_change (new_change (made_by who when) n attributes) o.changes s.changes.ascend (no-change o s n free) in
+    let changes = put-back by_number number_of_change (new_change maker n attributes) o.changes s.changes.ascend (no-change o s n free) in
     λ i. record (without_histories o) { numbers = numbers i; changes = map without_history (changes i) }
 
 change-made : Reversal function.NewChange function.NewChangeUndo
@@ -88,21 +88,21 @@ change-made c d who by when then_ view sight log o events legal stood may accept
     let s : Sound o = legal-sound log o legal stood in
     let f = a-free o (free_number o) refl (a-number-is-free o (tested (nat_le (length o.numbers + 1) 1990) (Limit Changes 1990) p.before.1.1.1.0)) in
     let attributes : ChangeAttributes = given_in (change_file (given_at log o done)) (old_change_attributes o c.change) in
-    let first = of_change (made_by who when) f.n (on.New attributes) in
-    let second = of_change (made_by by then_) f.n on.NewUndo in
+    let first = of_change (maker_at done) f.n (on.New attributes) in
+    let second = of_change (maker_at undone) f.n on.NewUndo in
     let now = after o first in
-    let x = new_change (made_by who when) f.n attributes in
+    let x = new_change (maker_at done) f.n attributes in
     let at_x : change_at now f.n ≡ Some x = at-put by_number number_of_change f.n x o.changes ∙ ap (λ b. cond b (Some x) (change_in o.changes f.n)) (by_number.same_self f.n) in
     let dn : d.change ≡ Some f.n = undo.change ∙ f.is in
-    let are : first ∷ [] ≡ events = ap (λ (m : Option ℕ). event_of who when m (on.New attributes) ∷ []) (sym f.is) ∙ p.these in
+    let are : first ∷ [] ≡ events = ap (λ (m : Option ℕ). event_by (maker_at done) m (on.New attributes) ∷ []) (sym f.is) ∙ p.these in
     let call = call_of now (with_function function.NewChangeUndo d) by in
     subst (λ (es : List Event). IsReversed log (followed log es) o done undone) are
     (reversed-by log done undone o (first ∷ []) (second ∷ []) legal stood may (accepted ∙ ap (λ (es : List Event). Accept es) (sym are)) (subst (λ (es : List Event). MayCome (followed log es) undone) (sym are) may_then)
     (unrefused (given_at (first ∷ log) now undone) refl
     (project-still o now d refl undo.project, (change-still now d.change f.n x dn at_x, (on-named phase_is_right call f.n x dn at_x refl, (ap (refuses_making o.project) undo.who ∙ p.before.1.1.0, tt)))))
     refl
-    (ap (λ (m : Option ℕ). event_of by then_ m on.NewUndo ∷ []) dn)
-    (made-and-taken o s f.n f.free who by when then_ attributes)
+    (ap (λ (m : Option ℕ). event_by (maker_at undone) m on.NewUndo ∷ []) dn)
+    (made-and-taken o s f.n f.free (maker_at done) (maker_at undone) attributes)
     (same-bytes (version_bytes log)))
 
 pub reverses-new_change : ReversesOf function.NewChange

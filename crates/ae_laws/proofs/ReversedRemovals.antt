@@ -40,7 +40,7 @@ use Rattle.ae_machine.specs.Laws.{ReversesOf, IsReversed, all_differ, files_name
 use Rattle.ae_files.specs.Clash.{clash}
 use Rattle.ae_machine.specs.Paths.{kept, with_paths, paths_with, no_clash, files_with, file_made, files_then, takes_away, not_in_change, in_baseline, usage_in_baseline, asked_of_path, path_refused, first_path_refused, paths_are_right}
 use Rattle.ae_machine.specs.Permission.{right_project, right_change, right_phase, caller_develops, phase_is_right, developer_is_caller}
-use Rattle.ae_machine.specs.Verdict.{asked_of_sight, event_of, events_of, answer, refusal}
+use Rattle.ae_machine.specs.Verdict.{asked_of_sight, events_of, answer, refusal}
 use Rattle.ae_machine.proofs.Accepted.{change-there, with_function}
 use Rattle.ae_machine.proofs.AcceptedIntegration.{with-old, with-new, put-has, in-kept, filter-has}
 use Rattle.ae_machine.proofs.AcceptedRoles.{both-none}
@@ -49,6 +49,8 @@ use Rattle.ae_machine.proofs.LegalRightly.{legal-sound}
 use Rattle.ae_machine.proofs.Reversing.{Reversal, reverses-of, given_at, first-passed, first-follows, unrefused, occasion_of, named, project-still, change-still, on-named}
 use Rattle.ae_machine.proofs.ReversedPaths.{with_files, at-without, without-ascends, others-differ, file_of, filing, all_put, filed, put-all, put-found, at-puts, puts-ascend}
 use Rattle.ae_laws.proofs.ReversedFiles.{taken, absent, not-there, between, paths-reversed, still-developer, on-found, name-still}
+use Rattle.ae_log.specs.Maker.{event_by}
+use Rattle.ae_machine.specs.Legal.{maker_at}
 
 -- ---- the paths that the project would have
 
@@ -216,7 +218,7 @@ removal-made c d who by when then_ view sight log o events legal stood may accep
     let act : List ℕ → Action = λ (q : List ℕ). action.Remove in
     let usages : List ℕ → Usage = usage_in_baseline call in
     let origin : List ℕ → ℕ = edit_of o in
-    let first = filed act usages origin who when m.n c.paths in
+    let first = filed act usages origin (maker_at done) m.n c.paths in
     let now = after_all o first in
     let next = followed log first in
     let call_then = call_of now (with_function function.RemoveFileUndo d) by in
@@ -227,11 +229,11 @@ removal-made c d who by when then_ view sight log o events legal stood may accep
     let develops = on-found developer_is_caller call m.n x m.is m.there p.before.1.1.1.0 in
     let none_there : (q : List ℕ) → In c.paths q → file_in x.files q ≡ None =
     absent call (file_of act usages origin) (λ q files e. not-there call q files (both-none (not_in_change call files q) _ (both-none (in_baseline call files q) _ e).1).0) (λ q. refl) (λ q. refl) c.paths x.files right in
-    let c1 = project-still o now d (name-still act usages origin o who when m.n c.paths) undo.project in
+    let c1 = project-still o now d (name-still act usages origin o (maker_at done) m.n c.paths) undo.project in
     let c2 = change-still now d.change m.n later dn at_later in
     let c3 = on-named phase_is_right call_then m.n later dn at_later (ap (λ (q : Phase). unless (is_being_developed q) (WrongPhase q)) (developed-is x.phase m.so)) in
     let c4 = on-named developer_is_caller call_then m.n later dn at_later (still-developer who by x undo.who develops) in
-    let are : first ≡ events = ap (λ (v : Option ℕ). map (event_of who when v) (map (filing act usages origin) c.paths)) (sym m.is) ∙ p.these in
+    let are : first ≡ events = ap (λ (v : Option ℕ). map (event_by (maker_at done) v) (map (filing act usages origin) c.paths)) (sym m.is) ∙ p.these in
     let follow = first-follows log done o first legal stood may (accepted ∙ ap (λ (es : List Event). Accept es) (sym are)) in
     let same_paths : first_path_refused call_then d.paths later.files ≡ first_path_refused call_then c.paths later.files = ap (λ (ps : List (List ℕ)). first_path_refused call_then ps later.files) undo.paths in
     let give : (v : Option Refusal) → first_path_refused call_then c.paths later.files ≡ v → IsReversed log (followed log events) o done undone =
@@ -239,7 +241,7 @@ removal-made c d who by when then_ view sight log o events legal stood may accep
       | None ↦ λ e. paths-reversed act usages origin log done undone o events legal stood may accepted may_then m.n x m.is dn undo.paths m.there refl (λ next now. refl) none_there refl
           (unrefused (given_at next now undone) refl (c1, (c2, (c3, (c4, (on-named paths_are_right call_then m.n later dn at_later (same_paths ∙ e), tt))))))
       | Some r ↦ λ e.
-          let k = clashed o now call_then refl refl (λ files. ap (λ (q : Observation). paths_with q files) (put-all act usages origin c.paths o who when m.n)) (file_of act usages origin) (λ q. refl) x.files
+          let k = clashed o now call_then refl refl (λ files. ap (λ (q : Observation). paths_with q files) (put-all act usages origin c.paths o (maker_at done) m.n)) (file_of act usages origin) (λ q. refl) x.files
           c.paths later.files (puts-ascend act usages origin c.paths x.files up) differ (put-found act usages origin c.paths x.files) none_there (others-stay act usages origin c.paths x.files) r e in
           let given = given_at next now undone in
           let refused : refusal given ≡ Some r = ap (λ v. option_or v (first_of (asked_of_sight function.RemoveFileUndo) given))

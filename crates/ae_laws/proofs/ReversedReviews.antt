@@ -13,7 +13,6 @@ use Rattle.ae_log.specs.declared.event.EventKind.TheVariants as on
 use Rattle.ae_log.specs.After.{after, change_after}
 use Rattle.ae_log.specs.Applies.{is_awaiting_review, is_being_reviewed}
 use Rattle.ae_log.specs.Files.{version_bytes}
-use Rattle.ae_log.specs.Maker.{made_by}
 use Rattle.ae_log.proofs.ChangeSteps.{awaits_review-is, reviewed-is}
 use Rattle.ae_log.proofs.Steps.{of_change}
 use Rattle.ae_words.specs.declared.table.Function.TheVariants as function
@@ -25,6 +24,7 @@ use Rattle.ae_machine.proofs.Accepted.{change-there, with_function}
 use Rattle.ae_machine.proofs.AcceptedPaths.{changed-at}
 use Rattle.ae_machine.proofs.LegalRightly.{legal-sound}
 use Rattle.ae_machine.proofs.Reversing.{Reversal, reverses-of, first-passed, pair-reversed, same-bytes, occasion_of, named, project-still, change-still, on-named}
+use Rattle.ae_machine.specs.Legal.{maker_at}
 
 -- whoever did it undoes it
 pub same-caller : (by who : List ℕ) (why : Refusal) → by ≡ who → unless (bytes_eq by who) why ≡ None
@@ -38,16 +38,16 @@ review-begun c d who by when then_ view sight log o events legal stood may accep
     let m = named o c.change is_awaiting_review (change-there (with_function function.ReviewBegin c) may.formed.whole refl) p.before.1.0 p.before.1.1.0 in
     let s : Sound o = legal-sound log o legal stood in
     let x = m.change in
-    let event = of_change (made_by who when) m.n on.ReviewBegin in
+    let event = of_change (maker_at done) m.n on.ReviewBegin in
     let now = after o event in
     let later = change_after o.project.next_version event x in
     let at_later : change_at now m.n ≡ Some later = changed-at o.changes m.n (change_after o.project.next_version event) (λ y. refl) x m.there in
     let dn : d.change ≡ Some m.n = undo.change ∙ m.is in
     let is : x.phase ≡ phase.AwaitingReview = awaits_review-is x.phase m.so in
     let none : x.reviewing ≡ None = (s.changes.good m.n x m.there).people.reviewing (ap may_be_reviewing is) in
-    let same : without_history (change_after o.project.next_version (of_change (made_by by then_) m.n on.ReviewBeginUndo) later) ≡ without_history x = λ i. record (without_history x) { phase = sym is i; reviewing = sym none i } in
+    let same : without_history (change_after o.project.next_version (of_change (maker_at undone) m.n on.ReviewBeginUndo) later) ≡ without_history x = λ i. record (without_history x) { phase = sym is i; reviewing = sym none i } in
     let call = call_of now (with_function function.ReviewBeginUndo d) by in
-    pair-reversed log done undone o events legal stood may accepted may_then m.n x m.is dn m.there on.ReviewBegin on.ReviewBeginUndo (λ o who when n. refl) (λ o who when n. refl) (λ y. refl) refl (λ next now. refl) same refl refl
+    pair-reversed log done undone o events legal stood may accepted may_then m.n x m.is dn m.there on.ReviewBegin on.ReviewBeginUndo (λ o maker n. refl) (λ o maker n. refl) (λ y. refl) refl (λ next now. refl) same refl refl
     (project-still o now d refl undo.project, (change-still now d.change m.n later dn at_later, (on-named phase_is_right call m.n later dn at_later refl, (on-named beginner_is_caller call m.n later dn at_later (same-caller by who (NotThisReviewer (Some who)) undo.who), tt))))
     (same-bytes (version_bytes log))
 
@@ -62,16 +62,16 @@ review-passed c d who by when then_ view sight log o events legal stood may acce
     let m = named o c.change is_being_reviewed (change-there (with_function function.ReviewPass c) may.formed.whole refl) p.before.1.0 p.before.1.1.0 in
     let s : Sound o = legal-sound log o legal stood in
     let x = m.change in
-    let event = of_change (made_by who when) m.n on.Pass in
+    let event = of_change (maker_at done) m.n on.Pass in
     let now = after o event in
     let later = change_after o.project.next_version event x in
     let at_later : change_at now m.n ≡ Some later = changed-at o.changes m.n (change_after o.project.next_version event) (λ y. refl) x m.there in
     let dn : d.change ≡ Some m.n = undo.change ∙ m.is in
     let is : x.phase ≡ phase.BeingReviewed = reviewed-is x.phase m.so in
     let none : x.reviewer ≡ None = not-some x.reviewer ((s.changes.good m.n x m.there).people.reviewer ∙ ap (λ p. has_reviewer p x.history) is) in
-    let same : without_history (change_after o.project.next_version (of_change (made_by by then_) m.n on.PassUndo) later) ≡ without_history x = λ i. record (without_history x) { phase = sym is i; reviewer = sym none i } in
+    let same : without_history (change_after o.project.next_version (of_change (maker_at undone) m.n on.PassUndo) later) ≡ without_history x = λ i. record (without_history x) { phase = sym is i; reviewer = sym none i } in
     let call = call_of now (with_function function.ReviewPassUndo d) by in
-    pair-reversed log done undone o events legal stood may accepted may_then m.n x m.is dn m.there on.Pass on.PassUndo (λ o who when n. refl) (λ o who when n. refl) (λ y. refl) refl (λ next now. refl) same refl refl
+    pair-reversed log done undone o events legal stood may accepted may_then m.n x m.is dn m.there on.Pass on.PassUndo (λ o maker n. refl) (λ o maker n. refl) (λ y. refl) refl (λ next now. refl) same refl refl
     (project-still o now d refl undo.project, (change-still now d.change m.n later dn at_later, (on-named phase_is_right call m.n later dn at_later refl, (on-named passer_is_caller call m.n later dn at_later (same-caller by who (NotThisReviewer (Some who)) undo.who), tt))))
     (same-bytes (version_bytes log))
 

@@ -15,6 +15,7 @@ ghost use Rattle.ae_machine.specs.Partly.{PartsAnswer, PartsAreCalled, PartsAreF
 ghost use Rattle.ae_machine.specs.Provenance.{Provenance};
 ghost use Rattle.ae_machine.specs.Released.{LegalIsReleased};
 ghost use Rattle.ae_machine.specs.Rules.{PathsWithRule, PathsEverRule, CandidateRule, BaseTreeRule};
+ghost use Rattle.ae_laws.specs.Reasons.{ReasonsAreTold};
 ghost use Rattle.ae_laws.specs.Statuses.{LegalHasStatuses};
 ghost use Rattle.ae_machine.specs.TypedPaths.{LegalHasPaths, PathsAskedAre};
 ghost use Rattle.ae_machine.specs.Verdict.{refused_before, verdict};
@@ -57,6 +58,11 @@ pub fn legal_logs_have_facts()
 /// Each run of a legal log has a status below 512: a code, or 256 and a signal. So each can be recorded.
 pub fn legal_runs_have_statuses()
     ensures { LegalHasStatuses }
+{}
+
+/// The reason that a command gives goes with an event that adds a row to a history, and no other event has one.
+pub fn reasons_are_told()
+    ensures { ReasonsAreTold }
 {}
 
 /// The paths that stand after a legal log are paths, and so are those whose files a command reads.

@@ -1,5 +1,5 @@
 -- Each event keeps the rules.
-use Rattle.std.proofs.Common.{◌≡◌, ℕ, refl, List, Option, Some, None, true}
+use Rattle.std.proofs.Common.{◌≡◌, ℕ, refl, Option, Some, None, true}
 use Rattle.std.specs.Prelude.{IsSomeAnd}
 use Rattle.ae_types.specs.declared.change.Change.{Change}
 use Rattle.ae_types.specs.Observation.{Observation}

@@ -1,5 +1,5 @@
 -- The phase of a change, and its history.
-use Rattle.std.specs.Prelude.{ℕ, List, [], ◌∷◌, ◌++◌, Option, Some, None, if◌then◌else◌, is_some}
+use Rattle.std.specs.Prelude.{List, [], ◌∷◌, ◌++◌, Option, Some, None, if◌then◌else◌, is_some}
 use Rattle.ae_base.specs.declared.words.Phase.{Phase}
 use Rattle.ae_base.specs.declared.words.Phase.TheVariants as phase
 use Rattle.ae_base.specs.declared.words.What.{What}
@@ -66,7 +66,7 @@ word_of _ = None
 
 -- the rows with one more at the end, where there is a word for it
 abbrev pub with_row : Option What → Maker → List HistoryRow → List HistoryRow
-with_row (Some word) maker rows = rows ++ record { what = word; who = maker.who; when = maker.when } ∷ []
+with_row (Some word) maker rows = rows ++ record { what = word; who = maker.who; when = maker.when; why = maker.why } ∷ []
 with_row None maker rows = rows
 
 -- the events of the change that took it into a phase, in the order in which they happened

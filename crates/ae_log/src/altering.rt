@@ -64,6 +64,7 @@ fn enter_phase(alloc: Global, change: &mut Change, event: &Event) -> Result<(), 
             what,
             who: event.who.copy(alloc)?,
             when: event.when,
+            why: event.why.copy(alloc)?,
         }),
         None => Ok(()),
     }

@@ -1,4 +1,4 @@
-// What happens to a project: who did it, when, to which change, and what it is.
+// What happens to a project: who did it, when, why, to which change, and what it is.
 use ae_base::{
     Action, ChangeNo, Ground, Kind, Path, Phase, ProjectName, Role, Snapshot, Text, Usage, User,
 };
@@ -51,11 +51,13 @@ pub enum EventKind {
     IFail,
 }
 
-/// Something that happened: who did it, when, in seconds since 1970, to which change, and what it is.
+/// Something that happened: who did it, when, in seconds since 1970, why, to which change, and what it is. Where no reason was
+/// given `why` is the empty text.
 #[derive(Drop)]
 pub struct Event {
     pub who: User,
     pub when: u64,
+    pub why: Text,
     pub change: Option<ChangeNo>,
     pub what: EventKind,
 }

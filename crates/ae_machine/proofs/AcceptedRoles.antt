@@ -12,7 +12,7 @@ use Rattle.ae_log.specs.declared.event.EventKind.TheVariants as on
 use Rattle.ae_log.specs.After.{after}
 use Rattle.ae_machine.specs.Accepted.{AppliesAll}
 use Rattle.ae_machine.specs.Permission.{all_added, all_dropped}
-use Rattle.ae_machine.specs.Verdict.{event_of}
+use Rattle.ae_log.specs.Maker.{Maker, event_by}
 
 -- neither of two conditions refuses
 pub both-none : {A : Type 0} (x y : Option A) → option_or x y ≡ None → (x ≡ None) × (y ≡ None)
@@ -25,18 +25,18 @@ role-of Developer users project = refl
 role-of Reviewer users project = refl
 role-of Integrator users project = refl
 
-pub added-apply : (role : Role) (users : List (List ℕ)) (o : Observation) (who : List ℕ) (when : ℕ) → IsMoment when → all_added users (users_of role o.project) ≡ None
-    → AppliesAll o (map (event_of who when None) (map (on.RoleAdd role) users))
-added-apply role [] o who when m h = tt
-added-apply role (user ∷ users) o who when m h =
+pub added-apply : (role : Role) (users : List (List ℕ)) (o : Observation) (maker : Maker) → IsMoment maker.when → all_added users (users_of role o.project) ≡ None
+    → AppliesAll o (map (event_by maker None) (map (on.RoleAdd role) users))
+added-apply role [] o maker m h = tt
+added-apply role (user ∷ users) o maker m h =
     let now = users_of role o.project in
     let p = both-none (refuses_adding now user) (all_added users (now ++ user ∷ [])) h in
-    (record { moment = m; comes = p.0 }, added-apply role users (after o (event_of who when None (on.RoleAdd role user))) who when m (ap (all_added users) (role-of role (now ++ user ∷ []) o.project) ∙ p.1))
+    (record { moment = m; comes = p.0 }, added-apply role users (after o (event_by maker None (on.RoleAdd role user))) maker m (ap (all_added users) (role-of role (now ++ user ∷ []) o.project) ∙ p.1))
 
-pub dropped-apply : (role : Role) (users : List (List ℕ)) (o : Observation) (who : List ℕ) (when : ℕ) → IsMoment when → all_dropped role users (users_of role o.project) ≡ None
-    → AppliesAll o (map (event_of who when None) (map (on.RoleDrop role) users))
-dropped-apply role [] o who when m h = tt
-dropped-apply role (user ∷ users) o who when m h =
+pub dropped-apply : (role : Role) (users : List (List ℕ)) (o : Observation) (maker : Maker) → IsMoment maker.when → all_dropped role users (users_of role o.project) ≡ None
+    → AppliesAll o (map (event_by maker None) (map (on.RoleDrop role) users))
+dropped-apply role [] o maker m h = tt
+dropped-apply role (user ∷ users) o maker m h =
     let now = users_of role o.project in
     let p = both-none (refuses_dropping role now user) (all_dropped role users (without user now)) h in
-    (record { moment = m; comes = p.0 }, dropped-apply role users (after o (event_of who when None (on.RoleDrop role user))) who when m (ap (all_dropped role users) (role-of role (without user now) o.project) ∙ p.1))
+    (record { moment = m; comes = p.0 }, dropped-apply role users (after o (event_by maker None (on.RoleDrop role user))) maker m (ap (all_dropped role users) (role-of role (without user now) o.project) ∙ p.1))

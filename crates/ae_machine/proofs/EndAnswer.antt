@@ -25,9 +25,10 @@ use Rattle.ae_machine.specs.Call.{Call, Given, call_of, change_of, first_of, unl
 use Rattle.ae_machine.specs.Freezing.{change_is_small, develop_runs_count, files_are_as_asked, first_content_refused, first_difference, size_of, versions_have_places}
 use Rattle.ae_machine.specs.Permission.{may_come_in, right_change, right_phase, right_project, within}
 use Rattle.ae_machine.specs.Sight.{change_tree, paths_read}
-use Rattle.ae_machine.specs.Verdict.{answer, asked, asked_of_sight, change_of_events, ends, event_of, events_of, is_new_project, kinds_of, next_phase, refused_before}
+use Rattle.ae_machine.specs.Verdict.{answer, asked, asked_of_sight, change_of_events, ends, events_of, is_new_project, kinds_of, next_phase, refused_before, maker_in}
 use Rattle.ae_machine.specs.Versions.{files_refused, kept_files_refused}
 use Rattle.ae_machine.proofs.AcceptedRoles.{both-none}
+use Rattle.ae_log.specs.Maker.{event_by}
 
 -- ---- the phase
 
@@ -87,10 +88,10 @@ module _ (given : Given) where
       (option_and_then (versions_have_places given) found)
 
   abbrev pub these : Option Change → List Event
-  these found = map (event_of given.call.who given.when given.call.command.change) (ends given found)
+  these found = map (event_by (maker_in given) given.call.command.change) (ends given found)
 
   these-are : given.call.command.function ≡ function.DevelopEnd → events_of given ≡ these (change_of given.call)
-  these-are is = ap (λ f. map (event_of given.call.who given.when (change_of_events f given.call)) (kinds_of f given)) is
+  these-are is = ap (λ f. map (event_by (maker_in given) (change_of_events f given.call)) (kinds_of f given)) is
 
   answer-is : given.call.command.function ≡ function.DevelopEnd → (found : Option Change) → change_of given.call ≡ found
       → answer (asked-of found) (these found) ≡ answer (first_of (asked_of_sight function.DevelopEnd) given) (events_of given)
@@ -130,8 +131,8 @@ tree-why given change tree why found there is asks =
 -- and its end
 pub end-of : (given : Given) (change : Change) (tree : Rows) → tree ≡ change_tree given change
     → answer (unless (is_some (given.places given.call.stands tree)) SpaceFull)
-    (event_of given.call.who given.when given.call.command.change (on.End tree (next_phase given.call.stands.project.attributes.develop_end_action) (unwrap_or (given.places given.call.stands tree) [])) ∷ [])
+    (event_by (maker_in given) given.call.command.change (on.End tree (next_phase given.call.stands.project.attributes.develop_end_action) (unwrap_or (given.places given.call.stands tree) [])) ∷ [])
     ≡ answer (versions_have_places given change) (these given (Some change))
 end-of given change tree is =
     ap (λ (rows : Rows). answer (unless (is_some (given.places given.call.stands rows)) SpaceFull)
-    (event_of given.call.who given.when given.call.command.change (on.End rows (next_phase given.call.stands.project.attributes.develop_end_action) (unwrap_or (given.places given.call.stands rows) [])) ∷ [])) is
+    (event_by (maker_in given) given.call.command.change (on.End rows (next_phase given.call.stands.project.attributes.develop_end_action) (unwrap_or (given.places given.call.stands rows) [])) ∷ [])) is

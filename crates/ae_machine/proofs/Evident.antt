@@ -38,11 +38,12 @@ use Rattle.ae_machine.proofs.LegalRightly.{rightly}
 use Rattle.ae_machine.proofs.Lists.{members-all}
 use Rattle.ae_machine.proofs.Provided.{at-evidence, none-missing, was-run}
 use Rattle.ae_machine.proofs.StoredVersions.{bytes-stand, candidate-stored}
+use Rattle.ae_log.specs.Maker.{Maker, event_by, maker_of}
 
 abbrev key_of : Needed → RunKey
 key_of needed = record { during = Integrate; kind = needed.kind; path = needed.path }
 
-module _ (log : Log) (who : List ℕ) (when n : ℕ) (o : Observation) (stood : observation log ≡ Some o) (s : Sound o) (x : Change) (at_n : change_at o n ≡ Some x) (right : is_integrating x.phase ≡ true)
+module _ (log : Log) (maker : Maker) (n : ℕ) (o : Observation) (stood : observation log ≡ Some o) (s : Sound o) (x : Change) (at_n : change_at o n ≡ Some x) (right : is_integrating x.phase ≡ true)
     (runs : missing o x Integrate (digest_rows (candidate_of o x)) ≡ None) (f : FactsAt log n) where
   abbrev digest : List ℕ
   digest = digest_rows (candidate_of o x)
@@ -64,7 +65,7 @@ module _ (log : Log) (who : List ℕ) (when n : ℕ) (o : Observation) (stood : 
         clean = parts.1;
         subject = by_text.same_is row.subject digest parts.2;
         latest = at;
-        run = was-run log who when n o stood s x at_n right runs f needed has;
+        run = was-run log maker n o stood s x at_n right runs f needed has;
       }
 
   row-evident : (needed : Needed) → has_counting x Integrate digest needed ≡ true → RowIsEvident log n o x needed
@@ -89,22 +90,22 @@ module _ (log : Log) (who : List ℕ) (when n : ℕ) (o : Observation) (stood : 
   pass-evident = subst (λ (v : Option Observation). IsSomeAnd v (λ o. IsSomeAnd (change n (course log n)) (HasEvidence log n o))) (sym stood)
       (subst (λ (v : Option Change). IsSomeAnd v (HasEvidence log n o)) (sym (ap (option_map (change_with n (course log n))) here.has ∙ ap (λ (y : Change). Some y) (sym here.is))) has-evidence)
 
-evident-at : (log : Log) (who : List ℕ) (when : ℕ) (c : Option ℕ) (kind : EventKind) (v : Option Observation) → observation log ≡ v → ComesAfter log v (record { who = who; when = when; change = c; what = kind }) → Facts log
+evident-at : (log : Log) (maker : Maker) (c : Option ℕ) (kind : EventKind) (v : Option Observation) → observation log ≡ v → ComesAfter log v (event_by maker c kind) → Facts log
     → EvidentAt log c kind
-evident-at log who when (Some n) on.IPass (Some o) stood c f = go (change_at o n) refl c.applies.comes
+evident-at log maker (Some n) on.IPass (Some o) stood c f = go (change_at o n) refl c.applies.comes
   where
     go : (v : Option Change) → change_at o n ≡ v → IsSomeAnd v (λ (change : Change). (is_integrating change.phase ≡ true) × Unit {0}) → EvidentAt log (Some n) on.IPass
-    go (Some x) at_n h = pass-evident log who when n o stood c.sound x at_n h.0 (c.seen x at_n) (f.each n)
+    go (Some x) at_n h = pass-evident log maker n o stood c.sound x at_n h.0 (c.seen x at_n) (f.each n)
     go None at_n h = absurd h
-evident-at log who when (Some n) on.IPass None stood c f = absurd c.1.project
-evident-at log who when None on.IPass (Some o) stood c f = absurd c.applies.comes
-evident-at log who when None on.IPass None stood c f = absurd c.1.project
-evident-at log who when (Some n) kind v stood c f = tt
-evident-at log who when None kind v stood c f = tt
+evident-at log maker (Some n) on.IPass None stood c f = absurd c.1.project
+evident-at log maker None on.IPass (Some o) stood c f = absurd c.applies.comes
+evident-at log maker None on.IPass None stood c f = absurd c.1.project
+evident-at log maker (Some n) kind v stood c f = tt
+evident-at log maker None kind v stood c f = tt
 
 pub evident : (log : Log) → Rightly log → Evident log
 evident [] r = tt
-evident (event ∷ log) r = (evident-at log event.who event.when event.change event.what (observation log) refl r.0 (facts log r.1), evident log r.1)
+evident (event ∷ log) r = (evident-at log (maker_of event) event.change event.what (observation log) refl r.0 (facts log r.1), evident log r.1)
 
 pub legal-evident : LegalIsEvident
 legal-evident log legal = evident log (rightly log legal)

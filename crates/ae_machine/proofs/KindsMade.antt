@@ -17,8 +17,9 @@ use Rattle.ae_machine.specs.Call.{Given, change_of}
 use Rattle.ae_machine.specs.Fits.{makes_runs}
 use Rattle.ae_machine.specs.Paths.{file_made, kind_made, path_event}
 use Rattle.ae_machine.specs.Runs.{run_event}
-use Rattle.ae_machine.specs.Verdict.{kinds_of, end_of_development, ends, event_of, runs}
+use Rattle.ae_machine.specs.Verdict.{kinds_of, end_of_development, ends, runs}
 use Rattle.ae_machine.proofs.Lists.{members-all}
+use Rattle.ae_log.specs.Maker.{Maker, event_by}
 
 -- the function that makes such a kind, and nothing else
 abbrev pub function_making : EventKind → Option Function
@@ -96,6 +97,6 @@ abbrev pub Each : (EventKind → Type 0) → List Event → Type 0
 Each P [] = Unit {0}
 Each P (event ∷ events) = P event.what × Each P events
 
-pub each-event : (P : EventKind → Type 0) (kinds : List EventKind) (who : List ℕ) (when : ℕ) (number : Option ℕ) → All P kinds → Each P (map (event_of who when number) kinds)
-each-event P [] who when number all = tt
-each-event P (kind ∷ kinds) who when number all = (All-head P kind kinds all, each-event P kinds who when number (All-tail P kind kinds all))
+pub each-event : (P : EventKind → Type 0) (kinds : List EventKind) (maker : Maker) (number : Option ℕ) → All P kinds → Each P (map (event_by maker number) kinds)
+each-event P [] maker number all = tt
+each-event P (kind ∷ kinds) maker number all = (All-head P kind kinds all, each-event P kinds maker number (All-tail P kind kinds all))

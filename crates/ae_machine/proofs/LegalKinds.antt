@@ -10,7 +10,7 @@ use Rattle.ae_log.specs.Observed.{observation}
 use Rattle.ae_machine.specs.declared.verdict.Verdict.TheVariants.{Accept}
 use Rattle.ae_machine.specs.Accepted.{AreStart, decided}
 use Rattle.ae_machine.specs.Call.{Given, given_of}
-use Rattle.ae_machine.specs.Legal.{Legal, MayCome, Occasion, nothing, more}
+use Rattle.ae_machine.specs.Legal.{Legal, MayCome, Occasion, nothing, more, maker_at}
 use Rattle.ae_machine.specs.Space.{placing}
 use Rattle.ae_machine.specs.Verdict.{change_of_events, kinds_of}
 use Rattle.ae_machine.proofs.Accepted.{accepted-passes}
@@ -42,6 +42,6 @@ module _ (P : EventKind → Type 0) (first : (kind : EventKind) → IsProject ki
       go (Some o) there =
           let given : Given = given_after before o occasion in
           subst (Each P) (accepted-passes o (version_bytes before) occasion events (answered (Some o) there)).these
-          (each-event P (kinds_of occasion.command.function given) occasion.who occasion.when (change_of_events occasion.command.function given.call)
+          (each-event P (kinds_of occasion.command.function given) (maker_at occasion) (change_of_events occasion.command.function given.call)
           (kinds-all P occasion.command.function given (have before o occasion may)))
       go None there = of-start events (accepted-starts (version_bytes before) occasion events (answered None there))

@@ -18,7 +18,7 @@ use Rattle.ae_log.specs.Baseline.{Entry, TreeFile, deltas, deltas_after, past, w
 use Rattle.ae_log.specs.Files.{FileFact, file, frozen, paths}
 use Rattle.ae_log.specs.Log.{Log, Happened, course}
 use Rattle.ae_log.specs.Observed.{observation, observation_with, change, file_row, file_version}
-use Rattle.ae_log.specs.Maker.{made_by}
+use Rattle.ae_log.specs.Maker.{Maker, event_by, maker_of}
 use Rattle.ae_log.proofs.Listed.{own_row, unlisted-past}
 use Rattle.ae_log.proofs.Steps.{of_change, happens, differ, attributes-of}
 use Rattle.ae_machine.specs.Evident.{EvidentAt, Evident}
@@ -37,10 +37,10 @@ some-and P (Some a) h = (a, h)
 some-and P None h = absurd h
 
 -- is the candidate, where the integration is provided for
-passed-is : (log : Log) (who : List ℕ) (when n : ℕ) → ProvidedAt log (of_change (made_by who when) n on.IPass) (Some n) on.IPass → baseline (of_change (made_by who when) n on.IPass ∷ log) ≡ candidate log n
-passed-is log who when n h =
-    let o = some-and (λ o. IsSomeAnd (change n (course log n)) (IsProvided log (of_change (made_by who when) n on.IPass) n o)) (observation log) h in
-    let x = some-and (IsProvided log (of_change (made_by who when) n on.IPass) n o.0) (change n (course log n)) o.1 in
+passed-is : (log : Log) (maker : Maker) (n : ℕ) → ProvidedAt log (of_change maker n on.IPass) (Some n) on.IPass → baseline (of_change maker n on.IPass ∷ log) ≡ candidate log n
+passed-is log maker n h =
+    let o = some-and (λ o. IsSomeAnd (change n (course log n)) (IsProvided log (of_change maker n on.IPass) n o)) (observation log) h in
+    let x = some-and (IsProvided log (of_change maker n on.IPass) n o.0) (change n (course log n)) o.1 in
     let provided = x.1 in
     provided.baseline
 
@@ -86,13 +86,13 @@ record IsTraced (log : Log) (entry : Entry) (file : TreeFile) : Type 0 where
   pub passed : pass_of log entry.delta ≡ Some pass
   pub came : CameBy file entry.delta number pass
 
-module _ (log : Log) (who : List ℕ) (when n : ℕ) (provided : ProvidedAt log (of_change (made_by who when) n on.IPass) (Some n) on.IPass) (evident : EvidentAt log (Some n) on.IPass)
+module _ (log : Log) (maker : Maker) (n : ℕ) (provided : ProvidedAt log (of_change maker n on.IPass) (Some n) on.IPass) (evident : EvidentAt log (Some n) on.IPass)
     (p : List ℕ) (entry : Entry) (t : TreeFile) (is : entry_file p entry ≡ Some t) where
   abbrev last : ℕ
   last = length (deltas log)
 
   abbrev pass : Happened
-  pass = happens log (made_by who when) n on.IPass
+  pass = happens log maker n on.IPass
 
   abbrev row : DeltaRow
   row = delta_row (last + 1) n pass.event
@@ -115,7 +115,7 @@ module _ (log : Log) (who : List ℕ) (when n : ℕ) (provided : ProvidedAt log 
           what = refl;
           change = refl;
           made = made;
-          in_candidate = ap (file_of (candidate log n)) own ∙ ap (λ (files : List TreeFile). file_of files p) (sym (passed-is log who when n provided)) ∙ at-baseline (pass.event ∷ log) p ∙ found;
+          in_candidate = ap (file_of (candidate log n)) own ∙ ap (λ (files : List TreeFile). file_of files p) (sym (passed-is log maker n provided)) ∙ at-baseline (pass.event ∷ log) p ∙ found;
           provided = provided;
           evident = evident;
         };
@@ -142,18 +142,18 @@ module _ (log : Log) (who : List ℕ) (when n : ℕ) (provided : ProvidedAt log 
           let e = sym (last-more last (past log p) (past-there log p)) ∙ old in
           by-earlier (past-there log p entry (last-in last (past log p) entry e)) (rest e)
 
-step : (log : Log) (who : List ℕ) (when : ℕ) (c : Option ℕ) (kind : EventKind) → ProvidedAt log (record { who = who; when = when; change = c; what = kind }) c kind → EvidentAt log c kind
+step : (log : Log) (maker : Maker) (c : Option ℕ) (kind : EventKind) → ProvidedAt log (event_by maker c kind) c kind → EvidentAt log c kind
     → (p : List ℕ) (entry : Entry) (t : TreeFile) → entry_file p entry ≡ Some t
-    → last_up_to (length (deltas (record { who = who; when = when; change = c; what = kind } ∷ log))) (past (record { who = who; when = when; change = c; what = kind } ∷ log) p) ≡ Some entry
-    → (last_up_to (length (deltas log)) (past log p) ≡ Some entry → IsTraced log entry t) → IsTraced (record { who = who; when = when; change = c; what = kind } ∷ log) entry t
-step log who when (Some n) on.IPass provided evident p entry t is e rest = passed-came log who when n provided evident p entry t is e rest
-step log who when (Some n) kind provided evident p entry t is e rest = let r = rest e in record { number = r.number; pass = r.pass; delta = r.delta; passed = r.passed; came = r.came }
-step log who when None kind provided evident p entry t is e rest = let r = rest e in record { number = r.number; pass = r.pass; delta = r.delta; passed = r.passed; came = r.came }
+    → last_up_to (length (deltas (event_by maker c kind ∷ log))) (past (event_by maker c kind ∷ log) p) ≡ Some entry
+    → (last_up_to (length (deltas log)) (past log p) ≡ Some entry → IsTraced log entry t) → IsTraced (event_by maker c kind ∷ log) entry t
+step log maker (Some n) on.IPass provided evident p entry t is e rest = passed-came log maker n provided evident p entry t is e rest
+step log maker (Some n) kind provided evident p entry t is e rest = let r = rest e in record { number = r.number; pass = r.pass; delta = r.delta; passed = r.passed; came = r.came }
+step log maker None kind provided evident p entry t is e rest = let r = rest e in record { number = r.number; pass = r.pass; delta = r.delta; passed = r.passed; came = r.came }
 
 traced : (log : Log) → Provenance log → Evident log → (p : List ℕ) (entry : Entry) (t : TreeFile) → entry_file p entry ≡ Some t → last_up_to (length (deltas log)) (past log p) ≡ Some entry → IsTraced log entry t
 traced [] provided evident p entry t is e = none-some entry e
 traced (event ∷ log) provided evident p entry t is e =
-    step log event.who event.when event.change event.what provided.0 evident.0 p entry t is e (traced log provided.1 evident.1 p entry t is)
+    step log (maker_of event) event.change event.what provided.0 evident.0 p entry t is e (traced log provided.1 evident.1 p entry t is)
 
 -- ---- the row of the file table
 

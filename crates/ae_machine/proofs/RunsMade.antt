@@ -21,8 +21,9 @@ use Rattle.ae_machine.specs.Freezing.{configured, first_command_refused, right_f
 use Rattle.ae_machine.specs.Jobs.{AnswersJobs, AreJobs, IsJob}
 use Rattle.ae_machine.specs.Real.{command_for}
 use Rattle.ae_machine.specs.Runs.{command_by, command_of, config_bytes, delta_of_run, group, needed_of, run_event, subject, values_for}
-use Rattle.ae_machine.specs.Verdict.{change_of_events, event_of, answer, events_of, kinds_of, runs}
+use Rattle.ae_machine.specs.Verdict.{change_of_events, answer, events_of, kinds_of, runs, maker_in}
 use Rattle.ae_machine.proofs.CommandsRead.{command-read}
+use Rattle.ae_log.specs.Maker.{event_by}
 
 module _ (command : Needed → Result (List ℕ) Refusal) where
   jobs-append : (runs : List Needed) (jobs : List Job) (run : Needed) (job : Job) → AreJobs command runs jobs → IsJob command run job → AreJobs command (runs ++ run ∷ []) (jobs ++ job ∷ [])
@@ -91,12 +92,12 @@ module _ (given : Given) (change : Change) where
   map-both f g h e (x ∷ xs) = λ i. e x i ∷ map-both f g h e xs i
 
   pub events-made : makes_runs given.call.command.function ≡ true → change_of given.call ≡ Some change → config_bytes given change ≡ config_seen given.call.stands change given.view
-      → map (event_of given.call.who given.when given.call.command.change) (map on.Run (map recorded given.view.runs)) ≡ events_of given
+      → map (event_by (maker_in given) given.call.command.change) (map on.Run (map recorded given.view.runs)) ≡ events_of given
   events-made makes is seen =
-      ap (map (event_of given.call.who given.when given.call.command.change))
+      ap (map (event_by (maker_in given) given.call.command.change))
       (map-both recorded on.Run (λ run. on.Run (run_event given change run)) (λ run. ap on.Run (recorded-is seen run)) given.view.runs
       ∙ sym (ap (runs given) is) ∙ sym (kinds-are given given.call.command.function makes))
-      ∙ ap (λ n. map (event_of given.call.who given.when n) (kinds_of given.call.command.function given)) (sym (number-is given given.call.command.function makes))
+      ∙ ap (λ n. map (event_by (maker_in given) n) (kinds_of given.call.command.function given)) (sym (number-is given given.call.command.function makes))
 
 -- ---- as they were made
 
@@ -116,9 +117,9 @@ module _ (given : Given) (change : Change) where
   pub seen-events : makes_runs given.call.command.function ≡ true → change_of given.call ≡ Some change → config_bytes given change ≡ config_seen given.call.stands change given.view
       → (name : List ℕ) (delta : ℕ) (read : ConfigRead) (about : List ℕ) (events : List RunEvent) → name ≡ given.call.stands.project.name → delta ≡ delta_of_run given.call change
       → read ≡ config_read (config_seen given.call.stands change given.view) → about ≡ subject given change → events ≡ map (run_told name change delta read about) given.view.runs
-      → map (event_of given.call.who given.when given.call.command.change) (map on.Run events) ≡ events_of given
+      → map (event_by (maker_in given) given.call.command.change) (map on.Run events) ≡ events_of given
   seen-events makes is seen name delta read about events n d r a made =
-      ap (λ es. map (event_of given.call.who given.when given.call.command.change) (map on.Run es))
+      ap (λ es. map (event_by (maker_in given) given.call.command.change) (map on.Run es))
       (made ∙ (λ i. map (run_told (n i) change (d i) (r i) (a i)) given.view.runs))
       ∙ events-made given change makes is seen
 
@@ -152,4 +153,4 @@ nothing-named given makes is =
     ∙ ap (answer (first_of (right_files ∷ configured ∷ []) given)) none
   where
     none : [] ≡ events_of given
-    none = ap (map (event_of given.call.who given.when (change_of_events given.call.command.function given.call))) (sym (kinds-are given given.call.command.function makes ∙ ap (runs given) is))
+    none = ap (map (event_by (maker_in given) (change_of_events given.call.command.function given.call))) (sym (kinds-are given given.call.command.function makes ∙ ap (runs given) is))

@@ -6,6 +6,7 @@ use Rattle.ae_types.specs.Observation.{Observation}
 use Rattle.ae_log.specs.declared.event.Event.{Event}
 use Rattle.ae_log.specs.Files.{version_bytes}
 use Rattle.ae_log.specs.Log.{Log, followed}
+use Rattle.ae_log.specs.Maker.{Maker}
 use Rattle.ae_log.specs.Observed.{observation}
 use Rattle.ae_words.specs.declared.command.Command.{Command}
 use Rattle.ae_words.specs.declared.table.Function.{Function}
@@ -19,7 +20,7 @@ use Rattle.ae_machine.specs.Call.{given_of}
 use Rattle.ae_machine.specs.Fits.{Fits, IsWhole, FitsNothing}
 use Rattle.ae_machine.specs.Space.{placing}
 use Rattle.ae_machine.specs.Typed.{IsView}
-use Rattle.ae_machine.specs.Verdict.{verdict}
+use Rattle.ae_machine.specs.Verdict.{verdict, maker_by}
 
 -- one command, with who gives it, when, and what it sees
 pub record Occasion : Type 0 where
@@ -27,6 +28,10 @@ pub record Occasion : Type 0 where
   pub who : List ℕ
   pub when : ℕ
   pub view : View
+
+-- of whom its events are
+abbrev pub maker_at : Occasion → Maker
+maker_at occasion = maker_by occasion.command occasion.who occasion.when
 
 -- a script and the generator are no command of their own, but many, and one to come is none yet
 abbrev pub is_one_command : Function → Bool

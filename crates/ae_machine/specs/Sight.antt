@@ -11,7 +11,7 @@ use Rattle.ae_types.specs.declared.change.ChangeFile.{ChangeFile}
 use Rattle.ae_types.specs.Found.{file_path}
 use Rattle.ae_types.specs.Phases.{is_remove, is_integrating}
 use Rattle.ae_types.specs.Runs.{tests_of}
-use Rattle.ae_types.specs.Trees.{TreeRow, tree_path, paths_of, baseline_of, candidate_of}
+use Rattle.ae_types.specs.Trees.{TreeRow, paths_of, baseline_of, candidate_of}
 use Rattle.ae_words.specs.Meaning.{is_config}
 use Rattle.ae_evidence.specs.Directories.{bytes_of}
 use Rattle.ae_machine.specs.declared.view.View.{View}

@@ -2,7 +2,9 @@
 ghost use Rattle.std.specs.Prelude.{◌≡◌, option_copied};
 ghost use Rattle.ae_types.specs.Sound.{Sound};
 ghost use Rattle.ae_machine.specs.Call.{call_of, change_named, change_of};
+ghost use Rattle.ae_machine.specs.Verdict.{maker_by};
 
+use crate::maker::Maker;
 use ae_base::User;
 use ae_types::{Change, State};
 use ae_words::Command;
@@ -58,6 +60,13 @@ impl<'a> Call<'a> {
         ensures { result.now ≡ self.now.who }
     {
         self.who
+    }
+
+    /// Of whom its events are, where it is given at this moment.
+    pub(crate) fn maker(&self, when: u64) -> Maker<'a>
+        ensures { result ≡ maker_by self.now.command self.now.who when }
+    {
+        Maker::of(self.command, self.who, when)
     }
 
     /// The change that the command names, where it is there.

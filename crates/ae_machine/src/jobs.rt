@@ -11,7 +11,8 @@ ghost use Rattle.ae_machine.specs.Jobs.{AnswersJobs};
 ghost use Rattle.ae_conf.specs.Values.{IsCommand};
 ghost use Rattle.ae_machine.specs.Fits.{makes_runs};
 ghost use Rattle.ae_machine.specs.Runs.{needed_of};
-ghost use Rattle.ae_machine.specs.Verdict.{event_of, events_of};
+ghost use Rattle.ae_log.specs.Maker.{event_by};
+ghost use Rattle.ae_machine.specs.Verdict.{events_of, maker_by};
 ghost use Rattle.ae_machine.specs.Versions.{ShowsVersions};
 
 use crate::call::Call;
@@ -215,19 +216,13 @@ fn accept_runs(
 ) -> Result<Verdict, AllocError>
     requires { GivesCommands told.now.read.now }
     ensures { let event_told = run_told told.now.project.now told.now.change.now told.now.delta told.now.read.now subject in
-        IfOk result (λ verdict. verdict ≡ Accept (map (event_of call.now.who when call.now.command.change) (map on.Run (map event_told runs.now)))) }
+        IfOk result (λ verdict. verdict ≡ Accept (map (event_by (maker_by call.now.command call.now.who when) call.now.command.change) (map on.Run (map event_told runs.now)))) }
 {
+    let maker = call.maker(when);
     let mut events = EventList::new(alloc);
     for run in runs {
         let what = run_event(alloc, told, subject, run)?;
-        push_event(
-            alloc,
-            &mut events,
-            call.who(),
-            when,
-            call.command().change,
-            what,
-        )?;
+        push_event(alloc, &mut events, &maker, call.command().change, what)?;
     }
     Ok(Verdict::Accept(events))
 }

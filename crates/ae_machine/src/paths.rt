@@ -17,7 +17,8 @@ ghost use Rattle.ae_machine.specs.PathClash.{IsClearBut, asks_for_clashes};
 ghost use Rattle.ae_machine.specs.Paths.{asked_of_path, edit_named, file_made, files_then, files_with, in_baseline, in_change_so, in_trees, is_in, is_in_baseline, not_in_baseline, not_in_change, not_in_change_or_overwritten, path_event, path_refused, paths_are_right, takes_away, tree_named, usage_in_baseline, usage_of_new};
 ghost use Rattle.ae_machine.specs.Refused.{Answers, UnlessMemory};
 ghost use Rattle.ae_files.specs.InTree.{row_at};
-ghost use Rattle.ae_machine.specs.Verdict.{event_of};
+ghost use Rattle.ae_log.specs.Maker.{event_by};
+ghost use Rattle.ae_machine.specs.Verdict.{maker_by};
 
 use crate::Verdict;
 use crate::call::Call;
@@ -389,19 +390,13 @@ fn path_event(alloc: Global, call: &Call, path: &Path) -> Result<EventKind, Allo
 /// Accepted, with an event for each path.
 pub(crate) fn accept_files(alloc: Global, call: &Call, when: u64) -> Result<Verdict, AllocError>
     requires { is_of_files call.now.command.function ≡ true }
-    ensures { IfOk result (λ verdict. verdict ≡ Accept (map (event_of call.now.who when call.now.command.change) (map (path_event call.now) call.now.command.paths))) }
+    ensures { IfOk result (λ verdict. verdict ≡ Accept (map (event_by (maker_by call.now.command call.now.who when) call.now.command.change) (map (path_event call.now) call.now.command.paths))) }
 {
+    let maker = call.maker(when);
     let mut events = EventList::new(alloc);
     for path in call.command().paths.as_slice() {
         let what = path_event(alloc, call, path)?;
-        push_event(
-            alloc,
-            &mut events,
-            call.who(),
-            when,
-            call.command().change,
-            what,
-        )?;
+        push_event(alloc, &mut events, &maker, call.command().change, what)?;
     }
     Ok(Verdict::Accept(events))
 }

@@ -82,16 +82,12 @@ delta_field delta field_is.When = count delta.when
 delta_field delta field_is.Who = Text delta.who
 delta_field delta _ = lacking
 
--- why it was done: as long as no reasons are recorded, the empty text
-abbrev pub reason : HistoryRow → List ℕ
-reason row = []
-
 abbrev pub history_field : ℕ → HistoryRow → RowField → Value
 history_field change row field_is.Change = count change
 history_field change row field_is.What = Text (what_word row.what)
 history_field change row field_is.Who = Text row.who
 history_field change row field_is.When = count row.when
-history_field change row field_is.Why = Text (reason row)
+history_field change row field_is.Why = Text row.why
 history_field change row _ = lacking
 
 abbrev pub evidence_field : ℕ → Evidence → RowField → Value

@@ -140,7 +140,7 @@ pub(crate) fn history_field(
         RowField::What => text(alloc, row.what.word().as_bytes()),
         RowField::Who => text(alloc, row.who.bytes()),
         RowField::When => Ok(moment(row.when)),
-        RowField::Why => text(alloc, b""),
+        RowField::Why => text(alloc, row.why.bytes()),
         _ => Ok(no_field()),
     }
 }

@@ -98,7 +98,7 @@ flag_adds_at _ p c h = inr h
 
 -- the command without its options
 abbrev bare : Command → Command
-bare c = record c { project = None; change = None; attributes = None; delta = None; overwriting = false; baseline = false; regression = false }
+bare c = record c { project = None; change = None; attributes = None; delta = None; overwriting = false; baseline = false; regression = false; reason = None }
 
 bare_function : (c d : Command) → bare d ≡ bare c → d.function ≡ c.function
 bare_function c d same = ap (λ (x : Command). x.function) same
@@ -125,6 +125,7 @@ data Sets (c : Command) : Setting → Command → Type 0 where
   to_file : (v : List ℕ) → Sets c setting.File (record c { attributes = Some v })
   to_change : (n : ℕ) → Sets c setting.Change (record c { change = Some n })
   to_delta : (n : ℕ) → Sets c setting.Delta (record c { delta = Some n })
+  to_reason : (v : List ℕ) → Sets c setting.Reason (record c { reason = Some v })
 
 sets_along : (c d e : Command) (o : Setting) → Sets c o d → d ≡ e → Sets c o e
 sets_along c d e o m s = subst (λ (x : Command). Sets c o x) s m
@@ -142,6 +143,7 @@ value_sets setting.Project c d v e = sets_along c (record c { project = Some v }
 value_sets setting.File c d v e = sets_along c (record c { attributes = Some v }) d setting.File (to_file v) (some_if _ (record c { attributes = Some v }) d e).1
 value_sets setting.Change c d v e = change_sets c d (change_number v) e
 value_sets setting.Delta c d v e = delta_sets c d (delta_number v) e
+value_sets setting.Reason c d v e = sets_along c (record c { reason = Some v }) d setting.Reason (to_reason v) (some_if _ (record c { reason = Some v }) d e).1
 value_sets _ c d v e = absurd cc
 
 sets_at : (o p : Setting) (c d : Command) → Sets c o d → has d p ≡ true → (p ≡ o) ⊎ (has c p ≡ true)
@@ -153,6 +155,8 @@ sets_at _ setting.Change c _ (to_change n) h = inl refl
 sets_at _ _ c _ (to_change n) h = inr h
 sets_at _ setting.Delta c _ (to_delta n) h = inl refl
 sets_at _ _ c _ (to_delta n) h = inr h
+sets_at _ setting.Reason c _ (to_reason v) h = inl refl
+sets_at _ _ c _ (to_reason v) h = inr h
 
 sets_bare : (o : Setting) (c d : Command) → Sets c o d → bare d ≡ bare c
 sets_bare _ c _ (to_project v) = refl

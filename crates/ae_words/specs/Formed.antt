@@ -6,7 +6,7 @@ use Rattle.ae_base.specs.Limits.{most_deltas}
 use Rattle.ae_words.specs.Spelling.{is_empty}
 use Rattle.ae_base.specs.Names.{is_user, is_project_name, is_path}
 use Rattle.ae_words.specs.Table.{row, allows}
-use Rattle.ae_words.specs.Meaning.{most, last_start, most_generated_changes, most_generated_files, is_config, is_whole}
+use Rattle.ae_words.specs.Meaning.{most, last_start, most_generated_changes, most_generated_files, is_config, is_reason, is_whole}
 use Rattle.ae_words.specs.declared.command.Command.{Command}
 use Rattle.ae_words.specs.declared.table.Listing.{Listing}
 use Rattle.ae_words.specs.declared.table.Setting.{Setting}
@@ -23,6 +23,7 @@ has c setting.Delta = is_some c.delta
 has c setting.Overwriting = c.overwriting
 has c setting.Baseline = c.baseline
 has c setting.Regression = c.regression
+has c setting.Reason = is_some c.reason
 
 -- the options are allowed, and not both flags of Test are there
 abbrev pub AreOptions : Option Listing → Command → Type 0
@@ -103,6 +104,7 @@ pub record AreKinds (c : Command) : Type 0 where
   pub attributes : fits is_path c.attributes ≡ true
   pub delta : fits is_delta_number c.delta ≡ true
   pub name : fits is_project_name c.name ≡ true
+  pub reason : fits is_reason c.reason ≡ true
 
 -- the command is one that words can say: its options are allowed, its plain words are those of its function, all are of
 -- their kinds, and nothing is missing

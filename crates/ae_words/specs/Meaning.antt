@@ -16,7 +16,7 @@ use Rattle.ae_words.specs.declared.table.Row.TheVariants as rows
 
 -- the command that says nothing but its function
 unfoldable pub blank : Function → Command
-blank f = record { function = f; project = None; change = None; attributes = None; delta = None; overwriting = false; baseline = false; regression = false; name = None; users = []; paths = []; listing = None; numbers = [] }
+blank f = record { function = f; project = None; change = None; attributes = None; delta = None; overwriting = false; baseline = false; regression = false; name = None; users = []; paths = []; listing = None; numbers = []; reason = None }
 
 -- so many users or paths may be there
 abbrev pub most : ℕ
@@ -37,6 +37,10 @@ most_generated_changes = 200
 -- and so many files of each
 abbrev pub most_generated_files : ℕ
 most_generated_files = 99
+
+-- a reason has so many bytes at most
+abbrev pub most_reason_bytes : ℕ
+most_reason_bytes = 1000
 
 -- ---- plain words
 
@@ -118,6 +122,7 @@ is_free c setting.Delta = not (is_some c.delta)
 is_free c setting.Overwriting = not c.overwriting
 is_free c setting.Baseline = not (c.baseline || c.regression)
 is_free c setting.Regression = not (c.baseline || c.regression)
+is_free c setting.Reason = not (is_some c.reason)
 
 -- the command with the change, if there is one
 abbrev pub with_change : Command → Option ℕ → Option Command
@@ -129,6 +134,10 @@ abbrev pub with_delta : Command → Option ℕ → Option Command
 with_delta c None = None
 with_delta c (Some n) = Some (record c { delta = Some n })
 
+-- any text that isn't too long, the empty one too
+abbrev pub is_reason : List ℕ → Bool
+is_reason text = nat_le (length text) most_reason_bytes
+
 -- the command with an option's value more, if that is of its kind
 abbrev pub with_value : Setting → Command → List ℕ → Option Command
 with_value setting.Project c v = if is_project_name v then Some (record c { project = Some v }) else None
@@ -138,6 +147,7 @@ with_value setting.Delta c v = with_delta c (delta_number v)
 with_value setting.Overwriting c v = None
 with_value setting.Baseline c v = None
 with_value setting.Regression c v = None
+with_value setting.Reason c v = if is_reason v then Some (record c { reason = Some v }) else None
 
 -- the command with the flag
 abbrev pub with_flag : Setting → Command → Command
@@ -148,6 +158,7 @@ with_flag setting.Project c = c
 with_flag setting.File c = c
 with_flag setting.Change c = c
 with_flag setting.Delta c = c
+with_flag setting.Reason c = c
 
 -- ---- items
 

@@ -101,12 +101,13 @@ setting_pattern setting.Delta = codes "DELta"
 setting_pattern setting.Overwriting = codes "OverWriting"
 setting_pattern setting.Baseline = codes "BaseLine"
 setting_pattern setting.Regression = codes "REGression"
+setting_pattern setting.Reason = codes "REAson"
 
 -- all of them, in the order of the table
 abbrev pub all_settings : List Setting
 all_settings =
     setting.Project ∷ setting.File ∷ setting.Change ∷ setting.Delta ∷ setting.Overwriting ∷ setting.Baseline ∷
-    setting.Regression ∷ []
+    setting.Regression ∷ setting.Reason ∷ []
 
 -- the row of the table in which a function stands
 abbrev pub row : Function → Row
@@ -218,7 +219,25 @@ abbrev pub allows_test : Row → Bool
 allows_test rows.Test = true
 allows_test _ = false
 
--- whether the option may stand with the function, with List for this listing
+-- whether the function adds a row to the history of its change
+abbrev pub adds_row : Function → Bool
+adds_row function.NewChange = true
+adds_row function.DevelopBegin = true
+adds_row function.DevelopBeginUndo = true
+adds_row function.DevelopEnd = true
+adds_row function.DevelopEndUndo = true
+adds_row function.ReviewBegin = true
+adds_row function.ReviewBeginUndo = true
+adds_row function.ReviewPass = true
+adds_row function.ReviewPassUndo = true
+adds_row function.ReviewFail = true
+adds_row function.IntegrateBegin = true
+adds_row function.IntegrateBeginUndo = true
+adds_row function.IntegratePass = true
+adds_row function.IntegrateFail = true
+adds_row _ = false
+
+-- whether the option may stand with the function, with List for this listing; `-REAson` tells why a row is added
 abbrev pub allows : Function → Option Listing → Setting → Bool
 allows f l setting.Project = allows_project (row f)
 allows f l setting.File = allows_file (row f)
@@ -227,6 +246,7 @@ allows f l setting.Delta = allows_copying (row f)
 allows f l setting.Overwriting = allows_copying (row f)
 allows f l setting.Baseline = allows_test (row f)
 allows f l setting.Regression = allows_test (row f)
+allows f l setting.Reason = adds_row f
 
 -- whether `-File` must be there
 abbrev pub needs_attributes : Row → Bool

@@ -10,7 +10,7 @@ ghost use Rattle.ae_words.specs.declared.command.Stop.TheVariants as stop;
 use crate::items::{Item, named_listing, next_item};
 use crate::numbers::NumberList;
 use crate::table::{Function, Listing, Row, Setting};
-use ae_base::{ChangeNo, Delta, Path, PathList, ProjectName, User, UserList, read_number};
+use ae_base::{ChangeNo, Delta, Path, PathList, ProjectName, Text, User, UserList, read_number};
 use std::alloc::{AllocError, Global};
 
 /// What the words of a command say: its function, and beside it just what was written.
@@ -41,6 +41,8 @@ pub struct Command {
     pub listing: Option<Listing>,
     /// The plain words of `GENerate`: the start, the number of changes and the number of files.
     pub numbers: NumberList,
+    /// Of `-REAson`: why it is done.
+    pub reason: Option<Text>,
 }
 
 /// Where reading stops.
@@ -64,6 +66,9 @@ const MOST: usize = 1000;
 
 /// A number has at most so many digits.
 const MOST_DIGITS: usize = 20;
+
+/// A longer reason is too long.
+const MOST_REASON_BYTES: usize = 1000;
 
 /// More changes aren't generated.
 const MOST_GENERATED_CHANGES: u64 = 200;
@@ -89,6 +94,7 @@ fn blank(alloc: Global, function: Function) -> Command
         paths: PathList::new(alloc),
         listing: None,
         numbers: NumberList::new(alloc),
+        reason: None,
     }
 }
 
@@ -206,6 +212,7 @@ impl Command {
             Setting::Delta => self.delta.is_none(),
             Setting::Overwriting => !self.overwriting,
             Setting::Baseline | Setting::Regression => !(self.baseline || self.regression),
+            Setting::Reason => self.reason.is_none(),
         }
     }
 
@@ -215,6 +222,17 @@ impl Command {
     {
         self.attributes = Path::read(alloc, value)?;
         Ok(self.attributes.is_some())
+    }
+
+    /// Takes the word as the reason; tells whether it isn't too long.
+    fn take_reason(&mut self, alloc: Global, value: &[u8]) -> Result<bool, AllocError>
+        ensures { IfOk result (λ taken. (if taken then Some self.new else None) ≡ with_value Setting.Reason self.old value.now) }
+    {
+        if MOST_REASON_BYTES < value.len() {
+            return Ok(false);
+        }
+        self.reason = Some(Text::of(Vec::from_slice(alloc, value)?));
+        Ok(true)
     }
 
     /// Takes an option's value; tells whether it is of its kind.
@@ -240,6 +258,7 @@ impl Command {
                 self.delta = Delta::read(value);
                 Ok(self.delta.is_some())
             }
+            Setting::Reason => self.take_reason(alloc, value),
             Setting::Overwriting | Setting::Baseline | Setting::Regression => Ok(false),
         }
     }
@@ -252,7 +271,8 @@ impl Command {
             Setting::Overwriting => self.overwriting = true,
             Setting::Baseline => self.baseline = true,
             Setting::Regression => self.regression = true,
-            Setting::Project | Setting::File | Setting::Change | Setting::Delta => {}
+            Setting::Project | Setting::File | Setting::Change | Setting::Delta | Setting::Reason =>
+                {}
         }
     }
 

@@ -1,7 +1,7 @@
 // The table of functions, listings and options, with their patterns and the words that they take.
 ghost use Rattle.std.specs.Prelude.{◌≡◌, ◌↔◌, Some};
 ghost use Rattle.ae_words.specs.Spelling.{Matches};
-ghost use Rattle.ae_words.specs.Table.{function_pattern, listing_pattern, setting_pattern, row, is_to_come, of_change, allows, allows_change, needs_change, needs_attributes};
+ghost use Rattle.ae_words.specs.Table.{function_pattern, listing_pattern, setting_pattern, row, is_to_come, of_change, adds_row, allows, allows_change, needs_change, needs_attributes};
 ghost use Rattle.ae_words.specs.Items.{function_named, listing_named, setting_named};
 
 use crate::spelling::spells_from;
@@ -82,10 +82,11 @@ pub enum Setting {
     Overwriting,
     Baseline,
     Regression,
+    Reason,
 }
 
 /// A row of the table: the words that its functions take beside `-Project`, which all take but those of `NewProject`,
-/// `Nothing` and `Numbers`.
+/// `Nothing` and `Numbers`, and beside `-REAson`, which those take that add a row to a change's history.
 #[derive(Clone, Copy, Debug, PartialEq, Eq)]
 pub enum Row {
     /// A project's name, and `-File` if wanted.
@@ -296,7 +297,7 @@ impl Listing {
 
 impl Setting {
     /// All of them.
-    pub const ALL: [Setting; 7] = [
+    pub const ALL: [Setting; 8] = [
         Setting::Project,
         Setting::File,
         Setting::Change,
@@ -304,6 +305,7 @@ impl Setting {
         Setting::Overwriting,
         Setting::Baseline,
         Setting::Regression,
+        Setting::Reason,
     ];
 
     /// The pattern of its words.
@@ -318,6 +320,7 @@ impl Setting {
             Setting::Overwriting => "OverWriting",
             Setting::Baseline => "BaseLine",
             Setting::Regression => "REGression",
+            Setting::Reason => "REAson",
         }
     }
 
@@ -403,6 +406,29 @@ impl Function {
         )
     }
 
+    /// Whether it adds a row to its change's history.
+    pub fn adds_row(self) -> bool
+        ensures { result ≡ adds_row self }
+    {
+        matches!(
+            self,
+            Function::NewChange
+                | Function::DevelopBegin
+                | Function::DevelopBeginUndo
+                | Function::DevelopEnd
+                | Function::DevelopEndUndo
+                | Function::ReviewBegin
+                | Function::ReviewBeginUndo
+                | Function::ReviewPass
+                | Function::ReviewPassUndo
+                | Function::ReviewFail
+                | Function::IntegrateBegin
+                | Function::IntegrateBeginUndo
+                | Function::IntegratePass
+                | Function::IntegrateFail
+        )
+    }
+
     /// Whether the option may stand with this function; with `List`, with this listing.
     pub fn allows(self, listing: Option<Listing>, option: Setting) -> bool
         ensures { result ≡ allows self listing option }
@@ -417,6 +443,7 @@ impl Function {
             Setting::Change => row.allows_change(listing),
             Setting::Delta | Setting::Overwriting => matches!(row, Row::Copy),
             Setting::Baseline | Setting::Regression => matches!(row, Row::Test),
+            Setting::Reason => self.adds_row(),
         }
     }
 }

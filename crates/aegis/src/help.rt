@@ -6,7 +6,7 @@ ghost use Rattle.aegis.specs.Help.{Asks, AsksAbout, Spells};
 use crate::help_of::text_of;
 use ae_words::{Function, matches_option};
 
-const VERSION: &str = "aegis 0.1.0, format 1 of the store\n";
+const VERSION: &str = "aegis 0.1.0, format 2 of the store\n";
 
 pub(crate) const HELP: &str = "\
 usage: aegis -FUNCTION WORD..
@@ -97,6 +97,8 @@ An option's value is the next word, or stands after `=` in the same word. The op
     -OverWriting    also files that are in the change already
     -BaseLine       the change's tests are run over the baseline
     -REGression     the project's other tests are run
+    -REAson TEXT    why it is done, at most 1,000 bytes; with -nc, and with what begins, ends, passes or fails a development, a
+                    review or an integration, or takes that back; `-List Change_History` shows it
 
 A PATH is one in the directory of the change: parts of A-Za-z0-9._+- joined by `/`.
 

@@ -7,7 +7,7 @@ use Rattle.ae_log.proofs.changes.made_change.Goals as goal
 pub returns : goal.returns
 returns c = λ i. record {
   number = c.args.number;
-  attributes = c.in_ok-copy-2.ensures i;
+  attributes = c.in_ok-copy-3.ensures i;
   phase = AwaitingDevelopment;
   developer = None;
   reviewing = None;
@@ -15,5 +15,5 @@ returns c = λ i. record {
   integrator = None;
   files = c.new.ensures i;
   evidence = c.new-2.ensures i;
-  history = (c.in_ok-push.ensures.ok ∙ (λ j. c.new-history.ensures j ++ record { what = NewChange; who = c.in_ok-copy.ensures j; when = c.args.event.now.when } ∷ [])) i;
+  history = (c.in_ok-push.ensures.ok ∙ (λ j. c.new-history.ensures j ++ record { what = NewChange; who = c.in_ok-copy.ensures j; when = c.args.event.now.when; why = c.in_ok-copy-2.ensures j } ∷ [])) i;
 }

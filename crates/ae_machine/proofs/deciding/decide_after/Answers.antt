@@ -13,17 +13,17 @@ alone (Some refusal) = refl
 pub returns-in-ProjectAttributes : goal.returns-in-ProjectAttributes
 returns-in-ProjectAttributes c = λ bytes shown.
     let this : c.args.call.now.command.function ≡ function.ProjectAttributes = search rules in
-    rw (this, alone) c.set_project_attributes.ensures
+    rw (this, alone) (rw this at c.set_project_attributes.ensures)
 
 pub returns-in-NewChange : goal.returns-in-NewChange
 returns-in-NewChange c = λ bytes shown.
     let this : c.args.call.now.command.function ≡ function.NewChange = search rules in
-    rw (this, alone) c.make_change.ensures
+    rw (this, alone) (rw this at c.make_change.ensures)
 
 pub returns-in-ChangeAttributes : goal.returns-in-ChangeAttributes
 returns-in-ChangeAttributes c = λ bytes shown.
     let this : c.args.call.now.command.function ≡ function.ChangeAttributes = search rules in
-    rw (this, alone) c.set_change_attributes.ensures
+    rw (this, alone) (rw this at c.set_change_attributes.ensures)
 
 pub decide_end-requires-clause-phase : goal.decide_end-requires-clause-phase
 decide_end-requires-clause-phase c =

@@ -1,7 +1,7 @@
 use Rattle.std.proofs.Common.{◌≡◌, map, take}
 use Rattle.ae_log.specs.declared.event.EventKind.TheVariants.{RoleDrop}
-use Rattle.ae_machine.specs.Verdict.{event_of}
 use Rattle.ae_machine.proofs.events.accept_dropped.Given as goal
+use Rattle.ae_log.specs.Maker.{event_by}
 
 abbrev pub invariant-loop-user : goal.invariant-loop-user
-invariant-loop-user l = l.events ≡ map (event_of l.who l.when l.change) (map (RoleDrop l.role) (take l.user-index l.user-items))
+invariant-loop-user l = l.events ≡ map (event_by l.maker l.change) (map (RoleDrop l.role) (take l.user-index l.user-items))
