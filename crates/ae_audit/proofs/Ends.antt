@@ -53,7 +53,7 @@ certified-ends packed o (Err _) intact is = absurd is
 
 pub loaded-stops : (image files : Image) (s : Stop) → effective image ≡ Some files → IsLoaded files (Err s) → StopsAt image s
 loaded-stops image files NoProject eff is = whole files _ eff (no_project is)
-loaded-stops image files (Blamed b) eff is = whole files _ eff (blamed b is.0 is.1)
+loaded-stops image files (Blamed b) eff is = whole files _ eff (blamed b is)
 loaded-stops image files DiskFault eff is = tt
 loaded-stops image files Memory eff is = tt
 loaded-stops image files _ eff is = absurd is

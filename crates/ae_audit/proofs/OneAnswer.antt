@@ -3,6 +3,7 @@ use Rattle.std.proofs.Common.{◌≡◌, ℕ, ◌-◌, refl, sym, ◌∙◌, ap,
 use Rattle.std.proofs.lemmas.Option.{same_Some}
 use Rattle.ae_base.specs.declared.want.Want.TheVariants.{All as Everything}
 use Rattle.ae_outside.specs.Image.{Image}
+use Rattle.ae_types.specs.declared.blame.Blame.{Blame}
 use Rattle.ae_types.specs.declared.change.Change.{Change}
 use Rattle.ae_types.specs.declared.project.DeltaRow.{DeltaRow}
 use Rattle.ae_types.specs.Found.{change_at}
@@ -10,9 +11,12 @@ use Rattle.ae_types.specs.Observation.{Observation}
 use Rattle.ae_types.specs.Trees.{tree_of}
 use Rattle.ae_types.proofs.Ordered.{none-some}
 use Rattle.ae_types.proofs.Splits.{from-is}
+use Rattle.ae_schema.specs.declared.format.Format.TheVariants.{One, Two}
+use Rattle.ae_store.specs.Damage.{IsBlamedIn}
 use Rattle.ae_store.specs.Names.{blamed_file}
-use Rattle.ae_store.specs.Records.{nothing}
-use Rattle.ae_store.proofs.OneState.{one_state, one_blamed, state_not_damaged}
+use Rattle.ae_store.specs.Records.{StandsFor, nothing}
+use Rattle.ae_store.proofs.Formats.{one_blamed_in, shown_not_blamed}
+use Rattle.ae_store.proofs.OneState.{one_shown}
 use Rattle.ae_audit.specs.declared.certificate.CertificateRow.{CertificateRow}
 use Rattle.ae_audit.specs.declared.certificate.Mark.{Mark}
 use Rattle.ae_audit.specs.declared.certificate.Mark.TheVariants.{Other, Developer, Nobody}
@@ -96,17 +100,22 @@ one-of-state packed o _ _ (shown rows intact are) (lost bad) = absurd (bad intac
 one-of-state packed o _ _ (shown rows intact are) (not_shown m also second) = absurd (never-first o _ rows m are second)
 one-of-state packed o _ _ (shown rows intact are) (shown others kept certify) = ap (λ (rs : List CertificateRow). Ok rs) (one-rows o _ rows others are certify)
 
+-- files that stand for a project, in whichever format, blame none
+none-blamed : (files : Image) (o : Observation) (b : Blame) → StandsFor files (Some o) → IsBlamedIn Everything files b → ⊥
+none-blamed files o b (One, stood) bad = shown_not_blamed Everything files o b (One, stood) bad
+none-blamed files o b (Two, stood) bad = shown_not_blamed Everything files o b (Two, stood) bad
+
 one-of-files : (files : Image) (a b : Answer) → AuditsFiles files a → AuditsFiles files b → a ≡ b
 one-of-files files _ _ (no_project none) (no_project also) = refl
-one-of-files files _ _ (no_project none) (blamed b some damaged) = absurd (some none)
-one-of-files files _ _ (no_project none) (stands o answer is audits) = none-some o (one_state Everything files None (Some o) (nothing none) is)
-one-of-files files _ _ (blamed b some damaged) (no_project none) = absurd (some none)
-one-of-files files _ _ (blamed b some damaged) (blamed c other also) = ap (λ d. Err (Damaged (blamed_file d))) (one_blamed Everything files b c damaged also)
-one-of-files files _ _ (blamed b some damaged) (stands o answer is audits) = absurd (state_not_damaged Everything files o b is damaged)
-one-of-files files _ _ (stands o answer is audits) (no_project none) = none-some o (one_state Everything files None (Some o) (nothing none) is)
-one-of-files files _ _ (stands o answer is audits) (blamed c other also) = absurd (state_not_damaged Everything files o c is also)
+one-of-files files _ _ (no_project none) (blamed b bad) = absurd (bad.some none)
+one-of-files files _ _ (no_project none) (stands o answer is audits) = none-some o (one_shown Everything files None (Some o) (One, nothing none) is)
+one-of-files files _ _ (blamed b bad) (no_project none) = absurd (bad.some none)
+one-of-files files _ _ (blamed b bad) (blamed c also) = ap (λ d. Err (Damaged (blamed_file d))) (one_blamed_in Everything files b c bad also)
+one-of-files files _ _ (blamed b bad) (stands o answer is audits) = absurd (none-blamed files o b is bad)
+one-of-files files _ _ (stands o answer is audits) (no_project none) = none-some o (one_shown Everything files None (Some o) (One, nothing none) is)
+one-of-files files _ _ (stands o answer is audits) (blamed c also) = absurd (none-blamed files o c is also)
 one-of-files files _ _ (stands o a is audits) (stands p b are also) =
-    one-of-state (files pack_file) o a b audits (subst (λ (q : Observation). AuditsState (files pack_file) q b) (same_Some p o (one_state Everything files (Some p) (Some o) are is)) also)
+    one-of-state (files pack_file) o a b audits (subst (λ (q : Observation). AuditsState (files pack_file) q b) (same_Some p o (one_shown Everything files (Some p) (Some o) are is)) also)
 
 pub one-answer : OneAnswer
 one-answer image _ _ (body none) (body also) = refl

@@ -1,5 +1,5 @@
 -- What an audit answers of an image: the first of these that is so, in their order.
-use Rattle.std.specs.Prelude.{◌≡◌, ◌≢◌, ℕ, List, [], Some, None, Result, Ok, Err}
+use Rattle.std.specs.Prelude.{◌≡◌, ℕ, List, [], Some, None, Result, Ok, Err}
 use Rattle.ae_base.specs.declared.want.Want.TheVariants.{All}
 use Rattle.ae_outside.specs.Image.{Image}
 use Rattle.ae_vault.specs.Vault.{effective}
@@ -7,7 +7,7 @@ use Rattle.ae_types.specs.declared.blame.Blame.{Blame}
 use Rattle.ae_types.specs.Observation.{Observation}
 use Rattle.ae_store.specs.Names.{project_file, blamed_file}
 use Rattle.ae_store.specs.Records.{StandsFor}
-use Rattle.ae_store.specs.Damage.{IsDamaged}
+use Rattle.ae_store.specs.Damage.{IsBlamedIn}
 use Rattle.ae_audit.specs.declared.certificate.CertificateRow.{CertificateRow}
 use Rattle.ae_audit.specs.declared.error.AuditError.{AuditError}
 use Rattle.ae_audit.specs.declared.error.AuditError.TheVariants.{NoProject, NotShown, Damaged, DiskFault, Memory}
@@ -27,10 +27,10 @@ pub data AuditsState (packed : List ℕ) (o : Observation) : Answer → Type 0 w
   -- all are
   shown : (rows : List CertificateRow) → AreIntact packed (released o) → AreCertificates o o.project.deltas rows → AuditsState packed o (Ok rows)
 
--- of effective files
+-- of effective files, in the format in which they are read
 pub data AuditsFiles (files : Image) : Answer → Type 0 where
   no_project : files project_file ≡ [] → AuditsFiles files (Err NoProject)
-  blamed : (b : Blame) → files project_file ≢ [] → IsDamaged All files b → AuditsFiles files (Err (Damaged (blamed_file b)))
+  blamed : (b : Blame) → IsBlamedIn All files b → AuditsFiles files (Err (Damaged (blamed_file b)))
   stands : (o : Observation) (answer : Answer) → StandsFor files (Some o) → AuditsState (files pack_file) o answer → AuditsFiles files answer
 
 -- of an image

@@ -9,6 +9,8 @@ use Rattle.ae_base.specs.declared.want.Want.TheVariants.{All}
 use Rattle.ae_outside.specs.Image.{Image}
 use Rattle.ae_schema.specs.declared.error.SchemaError.{SchemaError}
 use Rattle.ae_schema.specs.declared.error.SchemaError.TheVariants as schema
+use Rattle.ae_schema.specs.declared.format.Format.{Format}
+use Rattle.ae_schema.specs.Formats.{IsOfFormat}
 use Rattle.ae_types.specs.declared.blame.Blame.{Blame}
 use Rattle.ae_types.specs.declared.blame.Blame.TheVariants as blame
 use Rattle.ae_types.specs.declared.change.Change.{Change}
@@ -20,8 +22,8 @@ use Rattle.ae_types.specs.Runs.{has_counting, tests_of}
 use Rattle.ae_types.specs.Trees.{TreeRow}
 use Rattle.ae_types.specs.Versions.{has_units, end_of}
 use Rattle.ae_store.specs.Names.{project_file, blamed_file}
-use Rattle.ae_store.specs.Records.{StandsFor}
-use Rattle.ae_store.specs.Damage.{ReadsChange, ReadsChanges, IsDamaged}
+use Rattle.ae_store.specs.Records.{StandsFor, StandsIn}
+use Rattle.ae_store.specs.Damage.{ReadsChange, ReadsChanges, IsBlamedIn, IsDamaged}
 use Rattle.ae_audit.specs.declared.certificate.CertificateRow.{CertificateRow}
 use Rattle.ae_audit.specs.declared.certificate.Mark.{Mark}
 use Rattle.ae_audit.specs.declared.error.AuditError.{AuditError}
@@ -69,24 +71,32 @@ IsRecordRead Reads b (Err DiskFault) = Unit {0}
 IsRecordRead Reads b (Err Memory) = Unit {0}
 IsRecordRead Reads b (Err _) = ⊥
 
+-- the format that the bytes of `project` tell, or blame for it, where they tell none
+abbrev pub IsFormatRead : List ℕ → Result Format Stop → Type 0
+IsFormatRead bytes (Ok format) = IsOfFormat format bytes
+IsFormatRead bytes (Err (Blamed b)) = (b ≡ blame.Project) × ((format : Format) → IsOfFormat format bytes → ⊥)
+IsFormatRead bytes (Err DiskFault) = Unit {0}
+IsFormatRead bytes (Err Memory) = Unit {0}
+IsFormatRead bytes (Err _) = ⊥
+
 -- the first of these numbers whose change isn't read is that of the blame
-pub record IsFirstBad (files : Image) (numbers : List ℕ) (b : Blame) : Type 0 where
+pub record IsFirstBad (format : Format) (files : Image) (numbers : List ℕ) (b : Blame) : Type 0 where
   pub before : List ℕ
   pub number : ℕ
   pub after : List ℕ
   pub splits : numbers ≡ before ++ number ∷ after
   pub changes : List Change
-  pub read : ReadsChanges files before changes
-  pub bad : (change : Change) → ReadsChange files number change → ⊥
+  pub read : ReadsChanges format files before changes
+  pub bad : (change : Change) → ReadsChange format files number change → ⊥
   pub is : b ≡ blame.Change number
 
 -- the changes of the numbers, or the blame of the first that isn't read
-abbrev pub AreRead : Image → List ℕ → Result (List Change) Stop → Type 0
-AreRead files numbers (Ok changes) = ReadsChanges files numbers changes
-AreRead files numbers (Err (Blamed b)) = IsFirstBad files numbers b
-AreRead files numbers (Err DiskFault) = Unit {0}
-AreRead files numbers (Err Memory) = Unit {0}
-AreRead files numbers (Err _) = ⊥
+abbrev pub AreRead : Format → Image → List ℕ → Result (List Change) Stop → Type 0
+AreRead format files numbers (Ok changes) = ReadsChanges format files numbers changes
+AreRead format files numbers (Err (Blamed b)) = IsFirstBad format files numbers b
+AreRead format files numbers (Err DiskFault) = Unit {0}
+AreRead format files numbers (Err Memory) = Unit {0}
+AreRead format files numbers (Err _) = ⊥
 
 -- the state of these records, or what the rules blame
 abbrev pub IsChecked : Observation → Result Observation Stop → Type 0
@@ -95,11 +105,19 @@ IsChecked o (Err (Blamed b)) = blamed o ≡ Some b
 IsChecked o (Err Memory) = Unit {0}
 IsChecked o (Err _) = ⊥
 
+-- what the files stand for in this format, or the file that is blamed
+abbrev pub IsLoadedIn : Format → Image → Result Observation Stop → Type 0
+IsLoadedIn format files (Ok o) = StandsIn format files (Some o)
+IsLoadedIn format files (Err (Blamed b)) = IsDamaged format All files b
+IsLoadedIn format files (Err DiskFault) = Unit {0}
+IsLoadedIn format files (Err Memory) = Unit {0}
+IsLoadedIn format files (Err _) = ⊥
+
 -- what the files stand for, or the file that is blamed, or that there is no project
 abbrev pub IsLoaded : Image → Result Observation Stop → Type 0
 IsLoaded files (Ok o) = StandsFor files (Some o)
 IsLoaded files (Err NoProject) = files project_file ≡ []
-IsLoaded files (Err (Blamed b)) = (files project_file ≢ []) × IsDamaged All files b
+IsLoaded files (Err (Blamed b)) = IsBlamedIn All files b
 IsLoaded files (Err DiskFault) = Unit {0}
 IsLoaded files (Err Memory) = Unit {0}
 IsLoaded files (Err _) = ⊥

@@ -18,6 +18,7 @@ use crate::records::{good_change, good_table};
 use crate::stop::Stop;
 use ae_base::ChangeNo;
 use ae_outside::Disk;
+use ae_schema::Format;
 use ae_types::{Change, ChangeList, FileRows, LockList, Project};
 use std::alloc::{AllocError, Global};
 
@@ -52,36 +53,38 @@ pub(crate) fn load_table<D: Disk>(
     good_table(alloc, bytes.as_slice(), project)
 }
 
-// The change of this number.
+// The change of this number, whose file is in this format.
 fn load_change<D: Disk>(
     alloc: Global,
     disk: &mut D,
     redo: &[Redone],
+    format: Format,
     number: ChangeNo,
 ) -> Result<Change, Stop>
-    ensures loaded { D.tells → IsRecordRead (ReadsChange (files_by redo.now (reads (D.state disk.old))) number) (blame.Change number) result }
+    ensures loaded { D.tells → IsRecordRead (ReadsChange format (files_by redo.now (reads (D.state disk.old))) number) (blame.Change number) result }
     ensures change { OnlyReads D.Disk disk.old disk.new }
     ensures cause { Counted (D.faults disk.old) (D.faults disk.new) (IsErrOf result Stop.DiskFault) }
 {
     let name = change_name(alloc, number)?;
     let bytes = file_bytes(alloc, disk, redo, name.as_str())?;
-    good_change(alloc, bytes.as_slice(), number)
+    good_change(alloc, format, bytes.as_slice(), number)
 }
 
-/// The changes of these numbers.
+/// The changes of these numbers, whose files are in this format.
 pub(crate) fn load_changes<D: Disk>(
     alloc: Global,
     disk: &mut D,
     redo: &[Redone],
+    format: Format,
     numbers: &[ChangeNo],
 ) -> Result<ChangeList, Stop>
-    ensures loaded { D.tells → AreRead (files_by redo.now (reads (D.state disk.old))) numbers.now result }
+    ensures loaded { D.tells → AreRead format (files_by redo.now (reads (D.state disk.old))) numbers.now result }
     ensures change { OnlyReads D.Disk disk.old disk.new }
     ensures cause { Counted (D.faults disk.old) (D.faults disk.new) (IsErrOf result Stop.DiskFault) }
 {
     let mut changes = ChangeList::new(alloc);
     for number in numbers {
-        let change = load_change(alloc, disk, redo, *number)?;
+        let change = load_change(alloc, disk, redo, format, *number)?;
         changes.push(change)?;
     }
     Ok(changes)

@@ -7,12 +7,12 @@ ghost use Rattle.ae_types.specs.declared.file_table.FileRow.{FileRow};
 ghost use Rattle.ae_types.specs.declared.file_table.Lock.{Lock};
 ghost use Rattle.ae_store.specs.Names.{project_file, files_file, change_file};
 ghost use Rattle.ae_store.specs.Damage.{ReadsProject, ReadsTable, ReadsChange};
-ghost use Rattle.ae_audit.specs.Steps.{stop_of_record, IsRecordRead};
+ghost use Rattle.ae_audit.specs.Steps.{stop_of_record, IsFormatRead, IsRecordRead};
 
 use crate::stop::Stop;
 use ae_base::ChangeNo;
 use ae_rules::{change_is_good, files_are_good, project_is_good};
-use ae_schema::{SchemaError, read_change, read_files, read_project};
+use ae_schema::{Format, SchemaError, read_change_in, read_files, read_format, read_project_in};
 use ae_types::{Blame, Change, FileRows, LockList, NumberList, Project};
 use std::alloc::Global;
 
@@ -25,12 +25,28 @@ fn stop_of(blame: Blame, error: SchemaError) -> Stop
     }
 }
 
-/// The project that the bytes of `project` say, where it keeps the rules by itself.
-pub(crate) fn good_project(alloc: Global, bytes: &[u8]) -> Result<(Project, NumberList), Stop>
-    ensures value { (files : Image) → files project_file ≡ bytes.now → IsRecordRead (λ (p : Project × List ℕ). ReadsProject files p.0 p.1) blame.Project result }
+/// The format of which the bytes of `project` say that they are.
+pub(crate) fn told_format(alloc: Global, bytes: &[u8]) -> Result<Format, Stop>
+    ensures told { IsFormatRead bytes.now result }
     ensures no_fault { IsErrOf result Stop.DiskFault → ⊥ }
 {
-    match read_project(alloc, bytes) {
+    match read_format(alloc, bytes) {
+        Ok(1) => Ok(Format::One),
+        Ok(_) => Ok(Format::Two),
+        Err(error) => Err(stop_of(Blame::Project, error)),
+    }
+}
+
+/// The project that the bytes of `project` say in this format, where it keeps the rules by itself.
+pub(crate) fn good_project(
+    alloc: Global,
+    format: Format,
+    bytes: &[u8],
+) -> Result<(Project, NumberList), Stop>
+    ensures value { (files : Image) → files project_file ≡ bytes.now → IsRecordRead (λ (p : Project × List ℕ). ReadsProject format files p.0 p.1) blame.Project result }
+    ensures no_fault { IsErrOf result Stop.DiskFault → ⊥ }
+{
+    match read_project_in(alloc, format, bytes) {
         Ok((project, numbers)) => {
             if project_is_good(&project, numbers.as_slice()) {
                 Ok((project, numbers))
@@ -64,12 +80,17 @@ pub(crate) fn good_table(
     }
 }
 
-/// The change of this number that the bytes of its file say, where it keeps the rules by itself.
-pub(crate) fn good_change(alloc: Global, bytes: &[u8], number: ChangeNo) -> Result<Change, Stop>
-    ensures value { (files : Image) → files (change_file number) ≡ bytes.now → IsRecordRead (ReadsChange files number) (blame.Change number) result }
+/// The change of this number that the bytes of its file say in this format, where it keeps the rules by itself.
+pub(crate) fn good_change(
+    alloc: Global,
+    format: Format,
+    bytes: &[u8],
+    number: ChangeNo,
+) -> Result<Change, Stop>
+    ensures value { (files : Image) → files (change_file number) ≡ bytes.now → IsRecordRead (ReadsChange format files number) (blame.Change number) result }
     ensures no_fault { IsErrOf result Stop.DiskFault → ⊥ }
 {
-    match read_change(alloc, bytes) {
+    match read_change_in(alloc, format, bytes) {
         Ok(change) => {
             if change.number == number && change_is_good(&change) {
                 Ok(change)

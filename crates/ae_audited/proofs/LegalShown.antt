@@ -1,5 +1,5 @@
 -- After a log whose events came rightly each delta is shown.
-use Rattle.std.proofs.Common.{◌≡◌, ◌≢◌, ◌⊎◌, inl, inr, ℕ, ◌+◌, ◌-◌, ◌<◌, ◌≤◌, refl, sym, ◌∙◌, ap, subst, List, [], ◌∷◌, ◌++◌, map, Option, Some, None, Bool, true, false, cond, nat_eq, eqb-true, length, length-append, arith}
+use Rattle.std.proofs.Common.{◌≡◌, ℕ, ◌+◌, ◌-◌, ◌≤◌, refl, sym, ◌∙◌, ap, subst, List, [], ◌∷◌, ◌++◌, Option, Some, None, Bool, true, false, cond, nat_eq, length, length-append, arith}
 use Rattle.std.specs.Prelude.{is_some, IsSomeAnd}
 use Rattle.std.specs.List.{list_all}
 use Rattle.std.specs.Option.{option_map}
@@ -14,15 +14,14 @@ use Rattle.ae_base.specs.declared.words.Role.TheVariants.{Administrator, Develop
 use Rattle.ae_base.specs.declared.words.What.TheVariants.{IntegratePass}
 use Rattle.ae_types.specs.declared.change.Change.{Change}
 use Rattle.ae_types.specs.declared.change.ChangeFile.{ChangeFile}
-use Rattle.ae_types.specs.declared.change.HistoryRow.{HistoryRow}
 use Rattle.ae_types.specs.declared.file_table.FileRow.{FileRow}
 use Rattle.ae_types.specs.declared.project.DeltaRow.{DeltaRow}
 use Rattle.ae_types.specs.declared.project.Project.{Project}
-use Rattle.ae_types.specs.Found.{number_of_change, file_path, change_in, change_at, has_number}
+use Rattle.ae_types.specs.Found.{number_of_change, file_path, change_at}
 use Rattle.ae_types.specs.Observation.{Observation}
 use Rattle.ae_types.specs.Phases.{has_reviewer, is_completed, is_integrating}
 use Rattle.ae_types.specs.Roles.{with_users}
-use Rattle.ae_types.specs.Runs.{Needed, required, missing, has_counting, tests_of}
+use Rattle.ae_types.specs.Runs.{required, missing, has_counting}
 use Rattle.ae_types.specs.Sound.{Sound}
 use Rattle.ae_types.specs.Trees.{last_delta, tree_at, baseline_of, candidate_of}
 use Rattle.ae_types.proofs.Keys.{by_number, by_text}
@@ -33,12 +32,11 @@ use Rattle.ae_log.specs.declared.event.Event.{Event}
 use Rattle.ae_log.specs.declared.event.EventKind.{EventKind}
 use Rattle.ae_log.specs.declared.event.EventKind.TheVariants as on
 use Rattle.ae_log.specs.After.{after, change_after, rows_after, project_after, where_number, started_by, all_entered, files_of}
-use Rattle.ae_log.specs.Applies.{Applies, AppliesTo, AppliesBy, comes_in, IsProject, Starts}
+use Rattle.ae_log.specs.Applies.{Applies, AppliesTo, comes_in, IsProject}
 use Rattle.ae_log.specs.Log.{Log, Happened, course, standing, who_of}
-use Rattle.ae_log.specs.Observed.{observation, observation_with, change, change_with}
+use Rattle.ae_log.specs.Observed.{observation, change}
 use Rattle.ae_log.specs.People.{reviewer_mark}
-use Rattle.ae_log.specs.Phases.{history}
-use Rattle.ae_log.specs.Maker.{made_by}
+use Rattle.ae_log.specs.Maker.{Maker, event_by, maker_of}
 use Rattle.ae_log.proofs.ChangeSteps.{integrated-is}
 use Rattle.ae_log.proofs.Following.{follows}
 use Rattle.ae_log.proofs.OneChange.{in-own}
@@ -55,7 +53,7 @@ use Rattle.ae_audit.specs.declared.certificate.Mark.{Mark}
 use Rattle.ae_audit.specs.declared.certificate.Mark.TheVariants as marks
 use Rattle.ae_audit.specs.Required.{required_over}
 use Rattle.ae_audit.specs.Review.{Fits, passer_of}
-use Rattle.ae_audit.specs.Shown.{ShownBy, Shown, AllShown}
+use Rattle.ae_audit.specs.Shown.{ShownBy, AllShown}
 use Rattle.ae_audited.specs.Laws.{LegalIsShown}
 use Rattle.ae_audited.proofs.EarlierTrees.{earlier-tree}
 use Rattle.ae_audited.proofs.PassedBy.{passed-by-nobody, passed-more, pass-passed}
@@ -133,15 +131,15 @@ apart o n kind s a m x e c is =
     never kind (ap (comes_in kind) (sym (completed-is x.phase c)) ∙ ap (λ (z : Change). comes_in kind z.phase) (sym same) ∙ y.2.0)
 
 -- a change that isn't the event's is as before
-other-change : (log : Log) (who : List ℕ) (when n : ℕ) (kind : EventKind) (o later : Observation) → observation log ≡ Some o → observation (of_change (made_by who when) n kind ∷ log) ≡ Some later
+other-change : (log : Log) (maker : Maker) (n : ℕ) (kind : EventKind) (o later : Observation) → observation log ≡ Some o → observation (of_change maker n kind ∷ log) ≡ Some later
     → (m : ℕ) (x : Change) → change_at o m ≡ Some x → (m ≡ n → ⊥) → change_at later m ≡ Some x
-other-change log who when n kind o later stood stands m x e differs =
+other-change log maker n kind o later stood stands m x e differs =
     let w = attributes-of log o stood in
-    let v = attributes-of (of_change (made_by who when) n kind ∷ log) later stands in
+    let v = attributes-of (of_change maker n kind ∷ log) later stands in
     let here : IsOf log m x = found-is log w.0 m x (ap (λ (q : Observation). change_at q m) w.2 ∙ e) in
     ap (λ (q : Observation). change_at q m) (sym v.2)
-    ∙ found (of_change (made_by who when) n kind ∷ log) v.0 m here.numbered
-    ∙ other-fact (change m) log (made_by who when) n kind m differs
+    ∙ found (of_change maker n kind ∷ log) v.0 m here.numbered
+    ∙ other-fact (change m) log maker n kind m differs
     ∙ sym (found log w.0 m here.numbered)
     ∙ ap (λ (q : Observation). change_at q m) w.2 ∙ e
 
@@ -166,17 +164,17 @@ deltas-stay event (on.RoleDrop role user) p e = roles-stay role _ p
 deltas-stay event _ p e = refl
 
 -- an event of a change that isn't the pass of its integration
-quiet : (log : Log) (who : List ℕ) (when n : ℕ) (kind : EventKind) → passes kind ≡ false → (o : Observation) → observation log ≡ Some o → Sound o → Applies o (of_change (made_by who when) n kind)
-    → AllOld o o.project.deltas → AllOld (after o (of_change (made_by who when) n kind)) (after o (of_change (made_by who when) n kind)).project.deltas
-quiet log who when n kind none o stood s a all =
-    let event = of_change (made_by who when) n kind in
+quiet : (log : Log) (maker : Maker) (n : ℕ) (kind : EventKind) → passes kind ≡ false → (o : Observation) → observation log ≡ Some o → Sound o → Applies o (of_change maker n kind)
+    → AllOld o o.project.deltas → AllOld (after o (of_change maker n kind)) (after o (of_change maker n kind)).project.deltas
+quiet log maker n kind none o stood s a all =
+    let event = of_change maker n kind in
     let later = after o event in
     let same_deltas : later.project.deltas ≡ o.project.deltas = deltas-stay event kind o.project none in
     let same_files : later.files ≡ o.files = rows-stay kind _ _ o.files none in
     let leaves : Leaves o later = record {
       no_fewer = let same : length later.project.deltas ≡ length o.project.deltas = ap length same_deltas in omega (arith, same);
       trees = λ m low. ap (tree_at m) same_files;
-      changes = λ m x e c. other-change log who when n kind o later stood (follows log event o stood s a) m x e (apart o n kind s a.comes m x e c);
+      changes = λ m x e c. other-change log maker n kind o later stood (follows log event o stood s a) m x e (apart o n kind s a.comes m x e c);
     } in
     subst (AllOld later) (sym same_deltas) (old-stays o later leaves o.project.deltas all)
 
@@ -194,10 +192,10 @@ of-project event alone o none all =
 
 -- ---- the pass of an integration
 
-module _ (log : Log) (who : List ℕ) (when n : ℕ) (o : Observation) (stood : observation log ≡ Some o) (s : Sound o) (a : Applies o (of_change (made_by who when) n on.IPass)) (x : Change) (at_n : change_at o n ≡ Some x)
+module _ (log : Log) (maker : Maker) (n : ℕ) (o : Observation) (stood : observation log ≡ Some o) (s : Sound o) (a : Applies o (of_change maker n on.IPass)) (x : Change) (at_n : change_at o n ≡ Some x)
     (right : is_integrating x.phase ≡ true) (runs : missing o x Integrate (digest_rows (candidate_of o x)) ≡ None) (f : FactsAt log n) where
   abbrev passing : Event
-  passing = of_change (made_by who when) n on.IPass
+  passing = of_change maker n on.IPass
 
   abbrev later : Observation
   later = after o passing
@@ -245,7 +243,7 @@ module _ (log : Log) (who : List ℕ) (when n : ℕ) (o : Observation) (stood : 
     where
       go : (v : Option Happened) → standing reviewer_mark (course log n) ≡ v → who_of v ≡ Some user → passer_of y.history ≡ Some user
       go (Some pass) stands e =
-          passed-more None x.history (record { what = IntegratePass; who = who; when = when })
+          passed-more None x.history (record { what = IntegratePass; who = maker.who; when = maker.when; why = maker.why })
           ∙ ap (λ (z : Change). passer_of z.history) here.is
           ∙ pass-passed (course log n) pass stands (f.review pass stands).last ∙ e
       go None stands e = none-some user e
@@ -253,7 +251,7 @@ module _ (log : Log) (who : List ℕ) (when n : ℕ) (o : Observation) (stood : 
   -- there is no reviewer where nobody passed it
   unpassed : x.reviewer ≡ None → passer_of y.history ≡ None
   unpassed none =
-      passed-more None x.history (record { what = IntegratePass; who = who; when = when })
+      passed-more None x.history (record { what = IntegratePass; who = maker.who; when = maker.when; why = maker.why })
       ∙ passed-by-nobody x.history (sym ((s.changes.good n x at_n).people.reviewer ∙ ap (λ (p : Phase). has_reviewer p x.history) phase_is) ∙ ap (λ (v : Option (List ℕ)). is_some v) none)
 
   fits : (mark : Mark) × Fits y mark
@@ -274,7 +272,7 @@ module _ (log : Log) (who : List ℕ) (when n : ℕ) (o : Observation) (stood : 
   -- ---- the new delta
 
   abbrev row : DeltaRow
-  row = record { delta = last + 1; change = n; when = when; who = who }
+  row = record { delta = last + 1; change = n; when = maker.when; who = maker.who }
 
   counted : list_all (has_counting x Integrate (digest_rows (candidate_of o x))) (required_over (baseline_of o) x) ≡ true
   counted = in-all (has_counting x Integrate (digest_rows (candidate_of o x))) (required o x) (none-missing o x (digest_rows (candidate_of o x)) runs).all
@@ -306,23 +304,23 @@ module _ (log : Log) (who : List ℕ) (when n : ℕ) (o : Observation) (stood : 
       let leaves : Leaves o later = record {
         no_fewer = let longer : length later.project.deltas ≡ last + 1 = length-append o.project.deltas (row ∷ []) in omega (arith, longer);
         trees = trees;
-        changes = λ m z e c. other-change log who when n on.IPass o later stood (follows log passing o stood s a) m z e (apart o n on.IPass s a.comes m z e c);
+        changes = λ m z e c. other-change log maker n on.IPass o later stood (follows log passing o stood s a) m z e (apart o n on.IPass s a.comes m z e c);
       } in
       all-more later o.project.deltas row (old-stays o later leaves o.project.deltas all) new
 
 -- ---- all events
 
-step : (log : Log) (who : List ℕ) (when : ℕ) (c : Option ℕ) (kind : EventKind) (o : Observation) → observation log ≡ Some o → Sound o → Applies o (record { who = who; when = when; change = c; what = kind })
-    → SeenBy log o (record { who = who; when = when; change = c; what = kind }) c → Facts log → AllOld o o.project.deltas
-    → AllOld (after o (record { who = who; when = when; change = c; what = kind })) (after o (record { who = who; when = when; change = c; what = kind })).project.deltas
-step log who when (Some n) on.IPass o stood s a seen f all =
+step : (log : Log) (maker : Maker) (c : Option ℕ) (kind : EventKind) (o : Observation) → observation log ≡ Some o → Sound o → Applies o (event_by maker c kind)
+    → SeenBy log o (event_by maker c kind) c → Facts log → AllOld o o.project.deltas
+    → AllOld (after o (event_by maker c kind)) (after o (event_by maker c kind)).project.deltas
+step log maker (Some n) on.IPass o stood s a seen f all =
     let x = from-is _ (change_at o n) a.comes in
-    passed log who when n o stood s a x.0 x.1 x.2.0 (seen x.0 x.1) (f.each n) all
-step log who when (Some n) kind o stood s a seen f all = quiet log who when n kind refl o stood s a all
-step log who when None (on.Attributes attributes) o stood s a seen f all = of-project (record { who = who; when = when; change = None; what = on.Attributes attributes }) refl o refl all
-step log who when None (on.RoleAdd role user) o stood s a seen f all = of-project (record { who = who; when = when; change = None; what = on.RoleAdd role user }) refl o refl all
-step log who when None (on.RoleDrop role user) o stood s a seen f all = of-project (record { who = who; when = when; change = None; what = on.RoleDrop role user }) refl o refl all
-step log who when None kind o stood s a seen f all = absurd a.comes
+    passed log maker n o stood s a x.0 x.1 x.2.0 (seen x.0 x.1) (f.each n) all
+step log maker (Some n) kind o stood s a seen f all = quiet log maker n kind refl o stood s a all
+step log maker None (on.Attributes attributes) o stood s a seen f all = of-project (event_by maker None (on.Attributes attributes)) refl o refl all
+step log maker None (on.RoleAdd role user) o stood s a seen f all = of-project (event_by maker None (on.RoleAdd role user)) refl o refl all
+step log maker None (on.RoleDrop role user) o stood s a seen f all = of-project (event_by maker None (on.RoleDrop role user)) refl o refl all
+step log maker None kind o stood s a seen f all = absurd a.comes
 
 -- where a project is made there is no delta
 started-none : (event : Event) (kind : EventKind) → IsProject kind → (o : Observation) → started_by event.who kind ≡ Some o → AllOld o o.project.deltas
@@ -336,7 +334,7 @@ all-old (event ∷ log) r o stood = go (all-old log r.1) (observation log) refl 
     go : ((before : Observation) → observation log ≡ Some before → AllOld before before.project.deltas) → (v : Option Observation) → observation log ≡ v → ComesAfter log v event → AllOld o o.project.deltas
     go earlier (Some before) is c =
         subst (λ (q : Observation). AllOld q q.project.deltas) (same_Some (after before event) o (sym (follows log event before is c.sound c.applies) ∙ stood))
-        (step log event.who event.when event.change event.what before is c.sound c.applies c.seen (facts log r.1) (earlier before is))
+        (step log (maker_of event) event.change event.what before is c.sound c.applies c.seen (facts log r.1) (earlier before is))
     go earlier None is c = started-none event event.what c.1.project o (sym (begins event c.1) ∙ ap (λ (l : Log). observation (event ∷ l)) (sym c.0) ∙ stood)
 
 pub legal-shown : LegalIsShown

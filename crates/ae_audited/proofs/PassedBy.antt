@@ -2,18 +2,16 @@
 use Rattle.std.proofs.Common.{◌≡◌, ℕ, refl, sym, ◌∙◌, ap, List, [], ◌∷◌, ◌++◌, Bool, false, Option, Some, None}
 use Rattle.std.specs.Prelude.{is_some}
 use Rattle.std.proofs.lemmas.Bool.{false≢true}
-use Rattle.std.proofs.lemmas.Option.{same_Some}
 use Rattle.ae_base.specs.declared.words.What.{What}
 use Rattle.ae_base.specs.declared.words.What.TheVariants.{ReviewPass, DevelopEnd}
 use Rattle.ae_types.specs.declared.change.HistoryRow.{HistoryRow}
 use Rattle.ae_types.specs.Phases.{is_passed, passed_after, passed_by}
-use Rattle.ae_types.proofs.Ordered.{none-some}
 use Rattle.ae_log.specs.declared.event.EventKind.{EventKind}
 use Rattle.ae_log.specs.declared.event.EventKind.TheVariants as on
-use Rattle.ae_log.specs.Log.{Happened, Course, Mark, makes, ends, leaves, marked, standing}
+use Rattle.ae_log.specs.Log.{Happened, Course, makes, marked, standing}
 use Rattle.ae_log.specs.People.{reviewer_mark}
 use Rattle.ae_log.specs.Phases.{word_of, with_row, history}
-use Rattle.ae_log.specs.Maker.{made_by}
+use Rattle.ae_log.specs.Maker.{Maker, maker_of}
 use Rattle.ae_log.proofs.RunSteps.{standing-makes}
 use Rattle.ae_machine.specs.Provenance.{pass_or_end_mark}
 use Rattle.ae_audit.specs.Review.{passer_after, passer_from, passer_of}
@@ -46,9 +44,9 @@ abbrev word_after : Option What → List ℕ → Option (List ℕ) → Option (L
 word_after (Some word) who earlier = passer_after word who earlier
 word_after None who earlier = earlier
 
-with-word : (word : Option What) (who : List ℕ) (when : ℕ) (rows : List HistoryRow) → passer_of (with_row word (made_by who when) rows) ≡ word_after word who (passer_of rows)
-with-word (Some word) who when rows = passed-more None rows (record { what = word; who = who; when = when })
-with-word None who when rows = refl
+with-word : (word : Option What) (maker : Maker) (rows : List HistoryRow) → passer_of (with_row word maker rows) ≡ word_after word maker.who (passer_of rows)
+with-word (Some word) maker rows = passed-more None rows (record { what = word; who = maker.who; when = maker.when; why = maker.why })
+with-word None maker rows = refl
 
 -- ---- the last pass or end of a course
 
@@ -68,7 +66,7 @@ one-more _ h earlier is = refl
 pub passed-course : (ss : Course) → passer_of (history ss) ≡ passer (standing pass_or_end_mark ss)
 passed-course [] = refl
 passed-course (h ∷ ss) =
-    with-word (word_of h.event.what) h.event.who h.event.when (history ss)
+    with-word (word_of h.event.what) (maker_of h.event) (history ss)
     ∙ ap (word_after (word_of h.event.what) h.event.who) (passed-course ss)
     ∙ one-more h.event.what h (standing pass_or_end_mark ss) refl
 

@@ -109,7 +109,7 @@ IsLostAmong image versions name = (files : Image) → effective image ≡ Some f
 abbrev pub AreReadFrom : Image → List Row → List BundleFile → Type 0
 AreReadFrom image rows sent = (files : Image) → effective image ≡ Some files → (sent ≡ map (sent_file (files pack)) rows) × AreKept (files pack) (versions_of rows)
 
--- ---- sending, which looks at the change that is named
+-- ---- sending, which wants the change that is named
 
 -- the change set is what is sent of the change
 pub record Sends (image : Image) (name : Option (List ℕ)) (number : ℕ) (bundle : Bundle) : Type 0 where
@@ -132,7 +132,7 @@ pub data DamagedSending (image : Image) (name : Option (List ℕ)) (number : ℕ
       → refuses_project name (Some o) ≡ None → change_at o number ≡ Some change → refuses_change o (Some change) ≡ None
       → damaged ≡ codes "pack" → FirstIsLost (files pack) (versions_of (sent_rows o change)) → DamagedSending image name number damaged
 
--- ---- planning, which looks at no change
+-- ---- planning, which wants no change
 
 -- the acts are the plan for what stands there
 pub record Plans (image : Image) (name : Option (List ℕ)) (bundle : Bundle) (acts : List Act) : Type 0 where

@@ -66,6 +66,7 @@ command function change attributes paths = record {
   paths = paths;
   listing = None;
   numbers = [];
+  reason = None;
 }
 
 -- the change is made, and its development begins

@@ -11,7 +11,7 @@ use crate::DistError;
 use crate::naming::damaged;
 use ae_base::{ProjectName, Refusal, Want};
 use ae_outside::Disk;
-use ae_store::load;
+use ae_store::load_either;
 use ae_types::State;
 use ae_vault::{Vault, VaultError};
 use std::alloc::Global;
@@ -52,7 +52,7 @@ fn load_store<D: Disk>(alloc: Global, disk: &mut D, want: Want) -> Result<Option
         (DiskFailed D.Disk disk.old disk.new)) }
     ensures later { D.faults disk.old ≤ D.faults disk.new }
 {
-    Ok(load(alloc, disk, want)?)
+    Ok(load_either(alloc, disk, want)?)
 }
 
 // The project that was loaded, where there is one that may be named so.

@@ -103,6 +103,7 @@ fn command(
         paths,
         listing: None,
         numbers: NumberList::new(alloc),
+        reason: None,
     }
 }
 

@@ -1,5 +1,5 @@
 -- The names of the files of changes.
-use Rattle.std.proofs.Common.{◌≡◌, inl, inr, ℕ, ◌<◌, ◌≤◌, ◌^◌, sym, ◌∙◌, ap, Bool, true, false, ◌&&◌, not, nat_eq, eqb-true, eq-eqb, codes, arith}
+use Rattle.std.proofs.Common.{◌≡◌, inl, inr, ℕ, ◌<◌, ◌≤◌, ◌^◌, sym, ◌∙◌, ap, Bool, true, ◌&&◌, not, nat_eq, eqb-true, eq-eqb, codes, arith}
 use Rattle.std.specs.Fmt.{decimal}
 use Rattle.std.specs.Str.{bytes_eq}
 use Rattle.std.proofs.lemmas.Slice.Eq.{bytes_eq-Decides}

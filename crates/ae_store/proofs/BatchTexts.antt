@@ -13,6 +13,7 @@ use Rattle.ae_types.proofs.BinarySearch.{place-in}
 use Rattle.ae_types.proofs.Keys.{by_number}
 use Rattle.ae_types.proofs.Searched.{in-found}
 use Rattle.ae_types.proofs.Splits.{to-if}
+use Rattle.ae_schema.specs.declared.format.Format.TheVariants.{Two}
 use Rattle.ae_schema.specs.Fits.{IsChangeNo, ProjectAscends, HoldsProject, HoldsFiles, HoldsChange, FitsProject, FitsChange, FilesAscend}
 use Rattle.ae_schema.specs.Files.{project_fields, files_fields, change_fields}
 use Rattle.ae_schema.specs.Records.{IsTextOf}
@@ -44,7 +45,7 @@ numbered_of o sound fits k d h =
 -- the text of a change, where there is one
 abbrev pub text_of_change : Option Change → List ℕ
 text_of_change None = []
-text_of_change (Some change) = canonical (change_fields change)
+text_of_change (Some change) = canonical (change_fields Two change)
 
 pub text_at : (changes : List Change) (n : ℕ) → n ≤ 1999 → All (λ (change : Change). change.number ≤ 1999) changes → change_text changes (change_file n) ≡ text_of_change (change_in changes n)
 text_at [] n h all = refl
@@ -52,9 +53,9 @@ text_at (c ∷ changes) n h all =
     let low : c.number ≤ 1999 = all 0 c (omega arith) in
     let rest = text_at changes n h (λ k d less. all (suc k) d (omega (arith, less))) in
     let here : bytes_eq (change_file n) (change_file c.number) ≡ nat_eq n c.number = same_number n c.number (omega arith) (omega (arith, low)) in
-    ap (λ (b : Bool). if b then canonical (change_fields c) else change_text changes (change_file n)) here ∙ go (nat_eq n c.number) rest
+    ap (λ (b : Bool). if b then canonical (change_fields Two c) else change_text changes (change_file n)) here ∙ go (nat_eq n c.number) rest
   where
-    go : (b : Bool) → change_text changes (change_file n) ≡ text_of_change (change_in changes n) → (if b then canonical (change_fields c) else change_text changes (change_file n)) ≡ text_of_change (cond b (Some c) (change_in changes n))
+    go : (b : Bool) → change_text changes (change_file n) ≡ text_of_change (change_in changes n) → (if b then canonical (change_fields Two c) else change_text changes (change_file n)) ≡ text_of_change (cond b (Some c) (change_in changes n))
     go true rest = refl
     go false rest = rest
 
@@ -68,15 +69,15 @@ if_ok P Q R S (Ok a) step p q r = step a p q r
 if_ok P Q R S (Err e) step p q r = tt
 
 -- the project's text, where the copies are its parts
-pub project_is : (o : Observation) (project : Project) (numbers : List ℕ) → project ≡ o.project → numbers ≡ o.numbers → canonical (project_fields (project, numbers)) ≡ text_in o project_file
-project_is o project numbers p n = ap (λ (x : Project). canonical (project_fields (x, numbers))) p ∙ ap (λ (x : List ℕ). canonical (project_fields (o.project, x))) n
+pub project_is : (o : Observation) (project : Project) (numbers : List ℕ) → project ≡ o.project → numbers ≡ o.numbers → canonical (project_fields Two (project, numbers)) ≡ text_in o project_file
+project_is o project numbers p n = ap (λ (x : Project). canonical (project_fields Two (x, numbers))) p ∙ ap (λ (x : List ℕ). canonical (project_fields Two (o.project, x))) n
 
 pub project_written : (o : Observation) (project : Project) (numbers : List ℕ) → project ≡ o.project → numbers ≡ o.numbers → Sound o
-    → (text : List ℕ) → text ≡ canonical (project_fields (project, numbers)) → IsTextOf text (project_fields (project, numbers)) → HoldsProject (project, numbers) → IsProject (text_in o project_file) o.project o.numbers
+    → (text : List ℕ) → text ≡ canonical (project_fields Two (project, numbers)) → IsTextOf text (project_fields Two (project, numbers)) → HoldsProject (project, numbers) → IsProject Two (text_in o project_file) o.project o.numbers
 project_written o project numbers p n sound text is again holds =
     let fits : FitsProject (project, numbers) = (holds, subst (λ (x : List ℕ). ProjectAscends (project, x)) (sym n) sound.project.numbers_ascend) in
-    let start : IsProject (text_in o project_file) project numbers = (fits, subst (λ (t : List ℕ). IsTextOf t (project_fields (project, numbers))) (is ∙ project_is o project numbers p n) again) in
-    subst (λ (x : List ℕ). IsProject (text_in o project_file) o.project x) n (subst (λ (x : Project). IsProject (text_in o project_file) x numbers) p start)
+    let start : IsProject Two (text_in o project_file) project numbers = (fits, subst (λ (t : List ℕ). IsTextOf t (project_fields Two (project, numbers))) (is ∙ project_is o project numbers p n) again) in
+    subst (λ (x : List ℕ). IsProject Two (text_in o project_file) o.project x) n (subst (λ (x : Project). IsProject Two (text_in o project_file) x numbers) p start)
 
 pub project_numbered : (o : Observation) (project : Project) (numbers : List ℕ) → project ≡ o.project → numbers ≡ o.numbers → Sound o → HoldsProject (project, numbers) → IsNumbered (Some o)
 project_numbered o project numbers p n sound fits =
@@ -95,12 +96,12 @@ table_written o rows locks r l sound text is again holds =
     ((moved.0, ascend), subst (λ (t : List ℕ). IsTextOf t (files_fields (o.files, o.locks))) moved.1 moved.2)
 
 pub change_written : (state : Option Observation) (n : ℕ) → n ≤ 1999 → IsNumbered state → IfSome state Sound → (change : Change) → Some change ≡ change_of_state state n
-    → (text : List ℕ) → text ≡ canonical (change_fields change) → IsTextOf text (change_fields change) → HoldsChange change → ChangeIsWritten state n
+    → (text : List ℕ) → text ≡ canonical (change_fields Two change) → IsTextOf text (change_fields Two change) → HoldsChange Two change → ChangeIsWritten state n
 change_written None n h all sound change found text is again holds = tt
 change_written (Some o) n h all sound change found text is again holds =
     let good = sound.changes.good n change (sym found) in
-    let fits : FitsChange change = (holds, (good.files.ascend, good.runs.ascend)) in
-    let same : canonical (change_fields change) ≡ text_in o (change_file n) = ap text_of_change found ∙ sym (text_is (Some o) n h all) in
-    to-if (λ (c : Change). IsChange (text_in o (change_file n)) c) (change_at o n)
-    (λ (c : Change) e. subst (λ (x : Change). IsChange (text_in o (change_file n)) x) (same_Some change c (found ∙ e))
-    (fits, subst (λ (t : List ℕ). IsTextOf t (change_fields change)) (is ∙ same) again))
+    let fits : FitsChange Two change = (holds, (good.files.ascend, good.runs.ascend)) in
+    let same : canonical (change_fields Two change) ≡ text_in o (change_file n) = ap text_of_change found ∙ sym (text_is (Some o) n h all) in
+    to-if (λ (c : Change). IsChange Two (text_in o (change_file n)) c) (change_at o n)
+    (λ (c : Change) e. subst (λ (x : Change). IsChange Two (text_in o (change_file n)) x) (same_Some change c (found ∙ e))
+    (fits, subst (λ (t : List ℕ). IsTextOf t (change_fields Two change)) (is ∙ same) again))

@@ -1,8 +1,9 @@
--- The texts of the state files, and those of them that a step changes.
+-- The texts of the state files, in the second format, and those of them that a step changes.
 use Rattle.std.specs.Prelude.{ℕ, List, [], ◌∷◌, Option, Some, None, if◌then◌else◌}
 use Rattle.std.specs.Str.{bytes_eq}
 use Rattle.ae_text.specs.Canonical.{fields_text}
 use Rattle.ae_text.specs.View.{members_of}
+use Rattle.ae_schema.specs.declared.format.Format.TheVariants.{Two}
 use Rattle.ae_schema.specs.Files.{project_fields, files_fields, change_fields}
 use Rattle.ae_schema.specs.Records.{Named}
 use Rattle.ae_types.specs.declared.change.Change.{Change}
@@ -16,12 +17,12 @@ canonical fields = fields_text (members_of fields)
 -- the text of the change whose file has this name; other files are empty
 abbrev pub change_text : List Change → List ℕ → List ℕ
 change_text [] name = []
-change_text (change ∷ changes) name = if bytes_eq name (change_file change.number) then canonical (change_fields change) else change_text changes name
+change_text (change ∷ changes) name = if bytes_eq name (change_file change.number) then canonical (change_fields Two change) else change_text changes name
 
 -- the canonical text of the state file of this name; other files are empty
 abbrev pub text_in : Observation → List ℕ → List ℕ
 text_in o name =
-    if bytes_eq name project_file then canonical (project_fields (o.project, o.numbers))
+    if bytes_eq name project_file then canonical (project_fields Two (o.project, o.numbers))
     else if bytes_eq name files_file then canonical (files_fields (o.files, o.locks))
     else change_text o.changes name
 

@@ -16,6 +16,7 @@ use crate::records::{good_change, good_table};
 use crate::stop::Stop;
 use ae_base::ChangeNo;
 use ae_outside::{Disk, ReadError};
+use ae_schema::Format;
 use ae_types::{Change, FileRows, LockList, Project};
 use ae_vault::Vault;
 use std::alloc::Global;
@@ -55,14 +56,15 @@ pub(crate) fn load_table<D: Disk>(
     good_table(alloc, bytes.as_slice(), project)
 }
 
-/// The change of this number.
+/// The change of this number, whose file is in this format.
 pub(crate) fn load_change<D: Disk>(
     alloc: Global,
     disk: &mut D,
+    format: Format,
     number: ChangeNo,
 ) -> Result<Change, Stop>
     requires { IsCleanDisk D.Disk disk.old }
-    ensures loaded { D.tells → IsReading (ReadsChange (files (reads (D.state disk.old))) number) (blame.Change number) result }
+    ensures loaded { D.tells → IsReading (ReadsChange format (files (reads (D.state disk.old))) number) (blame.Change number) result }
     ensures clean { IsCleanDisk D.Disk disk.new }
     ensures same { D.tells → files (reads (D.state disk.new)) ≡ files (reads (D.state disk.old)) }
     ensures change { OnlyReads D.Disk disk.old disk.new }
@@ -70,5 +72,5 @@ pub(crate) fn load_change<D: Disk>(
 {
     let name = change_name(alloc, number)?;
     let bytes = file_bytes(alloc, disk, name.as_str())?;
-    good_change(alloc, bytes.as_slice(), number)
+    good_change(alloc, format, bytes.as_slice(), number)
 }

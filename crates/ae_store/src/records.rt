@@ -1,6 +1,8 @@
 // A state file's bytes are read, and tested by themselves.
 ghost use Rattle.std.specs.Prelude.{◌≡◌, ℕ, List, IsErrOf};
 ghost use Rattle.ae_outside.specs.Image.{Image};
+ghost use Rattle.ae_schema.specs.declared.format.Format.{Format};
+ghost use Rattle.ae_schema.specs.Formats.{IsOfFormat};
 ghost use Rattle.ae_types.specs.declared.blame.Blame.TheVariants as blame;
 ghost use Rattle.ae_types.specs.declared.project.Project.{Project};
 ghost use Rattle.ae_types.specs.declared.file_table.FileRow.{FileRow};
@@ -12,7 +14,7 @@ ghost use Rattle.ae_store.specs.Steps.{stop_schema, IsReading};
 use crate::stop::Stop;
 use ae_base::ChangeNo;
 use ae_rules::{change_is_good, files_are_good, project_is_good};
-use ae_schema::{SchemaError, read_change, read_files, read_project};
+use ae_schema::{Format, SchemaError, read_change_in, read_files, read_format, read_project_in};
 use ae_types::{Blame, Change, FileRows, LockList, NumberList, Project};
 use std::alloc::Global;
 
@@ -25,12 +27,16 @@ fn stop_of(blame: Blame, error: SchemaError) -> Stop
     }
 }
 
-/// The project that the bytes of `project` say, where it keeps the rules by itself.
-pub(crate) fn good_project(alloc: Global, bytes: &[u8]) -> Result<(Project, NumberList), Stop>
-    ensures value { (files : Image) → files project_file ≡ bytes.now → IsReading (λ (p : Project × List ℕ). ReadsProject files p.0 p.1) blame.Project result }
+/// The project that the bytes of `project` say in this format, where it keeps the rules by itself.
+pub(crate) fn good_project(
+    alloc: Global,
+    format: Format,
+    bytes: &[u8],
+) -> Result<(Project, NumberList), Stop>
+    ensures value { (files : Image) → files project_file ≡ bytes.now → IsReading (λ (p : Project × List ℕ). ReadsProject format files p.0 p.1) blame.Project result }
     ensures no_fault { IsErrOf result Stop.DiskFault → ⊥ }
 {
-    match read_project(alloc, bytes) {
+    match read_project_in(alloc, format, bytes) {
         Ok((project, numbers)) => {
             if project_is_good(&project, numbers.as_slice()) {
                 Ok((project, numbers))
@@ -64,12 +70,17 @@ pub(crate) fn good_table(
     }
 }
 
-/// The change of this number that the bytes of its file say, where it keeps the rules by itself.
-pub(crate) fn good_change(alloc: Global, bytes: &[u8], number: ChangeNo) -> Result<Change, Stop>
-    ensures value { (files : Image) → files (change_file number) ≡ bytes.now → IsReading (ReadsChange files number) (blame.Change number) result }
+/// The change of this number that the bytes of its file say in this format, where it keeps the rules by itself.
+pub(crate) fn good_change(
+    alloc: Global,
+    format: Format,
+    bytes: &[u8],
+    number: ChangeNo,
+) -> Result<Change, Stop>
+    ensures value { (files : Image) → files (change_file number) ≡ bytes.now → IsReading (ReadsChange format files number) (blame.Change number) result }
     ensures no_fault { IsErrOf result Stop.DiskFault → ⊥ }
 {
-    match read_change(alloc, bytes) {
+    match read_change_in(alloc, format, bytes) {
         Ok(change) => {
             if change.number == number && change_is_good(&change) {
                 Ok(change)
@@ -79,5 +90,17 @@ pub(crate) fn good_change(alloc: Global, bytes: &[u8], number: ChangeNo) -> Resu
             }
         }
         Err(error) => Err(stop_of(Blame::Change(number), error)),
+    }
+}
+
+/// The format of which the bytes of `project` say that they are.
+pub(crate) fn good_format(alloc: Global, bytes: &[u8]) -> Result<Format, Stop>
+    ensures told { IsReading (λ (format : Format). IsOfFormat format bytes.now) blame.Project result }
+    ensures no_fault { IsErrOf result Stop.DiskFault → ⊥ }
+{
+    match read_format(alloc, bytes) {
+        Ok(1) => Ok(Format::One),
+        Ok(_) => Ok(Format::Two),
+        Err(error) => Err(stop_of(Blame::Project, error)),
     }
 }

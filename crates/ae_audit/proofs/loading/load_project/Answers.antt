@@ -1,4 +1,4 @@
-use Rattle.std.proofs.Common.{◌≢◌, ℕ, List, [], Err, refl, sym, ◌∙◌, ap, subst}
+use Rattle.std.proofs.Common.{ℕ, List, Err, refl, ap, subst}
 use Rattle.std.proofs.Math.Nat.{le_refl}
 use Rattle.std.proofs.lemmas.Result.{err_from_is_err_and}
 use Rattle.ae_base.proofs.Results.{err_was}
@@ -8,7 +8,6 @@ use Rattle.ae_outside.specs.Image.{Image, IsSame}
 use Rattle.ae_outside.specs.State.{reads}
 use Rattle.ae_outside.specs.Time.{goes_on_refl, same_on, same_reads}
 use Rattle.ae_types.specs.Observation.{Observation}
-use Rattle.ae_store.specs.Names.{project_file}
 use Rattle.ae_store.specs.Damage.{ReadsProject, ReadsTable, ReadsChanges}
 use Rattle.ae_store.proofs.LoadSteps.{err_of}
 use Rattle.ae_store.proofs.OneState.{Reads}
@@ -21,40 +20,36 @@ use Rattle.ae_audit.proofs.loading.load_project.Goals as goal
 pub returns-in_err-project-clause-loaded : goal.returns-in_err-project-clause-loaded
 returns-in_err-project-clause-loaded g c = λ t.
     let here : Image = files_by c.args.redo.now (reads (g.D.Disk.state c.args.disk.now)) in
-    let some : here project_file ≢ [] = λ e. c.requires.some (sym (c.requires.bytes t) ∙ e) in
     let p = err_from_is_err_and c.from_residual.result c.from_residual.ensures.1 in
-    rw (p.1, p.2) (project_stops here c.in_err-project.field-0.0 some (c.in_err-project.ensures.value here (c.requires.bytes t)))
+    rw (p.1, p.2) (project_stops c.args.format here c.in_err-project.field-0.0 (c.in_err-project.ensures.value here (c.requires t)))
 
 pub returns-in-Err-clause-loaded : goal.returns-in-Err-clause-loaded
 returns-in-Err-clause-loaded g c = λ t.
     let here : Image = files_by c.args.redo.now (reads (g.D.Disk.state c.args.disk.now)) in
-    let some : here project_file ≢ [] = λ e. c.requires.some (sym (c.requires.bytes t) ∙ e) in
-    let rp : ReadsProject here c.in_ok-project.project c.in_ok-project.numbers = c.in_ok-project.ensures.value here (c.requires.bytes t) in
-    table_stops here c.in-Err.stop some c.in_ok-project.project c.in_ok-project.numbers rp (c.in-Err.ensures.table t)
+    let rp : ReadsProject c.args.format here c.in_ok-project.project c.in_ok-project.numbers = c.in_ok-project.ensures.value here (c.requires t) in
+    table_stops c.args.format here c.in-Err.stop c.in_ok-project.project c.in_ok-project.numbers rp (c.in-Err.ensures.table t)
 
 pub returns-in-Err-load_changes-clause-loaded : goal.returns-in-Err-load_changes-clause-loaded
 returns-in-Err-load_changes-clause-loaded g c = λ t.
     let here : Image = files_by c.args.redo.now (reads (g.D.Disk.state c.args.disk.now)) in
-    let some : here project_file ≢ [] = λ e. c.requires.some (sym (c.requires.bytes t) ∙ e) in
-    let rp : ReadsProject here c.in_ok-project.project c.in_ok-project.numbers = c.in_ok-project.ensures.value here (c.requires.bytes t) in
+    let rp : ReadsProject c.args.format here c.in_ok-project.project c.in_ok-project.numbers = c.in_ok-project.ensures.value here (c.requires t) in
     let rt : ReadsTable here c.in_ok-project.project c.in-Ok.files c.in-Ok.locks = c.in-Ok.ensures.table t in
     let same = ap (files_by c.args.redo.now) (same_reads _ _ (c.load_table.ensures.change t)) in
-    let bad : AreRead here c.as_slice.result.now (Err c.in-Err-load_changes.stop) = subst (λ (f : Image). AreRead f c.as_slice.result.now (Err c.in-Err-load_changes.stop)) same (c.in-Err-load_changes.ensures.loaded t) in
-    let bad_here : AreRead here c.in_ok-project.numbers (Err c.in-Err-load_changes.stop) = subst (λ (ns : List ℕ). AreRead here ns (Err c.in-Err-load_changes.stop)) c.as_slice.ensures bad in
-    changes_stop here c.in-Err-load_changes.stop some c.in_ok-project.project c.in_ok-project.numbers rp c.in-Ok.files c.in-Ok.locks rt bad_here
+    let bad : AreRead c.args.format here c.as_slice.result.now (Err c.in-Err-load_changes.stop) = subst (λ (f : Image). AreRead c.args.format f c.as_slice.result.now (Err c.in-Err-load_changes.stop)) same (c.in-Err-load_changes.ensures.loaded t) in
+    let bad_here : AreRead c.args.format here c.in_ok-project.numbers (Err c.in-Err-load_changes.stop) = subst (λ (ns : List ℕ). AreRead c.args.format here ns (Err c.in-Err-load_changes.stop)) c.as_slice.ensures bad in
+    changes_stop c.args.format here c.in-Err-load_changes.stop c.in_ok-project.project c.in_ok-project.numbers rp c.in-Ok.files c.in-Ok.locks rt bad_here
 
 pub returns-clause-loaded : goal.returns-clause-loaded
 returns-clause-loaded g c = λ t.
     let here : Image = files_by c.args.redo.now (reads (g.D.Disk.state c.args.disk.now)) in
-    let some : here project_file ≢ [] = λ e. c.requires.some (sym (c.requires.bytes t) ∙ e) in
-    let rp : ReadsProject here c.in_ok-project.project c.in_ok-project.numbers = c.in_ok-project.ensures.value here (c.requires.bytes t) in
+    let rp : ReadsProject c.args.format here c.in_ok-project.project c.in_ok-project.numbers = c.in_ok-project.ensures.value here (c.requires t) in
     let rt : ReadsTable here c.in_ok-project.project c.in-Ok.files c.in-Ok.locks = c.in-Ok.ensures.table t in
     let same = ap (files_by c.args.redo.now) (same_reads _ _ (c.load_table.ensures.change t)) in
-    let later : ReadsChanges here c.as_slice.result.now c.in-Ok-load_changes.changes = subst (λ (f : Image). ReadsChanges f c.as_slice.result.now c.in-Ok-load_changes.changes) same (c.in-Ok-load_changes.ensures.loaded t) in
-    let rc : ReadsChanges here c.in_ok-project.numbers c.in-Ok-load_changes.changes = subst (λ (ns : List ℕ). ReadsChanges here ns c.in-Ok-load_changes.changes) c.as_slice.ensures later in
+    let later : ReadsChanges c.args.format here c.as_slice.result.now c.in-Ok-load_changes.changes = subst (λ (f : Image). ReadsChanges c.args.format f c.as_slice.result.now c.in-Ok-load_changes.changes) same (c.in-Ok-load_changes.ensures.loaded t) in
+    let rc : ReadsChanges c.args.format here c.in_ok-project.numbers c.in-Ok-load_changes.changes = subst (λ (ns : List ℕ). ReadsChanges c.args.format here ns c.in-Ok-load_changes.changes) c.as_slice.ensures later in
     let parts : Observation = record { project = c.in_ok-project.project; numbers = c.in_ok-project.numbers; files = c.in-Ok.files; locks = c.in-Ok.locks; changes = c.in-Ok-load_changes.changes } in
-    let read : Reads Everything here parts = record { project = rp; table = rt; changes = rc } in
-    checked_so here parts c.checked.result some read c.checked.ensures
+    let read : Reads c.args.format Everything here parts = record { project = rp; table = rt; changes = rc } in
+    checked_so c.args.format here parts c.checked.result read c.checked.ensures
 
 pub returns-clause-change : goal.returns-clause-change
 returns-clause-change g c = λ t.
