@@ -23,7 +23,7 @@ use Rattle.ae_machine.specs.Fits.{makes_runs}
 use Rattle.ae_machine.specs.Legal.{Legal, Occasion}
 use Rattle.ae_machine.specs.Provenance.{IsProvided, ProvidedAt}
 use Rattle.ae_machine.specs.Space.{placing}
-use Rattle.ae_machine.specs.Verdict.{change_of_events, event_of, events_of, kinds_of}
+use Rattle.ae_machine.specs.Verdict.{change_of_events, events_of, kinds_of, maker_in}
 use Rattle.ae_machine.proofs.Accepted.{accepted-passes}
 use Rattle.ae_machine.proofs.AcceptedLogs.{accepted-starts}
 use Rattle.ae_machine.proofs.KindsMade.{kinds-all, function_making}
@@ -33,6 +33,7 @@ use Rattle.ae_exec.specs.Holding.{BaselineIsProvided, MayGive}
 use Rattle.ae_exec.specs.Step.{log_after, step}
 use Rattle.ae_exec.proofs.Legally.{unrun-legal}
 use Rattle.ae_exec.proofs.Shown.{in-list}
+use Rattle.ae_log.specs.Maker.{Maker, event_by}
 
 -- ---- the events of a function
 
@@ -56,9 +57,9 @@ pass-alone f given there = all-members (PassesAlone f given) (kinds_of f given) 
 
 -- ---- the events of an answer
 
-same-kinds : (who : List ℕ) (when : ℕ) (c : Option ℕ) (kinds : List EventKind) → map (λ (event : Event). event.what) (map (event_of who when c) kinds) ≡ kinds
-same-kinds who when c [] = refl
-same-kinds who when c (kind ∷ kinds) = λ i. kind ∷ same-kinds who when c kinds i
+same-kinds : (maker : Maker) (c : Option ℕ) (kinds : List EventKind) → map (λ (event : Event). event.what) (map (event_by maker c) kinds) ≡ kinds
+same-kinds maker c [] = refl
+same-kinds maker c (kind ∷ kinds) = λ i. kind ∷ same-kinds maker c kinds i
 
 -- so an answer with one has no other event, and the command makes no runs
 record OnlyPass (occasion : Occasion) (events : List Event) (event : Event) : Type 0 where
@@ -79,7 +80,7 @@ only-pass (Some o) bytes occasion events event answered there passes = record { 
     given = given_of placing o bytes occasion.command occasion.who occasion.when occasion.view
 
     made : EventKind → Event
-    made = event_of given.call.who given.when (change_of_events given.call.command.function given.call)
+    made = event_by (maker_in given) (change_of_events given.call.command.function given.call)
 
     these : events_of given ≡ events
     these = (accepted-passes o bytes occasion events answered).these
@@ -89,7 +90,7 @@ only-pass (Some o) bytes occasion events event answered there passes = record { 
 
     alone : (makes_runs occasion.command.function ≡ false) × (kinds_of occasion.command.function given ≡ on.IPass ∷ [])
     alone = pass-alone occasion.command.function given
-        (subst (λ (kinds : List EventKind). In kinds on.IPass) (ap (map (λ (e : Event). e.what)) (sym these) ∙ same-kinds given.call.who given.when (change_of_events given.call.command.function given.call) (kinds_of given.call.command.function given)) kind-in)
+        (subst (λ (kinds : List EventKind). In kinds on.IPass) (ap (map (λ (e : Event). e.what)) (sym these) ∙ same-kinds (maker_in given) (change_of_events given.call.command.function given.call) (kinds_of given.call.command.function given)) kind-in)
 only-pass None bytes occasion events event answered there passes =
     let start = accepted-starts bytes occasion events answered in
     absurd (first start.event start.starts.project (subst (λ (es : List Event). In es event) start.only there))

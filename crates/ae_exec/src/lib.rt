@@ -1,6 +1,7 @@
 //! One command, from the store to the reply.
 #![tactic(auto)]
 
+mod bringing;
 mod candidate;
 mod comparing;
 mod directories;

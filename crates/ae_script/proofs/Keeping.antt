@@ -1,26 +1,17 @@
 -- What calls leave of a disk, one after another.
-use Rattle.std.specs.Prelude.{List, [], ◌∷◌, Option, Some, None}
-use Rattle.std.proofs.Common.{refl, sym, subst, ◌∙◌}
-use Rattle.ae_outside.specs.Image.{Image}
+use Rattle.std.specs.Prelude.{List, [], ◌∷◌}
+use Rattle.std.proofs.Common.{refl, sym, subst}
 use Rattle.ae_outside.specs.State.{DiskState, reads}
 use Rattle.ae_outside.specs.Time.{continues_refl, continues_then}
 use Rattle.ae_lines.specs.declared.line.Line.{Line}
 use Rattle.ae_lines.specs.declared.line.Line.TheVariants.{Nothing, As, At, Do, Put, Fill, Remove}
 use Rattle.ae_vault.specs.Vault.{effective}
-use Rattle.ae_exec.specs.Endings.{OthersSame}
 use Rattle.ae_exec.specs.Performs.{LeavesDisk}
-use Rattle.ae_exec.proofs.Stores.{others_same}
+use Rattle.ae_exec.proofs.Stores.{others_same, others_then}
 use Rattle.ae_script.specs.Lines.{AreDone, Did, Does, DoesLine, Stand, last_stand}
 use Rattle.ae_script.specs.Step.{KeepsDisk}
 use Rattle.ae_script.specs.Uses.{Disks, Sites}
 use Rattle.ae_script.specs.declared.manner.Manner.{Manner}
-
-others_join : (a b c : Option Image) → OthersSame a b → OthersSame b c → OthersSame a c
-others_join None b c first second = subst (λ (x : Option Image). OthersSame x c) first second
-others_join (Some x) None c first second = absurd first
-others_join (Some x) (Some y) None first second = absurd second
-others_join (Some x) (Some y) (Some z) first second =
-    λ name no_pack no_project no_files no_change. second name no_pack no_project no_files no_change ∙ first name no_pack no_project no_files no_change
 
 -- no call
 pub keeps_still : (disk : DiskState) → KeepsDisk disk disk
@@ -31,7 +22,7 @@ pub keeps_then : (base mid disk : DiskState) → KeepsDisk base mid → KeepsDis
 keeps_then base mid disk first second = record {
   time = continues_then base mid disk first.time second.time;
   settled = λ settled. second.settled (first.settled settled);
-  others = others_join (effective (reads base)) (effective (reads mid)) (effective (reads disk)) first.others second.others;
+  others = others_then (effective (reads base)) (effective (reads mid)) (effective (reads disk)) first.others second.others;
 }
 
 -- a command

@@ -1,6 +1,6 @@
 -- Lines that are done after the disk was read.
 use Rattle.std.specs.Prelude.{◌≡◌, ◌⊎◌, List, Contains}
-use Rattle.std.proofs.Common.{inl, inr, sym, ap, subst, arith}
+use Rattle.std.proofs.Common.{inl, inr, ap, subst, arith}
 use Rattle.std.proofs.lemmas.Bool.{cases_lt}
 use Rattle.ae_outside.specs.State.{Continues, DiskState, reads}
 use Rattle.ae_outside.specs.Time.{continues_then}
@@ -10,6 +10,7 @@ use Rattle.ae_exec.specs.Performs.{LeavesDisk}
 use Rattle.ae_exec.specs.Stands.{StandsForLog}
 use Rattle.ae_exec.specs.Stops.{Leaves}
 use Rattle.ae_exec.proofs.Leaving.{leaves_then}
+use Rattle.ae_exec.proofs.Migrating.{stays_for}
 use Rattle.ae_exec.proofs.Standing.{by_files, alike}
 use Rattle.ae_script.specs.Follows.{IsLogged, LastFailed, LooksFollow}
 use Rattle.ae_script.specs.Lines.{Stand}
@@ -24,7 +25,7 @@ module _ (base mid disk : DiskState) (held : List Log) (log : Log) (leaves : Lea
   -- it holds the same
   looked_holds : HoldsLegal mid held log
   looked_holds = record {
-    holds = record { holds = first.holds; stands = by_files (reads base) (reads mid) log (sym (leaves.unchanged tt)) was.holds.stands; legal = was.holds.legal };
+    holds = record { holds = first.holds; in_format = leaves.in_format was.holds.holds.settled was.holds.in_format; stands = stays_for (reads base) (reads mid) log (leaves.unchanged tt) was.holds.stands; legal = was.holds.legal };
     all = was.all;
   }
 

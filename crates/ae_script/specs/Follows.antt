@@ -48,8 +48,8 @@ module _ (d : Disks) (s : Sites) where
   abbrev pub FollowLogs : Manner → Stand d s → List (Did d s) → d.Disk → Type 0
   FollowLogs manner from done disk = (held : List Log) (log : Log) → HoldsLegal (d.state from.disk) held log → IsLogged manner from done disk held log
 
-  -- From one stand to another the disk is read, and nothing written there but what a recovery writes: as a plan is made, or the store
-  -- loaded.
+  -- From one stand to another the disk is read, and nothing written there but what a recovery and a migration write: as a plan is
+  -- made, or the store loaded.
   pub record Looks (from to : Stand d s) : Type 0 where
     pub same : to ≡ record from { disk = to.disk }
     pub later : d.faults from.disk ≤ d.faults to.disk

@@ -1,6 +1,6 @@
 -- The disk, once a made-up project was read from it.
 use Rattle.std.specs.Prelude.{Bool}
-use Rattle.std.proofs.Common.{◌≡◌, List, [], ◌∷◌, append-nil, sym, subst, arith}
+use Rattle.std.proofs.Common.{◌≡◌, List, [], ◌∷◌, append-nil, subst, arith}
 use Rattle.ae_outside.specs.State.{DiskState, reads}
 use Rattle.ae_vault.specs.Kept.{StandsForOne}
 use Rattle.ae_log.specs.Log.{Log}
@@ -9,6 +9,7 @@ use Rattle.ae_exec.specs.Performs.{LeavesDisk}
 use Rattle.ae_exec.specs.Stands.{StandsForLog}
 use Rattle.ae_exec.specs.Stops.{Leaves}
 use Rattle.ae_exec.proofs.Leaving.{leaves_then}
+use Rattle.ae_exec.proofs.Migrating.{stays_for}
 use Rattle.ae_exec.proofs.Standing.{by_files, alike}
 use Rattle.ae_script.specs.Along.{KeptAlong, held_along}
 use Rattle.ae_script.specs.Refined.{HoldsAfter, RefinedAlong, unsynced, synced}
@@ -46,7 +47,8 @@ module _ (base mid disk : DiskState) (held : List Log) (log : Log) (done : List 
   loaded_legal logs last h = record {
     holds = record {
       holds = (leaves.kept tt logs h.holds.holds).holds;
-      stands = by_files (reads mid) (reads disk) last (sym (leaves.unchanged tt)) h.holds.stands;
+      in_format = leaves.in_format h.holds.holds.settled h.holds.in_format;
+      stands = stays_for (reads mid) (reads disk) last (leaves.unchanged tt) h.holds.stands;
       legal = h.holds.legal;
     };
     all = h.all;

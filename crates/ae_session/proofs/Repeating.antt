@@ -1,6 +1,6 @@
 -- What is left where calls are stopped one after another.
 use Rattle.std.specs.Prelude.{◌≡◌, ◌⊎◌, ◌++◌, ℕ, ◌≤◌, Bool, true, false, List, [], ◌∷◌, Contains}
-use Rattle.std.proofs.Common.{refl, sym, subst, ap, inl, inr, arith}
+use Rattle.std.proofs.Common.{refl, sym, subst, ap, ◌∙◌, inl, inr, arith}
 use Rattle.std.proofs.lemmas.Bool.{cases_lt}
 use Rattle.ae_outside.specs.Image.{Image}
 use Rattle.ae_outside.specs.State.{DiskState}
@@ -12,6 +12,7 @@ use Rattle.ae_log.specs.Log.{Log}
 use Rattle.ae_machine.specs.Legal.{Legal}
 use Rattle.ae_machine.proofs.LegalRightly.{legal-provided}
 use Rattle.ae_exec.specs.Holding.{HoldsLegal}
+use Rattle.ae_exec.specs.Migrated.{IsSecond}
 use Rattle.ae_exec.specs.Stands.{StandsForLog}
 use Rattle.ae_exec.proofs.Shown.{in-list}
 use Rattle.ae_script.specs.Along.{KeptAlong, held_along, is_fault}
@@ -223,6 +224,7 @@ module _ (d : Disks) (s : Sites) (i o e : Streams) (seen : d.told) (shown : s.to
   found-holds disk held log a l found = record {
     holds = record {
       holds = stopped_holds StandsForLog disk a.image l.left found.read found.only l.stands (0, omega arith, refl);
+      in_format = λ f is agree read. subst IsSecond (found.read ∙ sym (found.only f is)) read;
       stands = subst (λ (f : Image). StandsForLog f l.left) (sym found.read) l.stands;
       legal = l.legal;
     };

@@ -69,8 +69,8 @@ module _ (d : Disks) (s : Sites) where
 
   -- ---- the generator
 
-  -- Once all lines are done the disk is read, and nothing written there but what a recovery writes; the summary is told to `out`, or to
-  -- `err` why there is none.
+  -- Once all lines are done the disk is read, and nothing written there but what a recovery and a migration write; the summary is told
+  -- to `out`, or to `err` why there is none.
   pub record SummaryMade (runs : ℕ) (mid disk : d.Disk) (out err : SinkUse) (result : Outcome) : Type 0 where
     pub later : d.faults mid ≤ d.faults disk
     pub leaves : d.told → LeavesDisk (d.state mid) (d.state disk) (Unit {0})

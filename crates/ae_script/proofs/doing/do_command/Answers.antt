@@ -13,7 +13,7 @@ returns-clause-done g c = record {
       (λ nothing. nothing_told _ _ _ _ c.perform-done.ensures.may_end c.told_command.ensures.outcome nothing) (c.perform-done.ensures.disk tells);
   directories = λ seen. dirs_told _ (g.S.Site.state c.args.site.now) (g.S.Site.state c.perform-done.new.site) _ _ c.told_command.ensures.outcome (c.perform-done.ensures.directories seen);
   performs = λ tells seen. performs_told (g.D.Disk.state c.args.disk.now) (g.D.Disk.state c.perform-done.new.disk) _ _ _ (how_told _ _ _ _ c.perform-done.ensures.may_end c.told_command.ensures.outcome)
-      (c.perform-done.ensures.performs tells seen);
+      (c.perform-done.ensures.disk tells).in_format (c.perform-done.ensures.performs tells seen);
   reply = λ done tells seen o bytes shows.
       c.told_command.ensures.text ∙ reply_said _ _ _ done ∙ c.perform-done.ensures.reply (done_told _ _ c.told_command.ensures.outcome done) tells seen o bytes shows;
   message = λ none. c.told_command.ensures.text ∙ message_said _ _ _ none;
