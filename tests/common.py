@@ -142,8 +142,8 @@ def traced(program, top, who, words, watch):
     `watch(count, number)` answers None where a call is to be made, an error number where it is to fail with that, and STOP
     where the command is to be stopped before it.
     """
-    with tempfile.TemporaryFile() as err:
-        status = follow(start_traced(program, top, who, words, err.fileno()), watch)
+    with tempfile.TemporaryFile() as err, open(os.devnull, "wb") as out:
+        status = follow(start_traced(program, top, who, words, err.fileno(), out.fileno()), watch)
         err.seek(0)
         return os.waitstatus_to_exitcode(status), err.read().decode()
 

@@ -21,13 +21,13 @@ def listed(rows):
     return "[" + ", ".join(rows) + "]"
 
 
-def project_text(paths, changes):
+def project_text(paths, changes, form):
     deltas = [f'{{ delta = {d}; change = {d + 9}; when = {WHEN}; who = "alice"; }}' for d in range(1, changes + 1)]
     numbers = [str(d + 9) for d in range(1, changes + 1)]
     flags = ["developer_may_review", "developer_may_integrate", "reviewer_may_integrate", "developers_may_create_changes"]
     settings = "".join(f"{flag} = {'true' if flag.startswith('reviewer') else 'false'};\n" for flag in flags)
     return (
-        'format = 1;\nstore = packed;\nname = "demo";\ndescription = "";\n'
+        f'format = {form};\nstore = packed;\nname = "demo";\ndescription = "";\n'
         + settings
         + "develop_end_action = goto_being_reviewed;\ndefault_test_exemption = false;\n"
         + PEOPLE
@@ -46,13 +46,14 @@ def file_row(path, number, delta):
     return f'{{ path = "{path}"; edit = 1; past = [{{ delta = {delta}; usage = source; {version} }}]; }}'
 
 
-def change_text(number, paths):
+def change_text(number, paths, form):
     files = [f'{{ path = "{p}"; action = create; usage = source; origin = 0; version = {{ }}; }}' for p in paths]
     runs = [
         f'{{ ground = {ground}; kind = build; path = ""; status = 0; clean = true; subject = "{DIGEST}"; when = {WHEN}; who = "{who}"; }}'
         for ground, who in [("develop", "bob"), ("integrate", "alice")]
     ]
-    rows = [f'{{ what = {what}; who = "{who}"; when = {WHEN}; }}' for what, who in STEPS]
+    reason = ' why = "";' if form == 2 else ""
+    rows = [f'{{ what = {what}; who = "{who}"; when = {WHEN};{reason} }}' for what, who in STEPS]
     return (
         f'number = {number};\nbrief_description = "change {number}";\ndescription = "";\ncause = internal_enhancement;\n'
         "test_exempt = true;\ntest_baseline_exempt = true;\nregression_test_exempt = true;\nphase = completed;\n"
@@ -61,15 +62,16 @@ def change_text(number, paths):
     )
 
 
-def write_store(folder, paths, changes):
+def write_store(folder, paths, changes, form=2):
+    """Writes the store in this format of the state files."""
     names = [f"source/part{n // 100:03}/file{n:05}.c" for n in range(paths)]
     each = [names[d * paths // changes : (d + 1) * paths // changes] for d in range(changes)]
     rows = []
     for delta, mine in enumerate(each, 1):
         rows += [file_row(p, len(rows) + i, delta) for i, p in enumerate(mine, 1)]
-    texts = {"project": project_text(paths, changes), "files": f"files = {listed(rows)};\nlocks = [];\n"}
+    texts = {"project": project_text(paths, changes, form), "files": f"files = {listed(rows)};\nlocks = [];\n"}
     for delta, mine in enumerate(each, 1):
-        texts[f"change.{delta + 9}"] = change_text(delta + 9, mine)
+        texts[f"change.{delta + 9}"] = change_text(delta + 9, mine, form)
     os.makedirs(folder)
     for name, text in texts.items():
         with open(os.path.join(folder, name), "w") as file:
