@@ -15,7 +15,7 @@ ghost use Rattle.ae_machine.specs.Directories.{in_order, removed};
 ghost use Rattle.ae_machine.specs.Fits.{makes_runs};
 ghost use Rattle.ae_machine.specs.Real.{IsLeft};
 ghost use Rattle.ae_files.specs.InTree.{row_at};
-ghost use Rattle.ae_machine.specs.Legal.{is_one_command};
+ghost use Rattle.ae_words.specs.Table.{is_one_command};
 ghost use Rattle.ae_exec.specs.Devices.{SiteFailed};
 ghost use Rattle.ae_exec.specs.Bytes.{HaveBytes, row_of_path, row_version, rows_at};
 ghost use Rattle.ae_exec.specs.Directories.{AreChanges, AreOfOneDelta, AreOwn, ChangesOneDelta, DeltaHasRoom, LeavesDirs, makes_files, removes_files, paths_put, puts_files, tree_put};

@@ -2,7 +2,7 @@
 ghost use Rattle.std.specs.Prelude.{◌≡◌, ◌≤◌, true};
 ghost use Rattle.ae_base.specs.Limits.{last_moment};
 ghost use Rattle.ae_words.specs.Formed.{IsFormed};
-ghost use Rattle.ae_machine.specs.Legal.{is_one_command};
+ghost use Rattle.ae_words.specs.Table.{is_one_command};
 
 use ae_base::User;
 use ae_words::Command;

@@ -7,14 +7,14 @@ use Rattle.std.proofs.lemmas.Bool.{and_parts, lt-leb}
 use Rattle.std.proofs.lemmas.List.Folds.{list_all-append}
 use Rattle.ae_base.specs.Names.{is_path}
 use Rattle.ae_generator.specs.Lines.{command_line, path, copy_line, new_files_line}
-use Rattle.ae_lines.specs.Line.{IsLine, Means, Said, asks, said, said_where, is_ascii_word, is_part_of_script}
+use Rattle.ae_lines.specs.Line.{IsLine, Means, Said, asks, said, said_where, is_ascii_word}
 use Rattle.ae_lines.specs.Tokens.{is_plain}
 use Rattle.ae_lines.specs.declared.line.Line.TheVariants.{Do}
 use Rattle.ae_words.specs.Grammar.{IsCommand}
 use Rattle.ae_words.specs.Items.{function}
 use Rattle.ae_words.specs.Meaning.{blank, step, is_whole}
 use Rattle.ae_words.specs.Spelling.{spells}
-use Rattle.ae_words.specs.Table.{row}
+use Rattle.ae_words.specs.Table.{is_one_command, row}
 use Rattle.ae_words.specs.declared.command.Command.{Command}
 use Rattle.ae_words.specs.declared.table.Function.{Function}
 use Rattle.ae_words.specs.declared.table.Function.TheVariants as function
@@ -46,12 +46,12 @@ do_line ws = codes "do" ++ after_blanks ws
 do_tokens : (ws : List (List ℕ)) → list_all is_word ws ≡ true → said (do_line ws) ≡ asks ws
 do_tokens ws all = ap said_where (words_are (codes "do") ws refl all)
 
-do_said : (ws : List (List ℕ)) (c : Command) → list_all is_word ws ≡ true → IsCommand ws c → is_part_of_script c.function ≡ true → IsLine (do_line ws) (Do c)
-do_said ws c all is part =
-    subst (λ (s : Said). Means s (Do c)) (sym (do_tokens ws all)) (c, refl, record { ascii = words_ascii ws all; is = is; part = part })
+do_said : (ws : List (List ℕ)) (c : Command) → list_all is_word ws ≡ true → IsCommand ws c → is_one_command c.function ≡ true → IsLine (do_line ws) (Do c)
+do_said ws c all is one =
+    subst (λ (s : Said). Means s (Do c)) (sym (do_tokens ws all)) (c, refl, record { ascii = words_ascii ws all; is = is; one = one })
 
 pub do_made : (line : List ℕ) (ws : List (List ℕ)) (c : Command) → line ≡ do_line ws ++ 10 ∷ [] → list_all is_word ws ≡ true → length (after_blanks ws) < 1990 → IsCommand ws c
-    → is_part_of_script c.function ≡ true → c.function ≢ function.Test → IsMade line
+    → is_one_command c.function ≡ true → c.function ≢ function.Test → IsMade line
 do_made line ws c ended all short is part other = record {
   content = do_line ws;
   ended = ended;
@@ -70,7 +70,7 @@ pub record IsChangeWord (w : List ℕ) (f : Function) : Type 0 where
   pub in_row : row f ≡ rows.Change
   pub word : is_word w ≡ true
   pub small : length w ≤ 6
-  pub part : is_part_of_script f ≡ true
+  pub one : is_one_command f ≡ true
   pub other : f ≢ function.Test
 
 change_shape : (w : List ℕ) (n : ℕ) → command_line w n ≡ do_line (w ∷ codes "-c" ∷ decimal n ∷ []) ++ 10 ∷ []
@@ -87,7 +87,7 @@ change_made w f n is low high =
     do_made (command_line w n) (w ∷ codes "-c" ∷ decimal n ∷ []) (on_paths f n []) (change_shape w n)
     (rw (is.word, digits_word n d) refl)
     (omega (arith, length-append w (codes " -c " ++ (decimal n ++ [])), length-append (decimal n) []))
-    (change_command f w (decimal n) n is.names is.in_row (change_of n low high)) is.part is.other
+    (change_command f w (decimal n) n is.names is.in_row (change_of n low high)) is.one is.other
 
 -- ---- a command on a change and paths
 
@@ -96,7 +96,7 @@ record IsPathsWord (w : List ℕ) (f : Function) : Type 0 where
   on : OnPaths f
   word : is_word w ≡ true
   small : length w ≤ 6
-  part : is_part_of_script f ≡ true
+  one : is_one_command f ≡ true
   other : f ≢ function.Test
 
 paths_made : (line w : List ℕ) (f : Function) (n : ℕ) (p : List ℕ) (ps : List (List ℕ)) → IsPathsWord w f → 10 ≤ n → n < 210 → line ≡ do_line (w ∷ codes "-c" ∷ decimal n ∷ p ∷ ps) ++ 10 ∷ []
@@ -110,7 +110,7 @@ paths_made line w f n p ps is low high ended few all words size =
     do_made line (w ∷ codes "-c" ∷ decimal n ∷ p ∷ ps) (on_paths f n (p ∷ ps)) ended
     (rw (named, number) words)
     (omega (arith, length-append w (codes " -c " ++ (decimal n ++ after_blanks (p ∷ ps))), length-append (decimal n) (after_blanks (p ∷ ps))))
-    (paths_command f w (decimal n) n p ps is.on is.names (change_of n low high) few all) is.part is.other
+    (paths_command f w (decimal n) n p ps is.on is.names (change_of n low high) few all) is.one is.other
 
 paths_shape : (w rest : List ℕ) (n : ℕ) → codes "do " ++ (w ++ (codes " -c " ++ (decimal n ++ (rest ++ 10 ∷ [])))) ≡ (codes "do " ++ (w ++ (codes " -c " ++ (decimal n ++ rest)))) ++ 10 ∷ []
 paths_shape w rest n =
@@ -125,7 +125,7 @@ new_files = record {
   on = record { takes = λ c p. refl; whole = λ n p ps. let some : nat_le (suc (length ps)) 0 ≡ false = lt-leb (suc (length ps)) 0 (omega arith) in rw some refl; change = λ l d n at is. rw is refl };
   word = refl;
   small = omega arith;
-  part = refl;
+  one = refl;
   other = λ same. cc;
 }
 
@@ -136,7 +136,7 @@ copies = record {
   on = record { takes = λ c p. refl; whole = λ n p ps. let some : nat_le (suc (length ps)) 0 ≡ false = lt-leb (suc (length ps)) 0 (omega arith) in rw some refl; change = λ l d n at is. rw is refl };
   word = refl;
   small = omega arith;
-  part = refl;
+  one = refl;
   other = λ same. cc;
 }
 

@@ -17,27 +17,27 @@ use Rattle.ae_generated.proofs.Puts.{drawn_below, put_made}
 
 begin_word : IsChangeWord (codes "-db") function.DevelopBegin
 unfolding spells
-begin_word = record { names = refl; in_row = refl; word = refl; small = omega arith; part = refl; other = λ same. cc }
+begin_word = record { names = refl; in_row = refl; word = refl; small = omega arith; one = refl; other = λ same. cc }
 
 build_word : IsChangeWord (codes "-b") function.Build
 unfolding spells
-build_word = record { names = refl; in_row = refl; word = refl; small = omega arith; part = refl; other = λ same. cc }
+build_word = record { names = refl; in_row = refl; word = refl; small = omega arith; one = refl; other = λ same. cc }
 
 end_word : IsChangeWord (codes "-de") function.DevelopEnd
 unfolding spells
-end_word = record { names = refl; in_row = refl; word = refl; small = omega arith; part = refl; other = λ same. cc }
+end_word = record { names = refl; in_row = refl; word = refl; small = omega arith; one = refl; other = λ same. cc }
 
 review_word : IsChangeWord (codes "-rpass") function.ReviewPass
 unfolding spells
-review_word = record { names = refl; in_row = refl; word = refl; small = omega arith; part = refl; other = λ same. cc }
+review_word = record { names = refl; in_row = refl; word = refl; small = omega arith; one = refl; other = λ same. cc }
 
 integrate_word : IsChangeWord (codes "-ib") function.IntegrateBegin
 unfolding spells
-integrate_word = record { names = refl; in_row = refl; word = refl; small = omega arith; part = refl; other = λ same. cc }
+integrate_word = record { names = refl; in_row = refl; word = refl; small = omega arith; one = refl; other = λ same. cc }
 
 pass_word : IsChangeWord (codes "-ipass") function.IntegratePass
 unfolding spells
-pass_word = record { names = refl; in_row = refl; word = refl; small = omega arith; part = refl; other = λ same. cc }
+pass_word = record { names = refl; in_row = refl; word = refl; small = omega arith; one = refl; other = λ same. cc }
 
 -- ---- the parts of a change
 

@@ -1,5 +1,5 @@
 -- What a line of a script says.
-use Rattle.std.specs.Prelude.{ℕ, ◌≡◌, ◌==◌, ◌≤◌, nat_eq, nat_le, List, [], ◌∷◌, if◌then◌else◌, Bool, true, false, not, Option, Some, None, codes, length, drop}
+use Rattle.std.specs.Prelude.{ℕ, ◌≡◌, ◌==◌, ◌≤◌, nat_eq, nat_le, List, [], ◌∷◌, if◌then◌else◌, Bool, true, false, Option, Some, None, codes, length, drop}
 use Rattle.std.specs.List.{list_all, starts_with}
 use Rattle.std.specs.Option.{option_map, option_and_then}
 use Rattle.std.specs.Str.{bytes_eq}
@@ -10,10 +10,8 @@ use Rattle.ae_outside.specs.declared.dir.Dir.{Dir}
 use Rattle.ae_outside.specs.declared.dir.Dir.TheVariants.{Here, Develop, Integrate, Base}
 use Rattle.ae_words.specs.Grammar.{IsCommand}
 use Rattle.ae_words.specs.declared.command.Command.{Command}
-use Rattle.ae_words.specs.declared.table.Function.{Function}
-use Rattle.ae_words.specs.declared.table.Function.TheVariants as function
 use Rattle.ae_words.specs.Formed.{IsFormed, is_change_number}
-use Rattle.ae_words.specs.Table.{is_to_come}
+use Rattle.ae_words.specs.Table.{is_one_command}
 use Rattle.ae_lines.specs.declared.line.Line.{Line}
 use Rattle.ae_lines.specs.declared.line.Line.TheVariants.{Nothing, As, At, Do, Put, Fill, Remove}
 use Rattle.ae_lines.specs.Tokens.{tokens}
@@ -126,17 +124,11 @@ said text = if is_comment text then says Nothing else said_where (tokens text)
 abbrev pub is_ascii_word : List ℕ → Bool
 is_ascii_word word = list_all (λ (b : ℕ). nat_le b 127) word
 
--- a function that may stand in a script: not a script itself, not the generator, and none to come
-abbrev pub is_part_of_script : Function → Bool
-is_part_of_script function.Script = false
-is_part_of_script function.Generate = false
-is_part_of_script f = not (is_to_come f)
-
--- these words are this command, whose function may stand in a script
+-- these words are this command, which is one that may stand in a script
 pub record IsCommandOf (words : List (List ℕ)) (command : Command) : Type 0 where
   pub ascii : list_all is_ascii_word words ≡ true
   pub is : IsCommand words command
-  pub part : is_part_of_script command.function ≡ true
+  pub one : is_one_command command.function ≡ true
 
 abbrev pub Means : Said → Line → Type 0
 Means (says other) line = line ≡ other
@@ -164,7 +156,7 @@ abbrev pub IsReady : Line → Type 0
 IsReady Nothing = Unit {0}
 IsReady (As user) = IsUser user
 IsReady (At moment) = moment ≤ last_moment
-IsReady (Do command) = IsFormed command × (is_part_of_script command.function ≡ true)
+IsReady (Do command) = IsFormed command × (is_one_command command.function ≡ true)
 IsReady (Put dir path text) = IsPlace dir path
 IsReady (Fill dir path count byte) = IsPlace dir path × (count ≤ most_filled) × (byte ≤ 255)
 IsReady (Remove dir path) = IsPlace dir path

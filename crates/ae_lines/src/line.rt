@@ -1,18 +1,18 @@
 // A line of a script.
 ghost use Rattle.std.specs.Prelude.{◌≡◌, ◌≤◌, true, false, map, string_bytes, IfOk, IfSome, IfNone, option_copied};
 ghost use Rattle.ae_lines.specs.declared.line.Line.{Line};
-ghost use Rattle.ae_lines.specs.Line.{IsLine, IsPlace, IsReady, after_beginning, develop_named, base_named, integrate_named, dir_named, place_of, as_line, at_line, put_line, fill_with, fill_line, drop_line, is_comment, is_ascii_word, is_part_of_script, most_filled, number_up_to, said_of, said_by, Means, asks};
+ghost use Rattle.ae_lines.specs.Line.{IsLine, IsPlace, IsReady, after_beginning, develop_named, base_named, integrate_named, dir_named, place_of, as_line, at_line, put_line, fill_with, fill_line, drop_line, is_comment, is_ascii_word, most_filled, number_up_to, said_of, said_by, Means, asks};
 ghost use Rattle.std.specs.List.{list_all};
 ghost use Rattle.ae_words.specs.Formed.{IsFormed};
 ghost use Rattle.ae_words.specs.Grammar.{IsCommand};
 ghost use Rattle.ae_words.specs.declared.command.Command.{Command};
-ghost use Rattle.ae_words.specs.declared.table.Function.{Function};
+ghost use Rattle.ae_words.specs.Table.{is_one_command};
 
 use crate::token::tokens;
 use ae_base::limits::LAST_MOMENT;
 use ae_base::{ChangeNo, Delta, Path, Text, User, read_number};
 use ae_outside::Dir;
-use ae_words::{Command, Function, WordsError, read_words};
+use ae_words::{Command, WordsError, read_words};
 use std::alloc::{AllocError, Global};
 
 /// What a line of a script says.
@@ -251,24 +251,17 @@ fn words_of(alloc: Global, rest: &[Text]) -> Result<Option<Vec<String>>, AllocEr
     Ok(Some(words))
 }
 
-// Whether the function may stand in a script: not a script itself, not the generator, and none to come.
-fn is_part_of_script(function: Function) -> bool
-    ensures { result ≡ is_part_of_script function }
-{
-    !matches!(function, Function::Script | Function::Generate) && !function.is_to_come()
-}
-
-// The command that these words are, where its function may stand in a script.
+// The command that these words are, where it is one that may stand in a script.
 fn command_of(alloc: Global, words: &[String]) -> Result<Option<Command>, AllocError>
     ensures is { IfOk result (λ o. IfSome o (λ command. IsCommand (map string_bytes words.now) command)) }
-    ensures part { IfOk result (λ o. IfSome o (λ command. is_part_of_script command.function ≡ true)) }
+    ensures one { IfOk result (λ o. IfSome o (λ command. is_one_command command.function ≡ true)) }
     ensures none { IfOk result (λ o. IfNone o ((command : Command) →
-        IsCommand (map string_bytes words.now) command → is_part_of_script command.function ≡ true → ⊥)) }
+        IsCommand (map string_bytes words.now) command → is_one_command command.function ≡ true → ⊥)) }
     ensures formed { IfOk result (λ o. IfSome o (λ command. IsFormed command)) }
 {
     match read_words(alloc, words) {
         Ok(command) => {
-            if is_part_of_script(command.function) {
+            if command.function.is_one_command() {
                 Ok(Some(command))
             } else {
                 Ok(None)

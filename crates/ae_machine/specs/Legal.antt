@@ -1,5 +1,5 @@
 -- The logs that commands make.
-use Rattle.std.specs.Prelude.{◌≡◌, ℕ, ◌≤◌, Bool, true, false, not, List, [], Option, Some, None}
+use Rattle.std.specs.Prelude.{◌≡◌, ℕ, ◌≤◌, true, List, [], Option, Some, None}
 use Rattle.ae_base.specs.Limits.{last_moment}
 use Rattle.ae_base.specs.Names.{IsUser}
 use Rattle.ae_types.specs.Observation.{Observation}
@@ -9,10 +9,8 @@ use Rattle.ae_log.specs.Log.{Log, followed}
 use Rattle.ae_log.specs.Maker.{Maker}
 use Rattle.ae_log.specs.Observed.{observation}
 use Rattle.ae_words.specs.declared.command.Command.{Command}
-use Rattle.ae_words.specs.declared.table.Function.{Function}
-use Rattle.ae_words.specs.declared.table.Function.TheVariants as function
 use Rattle.ae_words.specs.Formed.{IsFormed}
-use Rattle.ae_words.specs.Table.{is_to_come}
+use Rattle.ae_words.specs.Table.{is_one_command}
 use Rattle.ae_machine.specs.declared.verdict.Verdict.{Verdict}
 use Rattle.ae_machine.specs.declared.verdict.Verdict.TheVariants.{Accept}
 use Rattle.ae_machine.specs.declared.view.View.{View}
@@ -32,12 +30,6 @@ pub record Occasion : Type 0 where
 -- of whom its events are
 abbrev pub maker_at : Occasion → Maker
 maker_at occasion = maker_by occasion.command occasion.who occasion.when
-
--- a script and the generator are no command of their own, but many, and one to come is none yet
-abbrev pub is_one_command : Function → Bool
-is_one_command function.Script = false
-is_one_command function.Generate = false
-is_one_command f = not (is_to_come f)
 
 -- the view fits what stands, and has all of its runs
 abbrev pub ViewFits : Option Observation → (ℕ → List ℕ) → Occasion → Type 0

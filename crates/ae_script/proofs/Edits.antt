@@ -6,12 +6,8 @@ use Rattle.ae_base.specs.declared.outcome.Outcome.TheVariants.{Done, SiteFault, 
 use Rattle.ae_outside.specs.Site.{ChangesOnly}
 use Rattle.ae_outside.specs.State.{DiskState}
 use Rattle.ae_outside.specs.declared.dir.Dir.{Dir}
-use Rattle.ae_lines.specs.Line.{is_part_of_script}
 use Rattle.ae_lines.specs.declared.line.Line.{Line}
 use Rattle.ae_log.specs.Log.{Log}
-use Rattle.ae_words.specs.declared.table.Function.{Function}
-use Rattle.ae_words.specs.declared.table.Function.TheVariants as function
-use Rattle.ae_machine.specs.Legal.{is_one_command}
 use Rattle.ae_exec.specs.Holding.{HoldsLegal}
 use Rattle.ae_exec.specs.Stands.{StandsForLog}
 use Rattle.ae_exec.proofs.Leaving.{leaves_still}
@@ -30,11 +26,6 @@ use Rattle.ae_script.specs.declared.manner.Manner.TheVariants.{Plan, Script, Gen
 use Rattle.ae_script.proofs.Following.{Logs, refined_all}
 use Rattle.ae_script.proofs.SoFar.{holds_so_far}
 use Rattle.ae_script.proofs.Stepping.{fresh, StepDone}
-
--- a command that may stand in a script is one command
-pub part_is_one : (f : Function) → is_part_of_script f ≡ true → is_one_command f ≡ true
-part_is_one function.Script is = is
-part_is_one _ is = is
 
 -- ---- a disk that isn't called
 

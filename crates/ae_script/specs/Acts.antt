@@ -5,7 +5,7 @@ use Rattle.ae_base.specs.declared.outcome.Outcome.TheVariants.{Done}
 use Rattle.ae_lines.specs.declared.line.Line.{Line}
 use Rattle.ae_lines.specs.declared.line.Line.TheVariants.{Do, Put}
 use Rattle.ae_words.specs.Formed.{IsFormed}
-use Rattle.ae_machine.specs.Legal.{is_one_command}
+use Rattle.ae_words.specs.Table.{is_one_command}
 use Rattle.ae_telling.specs.Telling.{SinkUse}
 use Rattle.ae_script.specs.Follows.{FollowLogs}
 use Rattle.ae_script.specs.Lines.{AreDone, Did, LinesEnd, Stand, last_stand, lines_said}

@@ -4,7 +4,7 @@ ghost use Rattle.ae_base.specs.Limits.{last_moment};
 ghost use Rattle.ae_lines.specs.Line.{IsReady};
 ghost use Rattle.ae_words.specs.Formed.{IsFormed};
 ghost use Rattle.ae_machine.specs.Called.{called};
-ghost use Rattle.ae_machine.specs.Legal.{is_one_command};
+ghost use Rattle.ae_words.specs.Table.{is_one_command};
 ghost use Rattle.ae_telling.specs.Telling.{use_of_sink, IsTold, written};
 ghost use Rattle.ae_script.specs.Lines.{CommandDone, Does, EditDone, did, stand};
 ghost use Rattle.ae_script.specs.Manner.{is_done, leads_on};

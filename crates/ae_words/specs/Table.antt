@@ -155,13 +155,16 @@ row function.Report = rows.Report
 row function.DistributionSend = rows.Change
 row function.DistributionReceive = rows.Alone
 
--- whether its words are read, and the program doesn't do it yet
-abbrev pub is_to_come : Function → Bool
-is_to_come function.Audit = true
-is_to_come function.Report = true
-is_to_come function.DistributionSend = true
-is_to_come function.DistributionReceive = true
-is_to_come _ = false
+-- whether it is one command, to which the log machine has an answer, and which may stand in a script: a script, the generator and a
+-- change set that is received are many commands, and an audit, a report and a change set that is sent are looks at what stands
+abbrev pub is_one_command : Function → Bool
+is_one_command function.Script = false
+is_one_command function.Generate = false
+is_one_command function.Audit = false
+is_one_command function.Report = false
+is_one_command function.DistributionSend = false
+is_one_command function.DistributionReceive = false
+is_one_command _ = true
 
 -- whether the listing shows a change
 abbrev pub of_change : Listing → Bool

@@ -1,7 +1,7 @@
 // The table of functions, listings and options, with their patterns and the words that they take.
 ghost use Rattle.std.specs.Prelude.{◌≡◌, ◌↔◌, Some};
 ghost use Rattle.ae_words.specs.Spelling.{Matches};
-ghost use Rattle.ae_words.specs.Table.{function_pattern, listing_pattern, setting_pattern, row, is_to_come, of_change, adds_row, allows, allows_change, needs_change, needs_attributes};
+ghost use Rattle.ae_words.specs.Table.{function_pattern, listing_pattern, setting_pattern, row, is_one_command, of_change, adds_row, allows, allows_change, needs_change, needs_attributes};
 ghost use Rattle.ae_words.specs.Items.{function_named, listing_named, setting_named};
 
 use crate::spelling::spells_from;
@@ -393,13 +393,17 @@ impl Function {
         }
     }
 
-    /// Whether its words are read, and the program doesn't do it yet.
-    pub fn is_to_come(self) -> bool
-        ensures { result ≡ is_to_come self }
+    /// Whether it is one command, to which the log machine has an answer, and which may stand in a script: a script, the
+    /// generator and a change set that is received are many commands, and an audit, a report and a change set that is sent
+    /// are looks at what stands.
+    pub fn is_one_command(self) -> bool
+        ensures { result ≡ is_one_command self }
     {
-        matches!(
+        !matches!(
             self,
-            Function::Audit
+            Function::Script
+                | Function::Generate
+                | Function::Audit
                 | Function::Report
                 | Function::DistributionSend
                 | Function::DistributionReceive

@@ -3,14 +3,14 @@ use Rattle.ae_lines.specs.Line.{IsReady}
 use Rattle.ae_script.specs.Lines.{did, stand}
 use Rattle.ae_script.specs.Step.{told_by}
 use Rattle.ae_script.specs.Uses.{Disks, Sites, disks, sites}
-use Rattle.ae_script.proofs.Edits.{bytes_are, edit_written, part_is_one, silent}
+use Rattle.ae_script.proofs.Edits.{bytes_are, edit_written, silent}
 use Rattle.ae_script.proofs.Lines.{line_done, status_is}
 use Rattle.ae_script.proofs.doing.do_line.Goals as goal
 
 pub do_command-requires : goal.do_command-requires
 do_command-requires g c =
     let ready = subst IsReady c.in-Do.is c.requires.ready in
-    record { formed = ready.0; one = part_is_one _ ready.1; moment = c.args.standing.now.moment }
+    record { formed = ready.0; one = ready.1; moment = c.args.standing.now.moment }
 
 pub returns-in-Nothing : goal.returns-in-Nothing
 returns-in-Nothing g c =
