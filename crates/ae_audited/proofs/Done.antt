@@ -4,11 +4,12 @@ use Rattle.ae_base.specs.declared.outcome.Outcome.{Outcome}
 use Rattle.ae_base.specs.declared.outcome.Outcome.TheVariants.{Done, Memory}
 use Rattle.ae_outside.specs.Image.{Image}
 use Rattle.ae_telling.specs.Telling.{SinkUse, IsTold}
+use Rattle.ae_telling.specs.Sinks.{told_to}
 use Rattle.ae_audit.specs.declared.certificate.CertificateRow.{CertificateRow}
 use Rattle.ae_audit.specs.declared.error.AuditError.{AuditError}
 use Rattle.ae_audit.specs.declared.error.AuditError.TheVariants as audit
 use Rattle.ae_audit.specs.Audits.{Answer, IsAnswer}
-use Rattle.ae_audited.specs.Telling.{Means, lines, error, wanting, told_to, IsAuditTold, IsDoneOnLegal}
+use Rattle.ae_audited.specs.Telling.{Means, lines, error, wanting, IsAuditTold, IsDoneOnLegal}
 use Rattle.ae_audited.proofs.Certified.{legal-audited}
 
 -- what is meant where the rows were answered, unless the disk failed or memory ran out

@@ -1,2 +1,4 @@
+pub mod Answered
 pub mod Messages
 pub mod Telling
+pub mod Sinks

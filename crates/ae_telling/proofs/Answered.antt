@@ -1,0 +1,39 @@
+-- An answer that is told by `told_command` is told as it is meant.
+use Rattle.std.proofs.Common.{◌≡◌, ◌⊎◌, ◌∙◌, inl, inr, refl, sym, ap, subst, ℕ, false, List, [], Result, Ok, Err, append-nil}
+use Rattle.ae_base.specs.declared.outcome.Outcome.{Outcome}
+use Rattle.ae_base.specs.declared.outcome.Outcome.TheVariants.{Done, RunFailed, Refused, BadWords, BadScript, DiskFault, SiteFault, SinkFault, SourceFault, Damaged, Memory}
+use Rattle.ae_base.specs.Refusals.{message_of}
+use Rattle.ae_telling.specs.Answered.{IsAnswerTold, IsMeant, done, stopped}
+use Rattle.ae_telling.specs.Messages.{bad_line_text, bad_words_text, command_text, damaged_text, disk_fault_text, input_fault_text, memory_text, message, site_fault_text}
+use Rattle.ae_telling.specs.Sinks.{TakesNothing}
+use Rattle.ae_telling.specs.Telling.{IsTold, SinkUse}
+
+-- what is written of a command alone that has no reply is its message
+pub message_alone : (o : Outcome) → command_text false [] o ≡ message o
+message_alone Done = refl
+message_alone RunFailed = refl
+message_alone (Refused refusal) = append-nil (message_of refusal)
+message_alone (BadWords place) = append-nil (bad_words_text place)
+message_alone (BadScript line) = append-nil (bad_line_text line)
+message_alone DiskFault = append-nil disk_fault_text
+message_alone SiteFault = append-nil site_fault_text
+message_alone SinkFault = refl
+message_alone SourceFault = append-nil input_fault_text
+message_alone (Damaged name) = append-nil (damaged_text name)
+message_alone Memory = append-nil memory_text
+
+-- nothing else is meant of what is done
+meant_done : (meant : Outcome) → IsMeant Done meant → meant ≡ Done
+meant_done meant (inl is) = is
+meant_done meant (inr none) = absurd none.1
+
+module _ (answer : Result (List ℕ) Outcome) (out err : SinkUse) (meant result : Outcome) (said : List ℕ) where
+  pub text_told : (text : List ℕ) → answer ≡ Ok text → IsMeant Done meant → said ≡ command_text false text meant → IsTold meant said out result → TakesNothing err → IsAnswerTold answer out err result
+  text_told text is may written told quiet =
+      let same = meant_done meant may in
+      done text is (subst (λ (s : List ℕ). IsTold Done s out result) (written ∙ ap (command_text false text) same) (subst (λ (o : Outcome). IsTold o said out result) same told)) quiet
+
+  pub message_told : (why : Outcome) (reply : List ℕ) → answer ≡ Err why → IsMeant why meant → reply ≡ [] → said ≡ command_text false reply meant → IsTold meant said err result → TakesNothing out
+      → IsAnswerTold answer out err result
+  message_told why reply is may none written told quiet =
+      stopped why meant is may (subst (λ (s : List ℕ). IsTold meant s err result) (written ∙ ap (λ (r : List ℕ). command_text false r meant) none ∙ message_alone meant) told) quiet
