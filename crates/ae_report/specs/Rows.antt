@@ -1,5 +1,5 @@
 -- The rows of a report's tables, and what their fields are.
-use Rattle.std.specs.Prelude.{ℕ, pos, List, [], map, length}
+use Rattle.std.specs.Prelude.{ℕ, pos, List, map, length}
 use Rattle.std.specs.List.{flat_map}
 use Rattle.ae_base.specs.Words.{phase_word, usage_word, cause_word, ground_word, kind_word, what_word}
 use Rattle.ae_list.specs.Columns.{or_dash}

@@ -7,6 +7,7 @@ use Rattle.ae_types.specs.Rules.{same_bool}
 use Rattle.ae_rlang.specs.declared.operator.Operator.{Operator}
 use Rattle.ae_rlang.specs.declared.operator.Operator.TheVariants.{Or, And, Equal, Unequal, Less, AtMost, Plus, Minus}
 use Rattle.ae_rlang.specs.Report.{Meant, operated, negated, number, text, flag, total, field, timed}
+use Rattle.ae_rlang.specs.View.{MeantLink, by_side, by_not, by_time}
 use Rattle.ae_report.specs.declared.total.Tally.{Tally}
 use Rattle.ae_report.specs.declared.value.Value.{Value}
 use Rattle.ae_report.specs.declared.value.Value.TheVariants.{Number, Text, Flag}
@@ -114,3 +115,16 @@ value (flag line b) known = Ok (Flag b)
 value (total line name) known = Ok (Number (total_of known.totals name))
 value (field line name f) known = Ok (row_field (row_bound known.bound name) f)
 value (timed line e) known = and_then (value e known) (λ v. shown_at line (number_of v))
+
+-- ---- chains
+
+-- the value with what stands behind it
+abbrev pub with_link : MeantLink → Known → Value → Result Value ℕ
+with_link (by_side line operator right) known v = with_left line operator (value right known) v
+with_link (by_not line) known v = Ok (Flag (not (is_true v)))
+with_link (by_time line) known v = shown_at line (number_of v)
+
+-- and with all that stands behind it, from the left
+abbrev pub with_links : List MeantLink → Known → Value → Result Value ℕ
+with_links [] known v = Ok v
+with_links (l ∷ ls) known v = and_then (with_link l known v) (with_links ls known)

@@ -9,7 +9,7 @@ use Rattle.ae_rlang.specs.Token.{name, number, string, end, Lexeme}
 use Rattle.ae_rlang.specs.Written.{at, put}
 use Rattle.ae_rlang.specs.declared.operand.Bound.{Bound}
 use Rattle.ae_rlang.specs.Values.{Value, total_value}
-use Rattle.ae_rlang.specs.Machine.{Pending, Group, Point, waiting, named, dotted, timing, having, turn, turned, having_turn, is_dot, is_else, Body, Block, of_each, of_choice, of_else, Slot, for_cell, for_total, for_test, for_choice, Place, at_statement, at_title, at_title_end, at_total_name, at_total_equals, at_for_name, at_in, at_table, at_where, in_expression, at_width, at_right, at_comma, at_else, at_else_body, done, Around, State, moved, dropped, statement_step, without_else, with_deed, scope_at, step, run}
+use Rattle.ae_rlang.specs.Machine.{inside_deeds, Pending, Group, Point, waiting, named, dotted, timing, having, turn, turned, having_turn, is_dot, is_else, Body, Block, of_each, of_choice, of_else, Slot, for_cell, for_total, for_test, for_choice, Place, at_statement, at_title, at_title_end, at_total_name, at_total_equals, at_for_name, at_in, at_table, at_where, in_expression, at_width, at_right, at_comma, at_else, at_else_body, done, Around, State, moved, dropped, statement_step, without_else, with_deed, scope_at, step, run}
 
 -- these tokens lead to the end of a text
 pub record Closes (totals : List (List ℕ)) (s : State) : Type 0 where
@@ -56,13 +56,13 @@ statement_finishes : (blocks : List Block) (totals : List (List ℕ)) (bound : L
 unfolding run step
 statement_finishes [] totals bound body = record { first = put 1 end; others = []; last = record { bound = bound; blocks = []; body = body }; free = refl; runs = refl }
 statement_finishes (of_each outer w table test line ∷ blocks) totals bound body =
-    then_finish totals _ (here (with_deed (record { bound = dropped bound; blocks = blocks; body = outer }) (each w (table_or_any table) test (deeds_of body.deeds)) (earlier line body.bad)) at_statement) (at 1 mark_is.CloseBlock) refl refl
+    then_finish totals _ (here (with_deed (record { bound = dropped bound; blocks = blocks; body = outer }) (each w (table_or_any table) test (deeds_of (inside_deeds blocks body))) (earlier line body.bad)) at_statement) (at 1 mark_is.CloseBlock) refl refl
     (statement_finishes blocks totals (dropped bound) _)
 statement_finishes (of_choice outer test line ∷ blocks) totals bound body =
-    then_finish totals _ (here (record { bound = bound; blocks = blocks; body = outer }) (at_else test body.deeds (earlier line body.bad))) (at 1 mark_is.CloseBlock) refl refl
-    (from_else totals (record { bound = bound; blocks = blocks; body = outer }) test body.deeds (earlier line body.bad) (statement_finishes blocks totals bound _))
+    then_finish totals _ (here (record { bound = bound; blocks = blocks; body = outer }) (at_else test (inside_deeds blocks body) (earlier line body.bad))) (at 1 mark_is.CloseBlock) refl refl
+    (from_else totals (record { bound = bound; blocks = blocks; body = outer }) test (inside_deeds blocks body) (earlier line body.bad) (statement_finishes blocks totals bound _))
 statement_finishes (of_else outer test first line ∷ blocks) totals bound body =
-    then_finish totals _ (here (with_deed (record { bound = bound; blocks = blocks; body = outer }) (choose test (deeds_of first) (deeds_of body.deeds)) (earlier line body.bad)) at_statement) (at 1 mark_is.CloseBlock) refl refl
+    then_finish totals _ (here (with_deed (record { bound = bound; blocks = blocks; body = outer }) (choose test (deeds_of first) (deeds_of (inside_deeds blocks body))) (earlier line body.bad)) at_statement) (at 1 mark_is.CloseBlock) refl refl
     (statement_finishes blocks totals bound _)
 
 pub at_statement_closes : (totals : List (List ℕ)) (around : Around) → Closes totals (here around at_statement)

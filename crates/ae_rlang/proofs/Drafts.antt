@@ -1,18 +1,19 @@
 -- What the reader has read so far, as it is written, and what it keeps of that.
-use Rattle.std.specs.Prelude.{ℕ, suc, ◌≤◌, length, List, [], ◌∷◌, ◌++◌, Option, Some, None}
+use Rattle.std.specs.Prelude.{ℕ, suc, ◌≤◌, nat_le, length, List, [], ◌∷◌, ◌++◌, Option, Some, None}
 use Rattle.ae_rlang.specs.declared.token.Mark.TheVariants as mark_is
 use Rattle.ae_rlang.specs.declared.operator.Operator.{Operator}
 use Rattle.ae_rlang.specs.declared.operator.Kind.TheVariants as kind_is
 use Rattle.ae_rlang.specs.Table.{table_named}
 use Rattle.ae_rlang.specs.Operator.{binds, left_binds, right_binds, mark_of, earlier, is_other}
 use Rattle.ae_rlang.specs.Token.{name, number, string, end, Lexeme}
-use Rattle.ae_rlang.specs.Report.{MeantCell}
+use Rattle.ae_rlang.specs.Report.{MeantCell, Deed}
 use Rattle.ae_rlang.specs.Written.{Expression, Cells, Test, Statements, at, put, spelled, spelled_cells, spelled_test, spelled_body}
 use Rattle.ae_rlang.specs.Grammar.{IsExpression, AreCells, IsTest, IsWidth, AreStatements}
 use Rattle.ae_rlang.specs.declared.operand.Bound.{Bound}
 use Rattle.ae_rlang.specs.Scope.{Scope}
-use Rattle.ae_rlang.specs.Meaning.{meant, meant_cells, meant_test, meant_body, bound_within}
-use Rattle.ae_rlang.specs.Bad.{bad_level, bad_cells, bad_test, bad_body, bad_header, bad_operand}
+use Rattle.ae_rlang.specs.Meaning.{bound_within}
+use Rattle.ae_rlang.specs.Bad.{max_level, bad_level, bad_cells, bad_test, bad_body, bad_header, bad_operand}
+use Rattle.ae_rlang.specs.Kept.{kept, kept_cells, kept_test, kept_body, deeds_where}
 use Rattle.ae_rlang.specs.Scope.{kind_in}
 use Rattle.ae_rlang.specs.Values.{value_of}
 use Rattle.ae_rlang.specs.Machine as machine
@@ -262,7 +263,11 @@ abbrev pub scope_of : List (List ℕ) → List Bound → Scope
 scope_of totals bound = record { totals = totals; bound = bound }
 
 abbrev pub body_of : List (List ℕ) → List Bound → ℕ → Statements → machine.Body
-body_of totals bound level ss = record { deeds = meant_body bound ss; bad = bad_body (scope_of totals bound) level ss }
+body_of totals bound level ss = record { deeds = kept_body bound level ss; bad = bad_body (scope_of totals bound) level ss }
+
+-- the statements of a first body, inside so many levels
+abbrev pub first_kept : List Bound → ℕ → Statements → List Deed
+first_kept bound level first = deeds_where (nat_le max_level level) (kept_body bound (suc level) first)
 
 -- the first bad line of an expression that has to be a flag
 abbrev pub bad_flag : Scope → ℕ → Expression → ℕ → Option ℕ
@@ -276,27 +281,27 @@ bad_first scope level e l o first = earlier (bad_choice scope level e l o) (bad_
 
 abbrev pub block_of : List (List ℕ) → List Bound → ℕ → Open → machine.Block
 block_of totals bound level (of_each outer l m w i k t h o) =
-    machine.of_each (body_of totals bound level outer) w (table_named t) (meant_test (bound_within w t bound) h)
+    machine.of_each (body_of totals bound level outer) w (table_named t) (kept_test (bound_within w t bound) level h)
     (earlier (earlier (bad_header (scope_of totals bound) l m w k t) (bad_test (scope_of totals (bound_within w t bound)) level h)) (bad_level level o))
 block_of totals bound level (of_choice outer l e o) =
-    machine.of_choice (body_of totals bound level outer) (meant bound e) (bad_choice (scope_of totals bound) level e l o)
+    machine.of_choice (body_of totals bound level outer) (kept bound level e) (bad_choice (scope_of totals bound) level e l o)
 block_of totals bound level (of_else outer l e o first c k p) =
-    machine.of_else (body_of totals bound level outer) (meant bound e) (meant_body bound first) (earlier (bad_first (scope_of totals bound) level e l o first) (bad_level level p))
+    machine.of_else (body_of totals bound level outer) (kept bound level e) (first_kept bound level first) (earlier (bad_first (scope_of totals bound) level e l o first) (bad_level level p))
 
 abbrev pub blocks_of : List (List ℕ) → List Open → List machine.Block
 blocks_of totals [] = []
 blocks_of totals (b ∷ bs) = block_of totals (bound_in bs) (length (blocks_of totals bs)) b ∷ blocks_of totals bs
 
-abbrev pub front_cells : List Bound → Front → List MeantCell
-front_cells bound (first_cell l) = []
-front_cells bound (next_cell l cs k) = meant_cells bound cs
+abbrev pub front_cells : List Bound → ℕ → Front → List MeantCell
+front_cells bound level (first_cell l) = []
+front_cells bound level (next_cell l cs k) = kept_cells bound level cs
 
 abbrev pub front_bad : Scope → ℕ → Front → Option ℕ
 front_bad scope level (first_cell l) = None
 front_bad scope level (next_cell l cs k) = bad_cells scope level cs
 
 abbrev pub slot_of : Scope → ℕ → Use → machine.Slot
-slot_of scope level (for_cell f) = machine.for_cell (front_cells scope.bound f) (front_bad scope level f)
+slot_of scope level (for_cell f) = machine.for_cell (front_cells scope.bound level f) (front_bad scope level f)
 slot_of scope level (for_total l m w q) = machine.for_total l w
 slot_of scope level (for_test l m w i k t h) = machine.for_test w (table_named t) (bad_header scope l m w k t) h
 slot_of scope level (for_choice l) = machine.for_choice l
@@ -320,11 +325,11 @@ place_of scope inner level (at_table l m w i) = machine.at_table l m w
 place_of scope inner level (at_where l m w i k t) = machine.at_where w (table_named t) (bad_header scope l m w k t)
 place_of scope inner level (in_expression u gs ws a) =
     machine.in_expression (slot_of scope level u) (groups_of inner level gs) (pendings_of inner (level_of inner level gs) ws) (point_of inner (level_of inner level gs) a)
-place_of scope inner level (at_width f e c) = machine.at_width (front_cells scope.bound f) (front_bad scope level f) (value_of scope level e)
-place_of scope inner level (at_right f e c m w) = machine.at_right (front_cells scope.bound f) (front_bad scope level f) (value_of scope level e) w
-place_of scope inner level (at_comma l cs) = machine.at_comma (meant_cells scope.bound cs) (bad_cells scope level cs)
-place_of scope inner level (at_else l e o first c) = machine.at_else (meant scope.bound e) (meant_body scope.bound first) (bad_first scope level e l o first)
-place_of scope inner level (at_else_body l e o first c k) = machine.at_else_body (meant scope.bound e) (meant_body scope.bound first) (bad_first scope level e l o first)
+place_of scope inner level (at_width f e c) = machine.at_width (front_cells scope.bound level f) (front_bad scope level f) (value_of scope level e)
+place_of scope inner level (at_right f e c m w) = machine.at_right (front_cells scope.bound level f) (front_bad scope level f) (value_of scope level e) w
+place_of scope inner level (at_comma l cs) = machine.at_comma (kept_cells scope.bound level cs) (bad_cells scope level cs)
+place_of scope inner level (at_else l e o first c) = machine.at_else (kept scope.bound level e) (first_kept scope.bound level first) (bad_first scope level e l o first)
+place_of scope inner level (at_else_body l e o first c k) = machine.at_else_body (kept scope.bound level e) (first_kept scope.bound level first) (bad_first scope level e l o first)
 place_of scope inner level (done l) = machine.done
 
 -- the names that are bound where the reader is

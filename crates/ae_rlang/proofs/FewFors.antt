@@ -1,6 +1,6 @@
 -- In a report that is read at most two `for` stand in each other.
-use Rattle.std.proofs.Common.{◌≡◌, ℕ, zero, suc, ◌+◌, ◌≤◌, ◌∙◌, List, [], ◌∷◌, ◌++◌, length, refl, sym, ap, arith}
-use Rattle.std.specs.Prelude.{Bool, true, false, Option, Some, None, nat_le, nat_lt, is_some, not, ◌||◌, if◌then◌else◌}
+use Rattle.std.proofs.Common.{◌≡◌, ℕ, zero, suc, ◌+◌, ◌≤◌, ◌∙◌, List, [], ◌∷◌, ◌++◌, length, sym, ap, arith}
+use Rattle.std.specs.Prelude.{true, false, None, nat_le, is_some, not, ◌||◌}
 use Rattle.std.proofs.lemmas.Bool.{le-leb, false≢true}
 use Rattle.ae_rlang.specs.Report.{Deed, Deeds, deeds_of}
 use Rattle.ae_rlang.specs.Operator.{earlier, bad_where, is_other}
@@ -12,28 +12,7 @@ use Rattle.ae_rlang.specs.Meaning.{meant_statement, meant_body}
 use Rattle.ae_rlang.specs.Bad.{max_fors, bad_statement, bad_body, bad_header, bad_test, bad_level, bad_operand, scope_within}
 use Rattle.ae_rlang.specs.Reads.{IsGood, whole_scope}
 use Rattle.ae_rlang.specs.Shape.{fors, fors_of}
-
-first-none : (a b : Option ℕ) → earlier a b ≡ None → a ≡ None
-first-none None b is = refl
-first-none (Some x) None is = is
-first-none (Some x) (Some y) is = absurd (go (nat_lt y x) is)
-  where
-    go : (c : Bool) → (if c then Some y else Some x) ≡ None → ⊥
-    go true e = cc
-    go false e = cc
-
-second-none : (a b : Option ℕ) → earlier a b ≡ None → b ≡ None
-second-none None b is = is
-second-none (Some x) None is = refl
-second-none (Some x) (Some y) is = absurd (go (nat_lt y x) is)
-  where
-    go : (c : Bool) → (if c then Some y else Some x) ≡ None → ⊥
-    go true e = cc
-    go false e = cc
-
-good : (b : Bool) (line : ℕ) → bad_where b line ≡ None → b ≡ false
-good true line is = let no : Some line ≡ None = is in cc
-good false line is = refl
+use Rattle.ae_rlang.proofs.NoneBad.{first-none, second-none, good}
 
 -- fewer than two are open
 below-two : (n : ℕ) → nat_le 2 n ≡ false → n + 1 ≤ 2

@@ -5,9 +5,10 @@ use Rattle.ae_rlang.specs.Written.{Statements, put, spelled_body}
 use Rattle.ae_rlang.specs.Report.{deeds_of}
 use Rattle.ae_rlang.specs.Scope.{totals_in}
 use Rattle.ae_rlang.specs.Values.{Value}
-use Rattle.ae_rlang.specs.Reads.{IsWritten, IsReport, IsWrong, IsBad}
+use Rattle.ae_rlang.specs.Reads.{whole_scope, IsWritten, IsReport, IsWrong, IsBad}
 use Rattle.ae_rlang.specs.Scan.{is_last, Leads, AllGo, AreScanned}
 use Rattle.ae_rlang.specs.Machine.{Pending, Group, Point, waiting, named, dotted, timing, having, turned, having_turn, Block, Slot, for_cell, for_total, for_test, for_choice, Around, Place, at_statement, at_title, at_title_end, at_total_name, at_total_equals, at_for_name, at_in, at_table, at_where, in_expression, at_width, at_right, at_comma, at_else, at_else_body, done, State, start, moved, end_step, place_step, slot_step, step, run}
+use Rattle.ae_rlang.proofs.AllKept.{body-meant}
 use Rattle.ae_rlang.proofs.Statements.{around_body}
 use Rattle.ae_rlang.proofs.Whole.{run_append, text_found, taken_goes_further, stopped_ends}
 use Rattle.ae_rlang.proofs.Scanning.{leads_begins, leads_front}
@@ -119,7 +120,8 @@ written_found totals bytes ps s scan e =
 pub report_found : (bytes : List ℕ) (ps : List Lexeme) (s : State) → AreScanned bytes ps → run (totals_in false ps) (Some start) ps ≡ Some s → s.around.body.bad ≡ None → IsReport bytes (deeds_of s.around.body.deeds)
 report_found bytes ps s scan e free =
     let f = written_found (totals_in false ps) bytes ps s scan e in
-    (f.statements, ps, f.is_written, ap (λ (x : Around). x.body.bad) (sym f.around) ∙ free, ap (λ (x : Around). deeds_of x.body.deeds) f.around)
+    let none = ap (λ (x : Around). x.body.bad) (sym f.around) ∙ free in
+    (f.statements, ps, f.is_written, none, ap (λ (x : Around). deeds_of x.body.deeds) f.around ∙ ap deeds_of (body-meant f.statements (whole_scope ps) 0 none))
 
 -- a token is bad
 pub bad_found : (bytes : List ℕ) (ps : List Lexeme) (s : State) (line : ℕ) → AreScanned bytes ps → run (totals_in false ps) (Some start) ps ≡ Some s → s.around.body.bad ≡ Some line → IsBad bytes line

@@ -9,6 +9,7 @@ use Rattle.ae_rlang.specs.Scope.{totals_in}
 use Rattle.ae_rlang.specs.Bad.{bad_body}
 use Rattle.ae_rlang.specs.Reads.{whole_scope, IsWritten, IsReport, GoesOn, IsWrongAt, IsWrong, IsRefused}
 use Rattle.ae_rlang.specs.Machine.{Around}
+use Rattle.ae_rlang.proofs.AllKept.{body-meant}
 use Rattle.ae_rlang.proofs.Statements.{around_body}
 use Rattle.ae_rlang.proofs.Whole.{one_text}
 use Rattle.ae_rlang.proofs.Scanning.{begins_leads, leads_prefix}
@@ -34,7 +35,8 @@ one_written totals bytes ss others ps qs h g =
 pub one_report : (bytes : List ℕ) (a b : Deeds) → IsReport bytes a → IsReport bytes b → a ≡ b
 one_report bytes a b (ss, ps, h, free, a_is) (others, qs, g, gfree, b_is) =
     let o = one_written [] bytes ss others ps qs h g in
-    a_is ∙ ap (λ (x : Around). deeds_of x.body.deeds) o.said ∙ sym b_is
+    a_is ∙ ap deeds_of (sym (body-meant ss (whole_scope ps) 0 free)) ∙ ap (λ (x : Around). deeds_of x.body.deeds) o.said
+    ∙ ap deeds_of (body-meant others (whole_scope qs) 0 gfree) ∙ sym b_is
 
 same_bad : (bytes : List ℕ) (ss others : Statements) (ps qs : List Lexeme) → IsWritten bytes ss ps → IsWritten bytes others qs → bad_body (whole_scope ps) 0 ss ≡ bad_body (whole_scope qs) 0 others
 same_bad bytes ss others ps qs h g =

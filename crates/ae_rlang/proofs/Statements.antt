@@ -13,10 +13,11 @@ use Rattle.ae_rlang.specs.declared.table.Table.{Table}
 use Rattle.ae_rlang.specs.Written.{Expression, Cell, cell, right_cell, Cells, one, further, Test, no_test, where_test, Statement, title, columns, total, each, choice, choice_else, Statements, none, more, at, put, spelled, spelled_cell, spelled_cells, spelled_test, spelled_statement, spelled_body}
 use Rattle.ae_rlang.specs.Grammar.{IsExpression, IsCell, AreCells, IsTest, IsStatement, AreStatements, IsText}
 use Rattle.ae_rlang.specs.declared.operand.Bound.{Bound}
-use Rattle.ae_rlang.specs.Meaning.{table_or_any, meant_cell, meant_cells, meant_test, meant_statement, meant_body}
+use Rattle.ae_rlang.specs.Meaning.{table_or_any}
+use Rattle.ae_rlang.specs.Kept.{kept_cell, kept_cells, kept_test, kept_statement, kept_body}
 use Rattle.ae_rlang.specs.Bad.{bad_cell, bad_cells, bad_test, bad_statement, bad_body}
 use Rattle.ae_rlang.specs.Values.{Value, value_of}
-use Rattle.ae_rlang.specs.Machine.{Pending, Slot, for_cell, for_total, for_test, for_choice, Around, Body, Block, of_each, of_choice, of_else, State, at_statement, at_where, at_width, at_right, at_else, at_else_body, done, waiting, having, moved, reduced, is_dot, is_else, token_operator, slot_step, right_step, comma_step, statement_step, end_step, without_else, with_cell, with_bound, header_bad, opening_bad, inside, with_deed, empty_body, scope_at, start, step, run}
+use Rattle.ae_rlang.specs.Machine.{Pending, Slot, for_cell, for_total, for_test, for_choice, Around, Body, Block, of_each, of_choice, of_else, State, at_statement, at_where, at_width, at_right, at_else, at_else_body, done, waiting, having, moved, inside_deeds, reduced, is_dot, is_else, token_operator, slot_step, right_step, comma_step, statement_step, end_step, without_else, with_cell, with_bound, header_bad, opening_bad, inside, with_deed, empty_body, scope_at, start, step, run}
 use Rattle.ae_rlang.proofs.Expressions.{here, reads}
 
 -- the value of an expression that a statement has
@@ -75,7 +76,7 @@ block_ends c = record { dot = refl; operator = refl }
 
 cell_goes : (c : Cell) (totals : List (List ℕ)) (around : Around) (cells : List MeantCell) (line : Option ℕ) (p : Lexeme) (rest : List Lexeme) → IsCell c → Plain p.token
     → run totals (here around (for_cell cells line) [] [] waiting) (spelled_cell c ++ p ∷ rest)
-    ≡ run totals (comma_step around (cells ++ meant_cell around.bound c ∷ []) (earlier line (bad_cell (scope_at totals around) (length around.blocks) c)) p.token) rest
+    ≡ run totals (comma_step around (cells ++ kept_cell around.bound (length around.blocks) c ∷ []) (earlier line (bad_cell (scope_at totals around) (length around.blocks) c)) p.token) rest
 cell_goes (cell e c m w) totals around cells line p rest h plain =
     let v = value_at totals around e in
     ap (λ (xs : List Lexeme). run totals (here around (for_cell cells line) [] [] waiting) xs) (append_assoc (spelled e) (at c mark_is.Colon ∷ put m (token.number w) ∷ []) (p ∷ rest))
@@ -91,12 +92,12 @@ cell_goes (right_cell e c m w r) totals around cells line p rest h plain =
 
 cells_go : (cs : Cells) (totals : List (List ℕ)) (around : Around) (p : Lexeme) (rest : List Lexeme) → AreCells cs → Plain p.token
     → run totals (here around (for_cell [] None) [] [] waiting) (spelled_cells cs ++ p ∷ rest)
-    ≡ run totals (comma_step around (meant_cells around.bound cs) (bad_cells (scope_at totals around) (length around.blocks) cs) p.token) rest
+    ≡ run totals (comma_step around (kept_cells around.bound (length around.blocks) cs) (bad_cells (scope_at totals around) (length around.blocks) cs) p.token) rest
 cells_go (one c) totals around p rest h plain = cell_goes c totals around [] None p rest h plain
 cells_go (further cs k c) totals around p rest h plain =
     ap (λ (xs : List Lexeme). run totals (here around (for_cell [] None) [] [] waiting) xs) (append_assoc (spelled_cells cs) (at k mark_is.Comma ∷ spelled_cell c) (p ∷ rest))
     ∙ cells_go cs totals around (at k mark_is.Comma) (spelled_cell c ++ p ∷ rest) h.0 (λ around cells line v w. refl)
-    ∙ cell_goes c totals around (meant_cells around.bound cs) (bad_cells (scope_at totals around) (length around.blocks) cs) p rest h.1 plain
+    ∙ cell_goes c totals around (kept_cells around.bound (length around.blocks) cs) (bad_cells (scope_at totals around) (length around.blocks) cs) p rest h.1 plain
 
 -- ---- statements
 
@@ -120,12 +121,12 @@ abbrev pub around_body : List (List ℕ) → List Bound → List Block → State
 around_body totals bound blocks ss = record {
   bound = bound;
   blocks = blocks;
-  body = record { deeds = meant_body bound ss; bad = bad_body (record { totals = totals; bound = bound }) (length blocks) ss };
+  body = record { deeds = kept_body bound (length blocks) ss; bad = bad_body (record { totals = totals; bound = bound }) (length blocks) ss };
 }
 
 -- around what stands behind a statement
 abbrev pub behind_statement : List (List ℕ) → Around → Statement → Around
-behind_statement totals around s = with_deed around (meant_statement around.bound s) (bad_statement (scope_at totals around) (length around.blocks) s)
+behind_statement totals around s = with_deed around (kept_statement around.bound (length around.blocks) s) (bad_statement (scope_at totals around) (length around.blocks) s)
 
 -- the head of a `for`
 at_for : (totals : List (List ℕ)) (around : Around) (l m : ℕ) (w : List ℕ) (i k : ℕ) (t : List ℕ) (rest : List Lexeme)
@@ -137,7 +138,7 @@ at_for totals around l m w i k t rest = refl
 -- `where`, and the sign that opens the body
 at_test : (h : Test) (totals : List (List ℕ)) (around : Around) (w : List ℕ) (table : Option Table) (line : Option ℕ) (o : ℕ) (rest : List Lexeme) → IsTest h
     → run totals (moved around (at_where w table line)) (spelled_test h ++ at o mark_is.OpenBlock ∷ rest)
-    ≡ run totals (moved (inside around (of_each around.body w table (meant_test around.bound h) (opening_bad around.blocks (earlier line (bad_test (scope_at totals around) (length around.blocks) h)) o))) at_statement) rest
+    ≡ run totals (moved (inside around (of_each around.body w table (kept_test around.bound (length around.blocks) h) (opening_bad around.blocks (earlier line (bad_test (scope_at totals around) (length around.blocks) h)) o))) at_statement) rest
 unfolding run step
 at_test no_test totals around w table line o rest h = refl
 at_test (where_test l e) totals around w table line o rest h = whole_reads e totals around (for_test w table line l) (at o mark_is.OpenBlock) rest h (block_ends o)
@@ -145,19 +146,19 @@ at_test (where_test l e) totals around w table line o rest h = whole_reads e tot
 -- the sign that closes a block
 at_close_each : (totals : List (List ℕ)) (b : Bound) (bound : List Bound) (blocks : List Block) (outer body : Body) (w : List ℕ) (table : Option Table) (test : Option Meant) (line : Option ℕ) (c : ℕ) (rest : List Lexeme)
     → run totals (moved (record { bound = b ∷ bound; blocks = of_each outer w table test line ∷ blocks; body = body }) at_statement) (at c mark_is.CloseBlock ∷ rest)
-    ≡ run totals (moved (with_deed (record { bound = bound; blocks = blocks; body = outer }) (report.each w (table_or_any table) test (deeds_of body.deeds)) (earlier line body.bad)) at_statement) rest
+    ≡ run totals (moved (with_deed (record { bound = bound; blocks = blocks; body = outer }) (report.each w (table_or_any table) test (deeds_of (inside_deeds blocks body))) (earlier line body.bad)) at_statement) rest
 unfolding run step
 at_close_each totals b bound blocks outer body w table test line c rest = refl
 
 at_close_choice : (totals : List (List ℕ)) (bound : List Bound) (blocks : List Block) (outer body : Body) (test : Meant) (line : Option ℕ) (c : ℕ) (rest : List Lexeme)
     → run totals (moved (record { bound = bound; blocks = of_choice outer test line ∷ blocks; body = body }) at_statement) (at c mark_is.CloseBlock ∷ rest)
-    ≡ run totals (moved (record { bound = bound; blocks = blocks; body = outer }) (at_else test body.deeds (earlier line body.bad))) rest
+    ≡ run totals (moved (record { bound = bound; blocks = blocks; body = outer }) (at_else test (inside_deeds blocks body) (earlier line body.bad))) rest
 unfolding run step
 at_close_choice totals bound blocks outer body test line c rest = refl
 
 at_close_else : (totals : List (List ℕ)) (bound : List Bound) (blocks : List Block) (outer body : Body) (test : Meant) (first : List Deed) (line : Option ℕ) (c : ℕ) (rest : List Lexeme)
     → run totals (moved (record { bound = bound; blocks = of_else outer test first line ∷ blocks; body = body }) at_statement) (at c mark_is.CloseBlock ∷ rest)
-    ≡ run totals (moved (with_deed (record { bound = bound; blocks = blocks; body = outer }) (report.choose test (deeds_of first) (deeds_of body.deeds)) (earlier line body.bad)) at_statement) rest
+    ≡ run totals (moved (with_deed (record { bound = bound; blocks = blocks; body = outer }) (report.choose test (deeds_of first) (deeds_of (inside_deeds blocks body))) (earlier line body.bad)) at_statement) rest
 unfolding run step
 at_close_else totals bound blocks outer body test first line c rest = refl
 
@@ -217,14 +218,14 @@ mutual
       let line = header_bad totals around.bound l m w k t in
       let place : Option State = moved around' (at_where w table line) in
       let line' = opening_bad around.blocks (earlier line (bad_test (scope_at totals around') (length around.blocks) h)) o in
-      let block = of_each around.body w table (meant_test around'.bound h) line' in
+      let block = of_each around.body w table (kept_test around'.bound (length around.blocks) h) line' in
       let behind : List Lexeme = spelled_body body ++ at c mark_is.CloseBlock ∷ [] in
       at_for totals around l m w i k t ((spelled_test h ++ at o mark_is.OpenBlock ∷ behind) ++ p ∷ rest)
       ∙ regroup totals place (spelled_test h) (at o mark_is.OpenBlock ∷ behind) (p ∷ rest)
       ∙ at_test h totals around' w table line o (behind ++ p ∷ rest) g.0
       ∙ regroup totals (moved (inside around' block) at_statement) (spelled_body body) (at c mark_is.CloseBlock ∷ []) (p ∷ rest)
       ∙ body_goes body totals around'.bound (block ∷ around.blocks) (at c mark_is.CloseBlock) (p ∷ rest) g.1 refl
-      ∙ at_close_each totals (record { name = w; table = table }) around.bound around.blocks around.body (around_body totals around'.bound (block ∷ around.blocks) body).body w table (meant_test around'.bound h) line' c (p ∷ rest)
+      ∙ at_close_each totals (record { name = w; table = table }) around.bound around.blocks around.body (around_body totals around'.bound (block ∷ around.blocks) body).body w table (kept_test around'.bound (length around.blocks) h) line' c (p ∷ rest)
   statement_goes (choice l e o body c) totals around p rest g free =
       let v = value_at totals around e in
       let line = opening_bad around.blocks (earlier v.bad (bad_where (is_other v.kind kind_is.Flag) l)) o in
@@ -237,14 +238,14 @@ mutual
       ∙ regroup totals (moved (inside around block) at_statement) (spelled_body body) (at c mark_is.CloseBlock ∷ []) (p ∷ rest)
       ∙ body_goes body totals around.bound (block ∷ around.blocks) (at c mark_is.CloseBlock) (p ∷ rest) g.1 refl
       ∙ at_close_choice totals around.bound around.blocks around.body inner v.node line c (p ∷ rest)
-      ∙ at_no_else totals around v.node inner.deeds (earlier line inner.bad) p rest free
+      ∙ at_no_else totals around v.node (inside_deeds around.blocks inner) (earlier line inner.bad) p rest free
   statement_goes (choice_else l e o first c k q second d) totals around p rest g free =
       let v = value_at totals around e in
       let line = opening_bad around.blocks (earlier v.bad (bad_where (is_other v.kind kind_is.Flag) l)) o in
       let block = of_choice around.body v.node line in
       let inner = (around_body totals around.bound (block ∷ around.blocks) first).body in
       let line' = opening_bad around.blocks (earlier line inner.bad) q in
-      let block' = of_else around.body v.node inner.deeds line' in
+      let block' = of_else around.body v.node (inside_deeds around.blocks inner) line' in
       let inner' = (around_body totals around.bound (block' ∷ around.blocks) second).body in
       let last : List Lexeme = spelled_body second ++ at d mark_is.CloseBlock ∷ [] in
       let behind : List Lexeme = spelled_body first ++ at c mark_is.CloseBlock ∷ at k mark_is.Else ∷ at q mark_is.OpenBlock ∷ last in
@@ -254,10 +255,10 @@ mutual
       ∙ regroup totals (moved (inside around block) at_statement) (spelled_body first) (at c mark_is.CloseBlock ∷ at k mark_is.Else ∷ at q mark_is.OpenBlock ∷ last) (p ∷ rest)
       ∙ body_goes first totals around.bound (block ∷ around.blocks) (at c mark_is.CloseBlock) (at k mark_is.Else ∷ at q mark_is.OpenBlock ∷ (last ++ p ∷ rest)) g.1 refl
       ∙ at_close_choice totals around.bound around.blocks around.body inner v.node line c (at k mark_is.Else ∷ at q mark_is.OpenBlock ∷ (last ++ p ∷ rest))
-      ∙ at_else_word totals around v.node inner.deeds (earlier line inner.bad) k q (last ++ p ∷ rest)
+      ∙ at_else_word totals around v.node (inside_deeds around.blocks inner) (earlier line inner.bad) k q (last ++ p ∷ rest)
       ∙ regroup totals (moved (inside around block') at_statement) (spelled_body second) (at d mark_is.CloseBlock ∷ []) (p ∷ rest)
       ∙ body_goes second totals around.bound (block' ∷ around.blocks) (at d mark_is.CloseBlock) (p ∷ rest) g.2 refl
-      ∙ at_close_else totals around.bound around.blocks around.body inner' v.node inner.deeds line' d (p ∷ rest)
+      ∙ at_close_else totals around.bound around.blocks around.body inner' v.node (inside_deeds around.blocks inner) line' d (p ∷ rest)
 
   pub body_goes : (ss : Statements) (totals : List (List ℕ)) (bound : List Bound) (blocks : List Block) (p : Lexeme) (rest : List Lexeme) → AreStatements ss → is_else p.token ≡ false
       → Goes totals (record { bound = bound; blocks = blocks; body = empty_body }) (spelled_body ss ++ p ∷ rest) (around_body totals bound blocks ss) (p ∷ rest)

@@ -12,12 +12,13 @@ use Rattle.ae_rlang.specs.Operator.{earlier}
 use Rattle.ae_rlang.specs.declared.operand.Bound.{Bound}
 use Rattle.ae_rlang.specs.Scope.{Scope}
 use Rattle.ae_rlang.specs.Table.{table_named}
-use Rattle.ae_rlang.specs.Meaning.{bound_within, meant, meant_cell, meant_cells, meant_body}
+use Rattle.ae_rlang.specs.Meaning.{bound_within}
+use Rattle.ae_rlang.specs.Kept.{kept, kept_cell, kept_cells}
 use Rattle.ae_rlang.specs.Bad.{bad_header, bad_cell, bad_cells}
 use Rattle.ae_rlang.specs.Values.{Value, value_of}
 use Rattle.ae_rlang.specs.Machine.{Group, Pending, Point, Turn, goes, ended, stuck, State, Around, Slot, Place, turn, turned, place_step, slot_step, statement_step, comma_step, step}
 use Rattle.ae_rlang.specs.Machine as machine
-use Rattle.ae_rlang.proofs.Drafts.{begins, Front, first_cell, next_cell, Use, for_cell, for_total, for_test, for_choice, Spot, at_statement, at_title, at_title_end, at_total_name, at_total_equals, at_for_name, at_in, at_table, at_where, in_expression, at_width, at_right, at_comma, at_else, at_else_body, done, Open, of_each, of_choice, of_else, Draft, spelled_open, spelled_use, spelled_front, spelled_for, spelled_spot, spelled_head, outer_of, spelled_blocks, spelled_draft, IsFront, IsUse, IsSpot, AreOpen, IsDraft, bound_in, bound_for, scope_of, body_of, blocks_of, groups_of, pendings_of, point_of, level_of, front_cells, front_bad, slot_of, bad_first, state_of}
+use Rattle.ae_rlang.proofs.Drafts.{begins, Front, first_cell, next_cell, Use, for_cell, for_total, for_test, for_choice, Spot, at_statement, at_title, at_title_end, at_total_name, at_total_equals, at_for_name, at_in, at_table, at_where, in_expression, at_width, at_right, at_comma, at_else, at_else_body, done, Open, of_each, of_choice, of_else, Draft, spelled_open, spelled_use, spelled_front, spelled_for, spelled_spot, spelled_head, outer_of, spelled_blocks, spelled_draft, IsFront, IsUse, IsSpot, AreOpen, IsDraft, bound_in, bound_for, scope_of, body_of, blocks_of, groups_of, pendings_of, point_of, level_of, front_cells, first_kept, front_bad, slot_of, bad_first, state_of}
 use Rattle.ae_rlang.proofs.Turns.{grow, IsSound, turn_sound}
 
 -- what the reader has come to, behind these tokens
@@ -203,7 +204,7 @@ module _ (totals : List (List ℕ)) where
 
   comma_sound : (bs : List Open) (ss : Statements) (l : ℕ) (cs : Cells) (k : ℕ) (t : Token) → AreOpen bs → AreStatements ss → AreCells cs
       → Leads totals (front bs ss (spelled_spot (at_comma l cs)) ++ put k t ∷ [])
-      (comma_step (around_at bs ss (bound_in bs)) (meant_cells (bound_in bs) cs) (bad_cells (scope_of totals (bound_in bs)) (level_at bs) cs) t)
+      (comma_step (around_at bs ss (bound_in bs)) (kept_cells (bound_in bs) (level_at bs) cs) (bad_cells (scope_of totals (bound_in bs)) (level_at bs) cs) t)
   comma_sound bs ss l cs k (mark mark_is.Comma) hb hs hc =
       go bs ss (spelled_spot (at_comma l cs)) (in_expression (for_cell (next_cell l cs k)) [] [] begins) (at k mark_is.Comma) hb hs (hc, tt, tt, tt)
       (ap (λ (xs : List Lexeme). at l mark_is.Columns ∷ xs) (append-nil (spelled_cells cs ++ at k mark_is.Comma ∷ [])))
@@ -215,9 +216,9 @@ module _ (totals : List (List ℕ)) where
   with_front_spelled (first_cell l) c = refl
   with_front_spelled (next_cell l cs k) c = ap (λ (xs : List Lexeme). at l mark_is.Columns ∷ xs) (append_assoc (spelled_cells cs) (at k mark_is.Comma ∷ []) (spelled_cell c))
 
-  with_front_meant : (bound : List Bound) (f : Front) (c : Cell) → front_cells bound f ++ meant_cell bound c ∷ [] ≡ meant_cells bound (with_front f c)
-  with_front_meant bound (first_cell l) c = refl
-  with_front_meant bound (next_cell l cs k) c = refl
+  with_front_kept : (bound : List Bound) (level : ℕ) (f : Front) (c : Cell) → front_cells bound level f ++ kept_cell bound level c ∷ [] ≡ kept_cells bound level (with_front f c)
+  with_front_kept bound level (first_cell l) c = refl
+  with_front_kept bound level (next_cell l cs k) c = refl
 
   with_front_bad : (scope : Scope) (level : ℕ) (f : Front) (c : Cell) → earlier (front_bad scope level f) (bad_cell scope level c) ≡ bad_cells scope level (with_front f c)
   with_front_bad scope level (first_cell l) c = refl
@@ -230,20 +231,20 @@ module _ (totals : List (List ℕ)) where
   -- a cell without `right`, and the token behind it
   plain_sound : (bs : List Open) (ss : Statements) (f : Front) (e : Expression) (c m w k : ℕ) (t : Token) → AreOpen bs → AreStatements ss → IsFront f → IsExpression 0 e → IsWidth w
       → Leads totals (front bs ss (spelled_spot (at_right f e c m w)) ++ put k t ∷ [])
-      (comma_step (around_at bs ss (bound_in bs)) (machine.with_cell (front_cells (bound_in bs) f) (value_of (scope_of totals (bound_in bs)) (level_at bs) e) w false)
+      (comma_step (around_at bs ss (bound_in bs)) (machine.with_cell (front_cells (bound_in bs) (level_at bs) f) (value_of (scope_of totals (bound_in bs)) (level_at bs) e) w false)
       (earlier (front_bad (scope_of totals (bound_in bs)) (level_at bs) f) (value_of (scope_of totals (bound_in bs)) (level_at bs) e).bad) t)
   plain_sound bs ss f e c m w k t hb hs hf he hw =
-      subst (λ (xs : List Lexeme). Leads totals (front bs ss xs ++ put k t ∷ []) (comma_step (around_at bs ss (bound_in bs)) (front_cells (bound_in bs) f ++ meant_cell (bound_in bs) (cell e c m w) ∷ []) (earlier (front_bad (scope_of totals (bound_in bs)) (level_at bs) f) (bad_cell (scope_of totals (bound_in bs)) (level_at bs) (cell e c m w))) t))
+      subst (λ (xs : List Lexeme). Leads totals (front bs ss xs ++ put k t ∷ []) (comma_step (around_at bs ss (bound_in bs)) (front_cells (bound_in bs) (level_at bs) f ++ kept_cell (bound_in bs) (level_at bs) (cell e c m w) ∷ []) (earlier (front_bad (scope_of totals (bound_in bs)) (level_at bs) f) (bad_cell (scope_of totals (bound_in bs)) (level_at bs) (cell e c m w))) t))
       (sym (with_front_spelled f (cell e c m w)))
       (subst (λ (cells : List MeantCell). Leads totals (front bs ss (at (line_of_front f) mark_is.Columns ∷ spelled_cells (with_front f (cell e c m w))) ++ put k t ∷ []) (comma_step (around_at bs ss (bound_in bs)) cells (earlier (front_bad (scope_of totals (bound_in bs)) (level_at bs) f) (bad_cell (scope_of totals (bound_in bs)) (level_at bs) (cell e c m w))) t))
-      (sym (with_front_meant (bound_in bs) f (cell e c m w)))
-      (subst (λ (line : Option ℕ). Leads totals (front bs ss (at (line_of_front f) mark_is.Columns ∷ spelled_cells (with_front f (cell e c m w))) ++ put k t ∷ []) (comma_step (around_at bs ss (bound_in bs)) (meant_cells (bound_in bs) (with_front f (cell e c m w))) line t))
+      (sym (with_front_kept (bound_in bs) (level_at bs) f (cell e c m w)))
+      (subst (λ (line : Option ℕ). Leads totals (front bs ss (at (line_of_front f) mark_is.Columns ∷ spelled_cells (with_front f (cell e c m w))) ++ put k t ∷ []) (comma_step (around_at bs ss (bound_in bs)) (kept_cells (bound_in bs) (level_at bs) (with_front f (cell e c m w))) line t))
       (sym (with_front_bad (scope_of totals (bound_in bs)) (level_at bs) f (cell e c m w)))
       (comma_sound bs ss (line_of_front f) (with_front f (cell e c m w)) k t hb hs (with_front_good f (cell e c m w) hf (he, hw)))))
 
   right_sound : (bs : List Open) (ss : Statements) (f : Front) (e : Expression) (c m w k : ℕ) (t : Token) → AreOpen bs → AreStatements ss → IsFront f → IsExpression 0 e → IsWidth w
       → Leads totals (front bs ss (spelled_spot (at_right f e c m w)) ++ put k t ∷ [])
-      (machine.right_step (around_at bs ss (bound_in bs)) (front_cells (bound_in bs) f) (front_bad (scope_of totals (bound_in bs)) (level_at bs) f) (value_of (scope_of totals (bound_in bs)) (level_at bs) e) w t)
+      (machine.right_step (around_at bs ss (bound_in bs)) (front_cells (bound_in bs) (level_at bs) f) (front_bad (scope_of totals (bound_in bs)) (level_at bs) f) (value_of (scope_of totals (bound_in bs)) (level_at bs) e) w t)
   right_sound bs ss (first_cell l) e c m w k (mark mark_is.Right) hb hs hf he hw =
       go bs ss (spelled_spot (at_right (first_cell l) e c m w)) (at_comma l (one (right_cell e c m w k))) (at k mark_is.Right) hb hs (he, hw)
       (ap (λ (xs : List Lexeme). at l mark_is.Columns ∷ xs) (sym (append_assoc (spelled e) (at c mark_is.Colon ∷ put m (number w) ∷ []) (at k mark_is.Right ∷ []))))
@@ -256,7 +257,7 @@ module _ (totals : List (List ℕ)) where
 
   width_by : (bs : List Open) (ss : Statements) (f : Front) (e : Expression) (c m w : ℕ) (b : Bool) → (leb 1 w && leb w 200) ≡ b → AreOpen bs → AreStatements ss → IsFront f → IsExpression 0 e
       → Leads totals (front bs ss (spelled_spot (at_width f e c)) ++ put m (number w) ∷ [])
-      (cond b (machine.moved (around_at bs ss (bound_in bs)) (machine.at_right (front_cells (bound_in bs) f) (front_bad (scope_of totals (bound_in bs)) (level_at bs) f) (value_of (scope_of totals (bound_in bs)) (level_at bs) e) w)) None)
+      (cond b (machine.moved (around_at bs ss (bound_in bs)) (machine.at_right (front_cells (bound_in bs) (level_at bs) f) (front_bad (scope_of totals (bound_in bs)) (level_at bs) f) (value_of (scope_of totals (bound_in bs)) (level_at bs) e) w)) None)
   width_by bs ss f e c m w true t hb hs hf he =
       let parts = and_parts (leb 1 w) (leb w 200) t in
       let fits : IsWidth w = (grind (arith, nat_tests, parts.0), grind (arith, nat_tests, parts.1)) in
@@ -266,7 +267,7 @@ module _ (totals : List (List ℕ)) where
 
   width_sound : (bs : List Open) (ss : Statements) (f : Front) (e : Expression) (c m : ℕ) (t : Token) → AreOpen bs → AreStatements ss → IsFront f → IsExpression 0 e
       → Leads totals (front bs ss (spelled_spot (at_width f e c)) ++ put m t ∷ [])
-      (machine.width_step (around_at bs ss (bound_in bs)) (front_cells (bound_in bs) f) (front_bad (scope_of totals (bound_in bs)) (level_at bs) f) (value_of (scope_of totals (bound_in bs)) (level_at bs) e) t)
+      (machine.width_step (around_at bs ss (bound_in bs)) (front_cells (bound_in bs) (level_at bs) f) (front_bad (scope_of totals (bound_in bs)) (level_at bs) f) (value_of (scope_of totals (bound_in bs)) (level_at bs) e) t)
   width_sound bs ss f e c m (number w) hb hs hf he = width_by bs ss f e c m w (leb 1 w && leb w 200) refl hb hs hf he
   width_sound bs ss f e c m other hb hs hf he = tt
 
@@ -313,8 +314,8 @@ module _ (totals : List (List ℕ)) where
 
   else_by : (bs : List Open) (ss : Statements) (l : ℕ) (e : Expression) (o : ℕ) (first : Statements) (c : ℕ) (p : Lexeme) (b : Bool) → machine.is_else p.token ≡ b → AreOpen bs → AreStatements ss → IsExpression 0 e → AreStatements first
       → Leads totals (front bs ss (spelled_spot (at_else l e o first c)) ++ p ∷ [])
-      (cond b (machine.moved (around_at bs ss (bound_in bs)) (machine.at_else_body (meant (bound_in bs) e) (meant_body (bound_in bs) first) (bad_first (scope_of totals (bound_in bs)) (level_at bs) e l o first)))
-      (statement_step (machine.without_else (around_at bs ss (bound_in bs)) (meant (bound_in bs) e) (meant_body (bound_in bs) first) (bad_first (scope_of totals (bound_in bs)) (level_at bs) e l o first)) p.line p.token))
+      (cond b (machine.moved (around_at bs ss (bound_in bs)) (machine.at_else_body (kept (bound_in bs) (level_at bs) e) (first_kept (bound_in bs) (level_at bs) first) (bad_first (scope_of totals (bound_in bs)) (level_at bs) e l o first)))
+      (statement_step (machine.without_else (around_at bs ss (bound_in bs)) (kept (bound_in bs) (level_at bs) e) (first_kept (bound_in bs) (level_at bs) first) (bad_first (scope_of totals (bound_in bs)) (level_at bs) e l o first)) p.line p.token))
   else_by bs ss l e o first c p true t hb hs he hf =
       let k : p ≡ at p.line mark_is.Else = ap (λ (t : Token). put p.line t) (else_found p.token t) in
       go bs ss (spelled_spot (at_else l e o first c)) (at_else_body l e o first c p.line) p hb hs (he, hf)
@@ -322,13 +323,13 @@ module _ (totals : List (List ℕ)) where
       ∙ ap (λ (xs : List Lexeme). at l mark_is.If ∷ xs) (sym (append_assoc (spelled e) (at o mark_is.OpenBlock ∷ (spelled_body first ++ at c mark_is.CloseBlock ∷ [])) (at p.line mark_is.Else ∷ [])))
       ∙ ap (λ (q : Lexeme). spelled_spot (at_else l e o first c) ++ q ∷ []) (sym k))
   else_by bs ss l e o first c p false t hb hs he hf =
-      subst (λ (xs : List Lexeme). Leads totals ((spelled_blocks bs ++ xs) ++ p ∷ []) (statement_step (machine.without_else (around_at bs ss (bound_in bs)) (meant (bound_in bs) e) (meant_body (bound_in bs) first) (bad_first (scope_of totals (bound_in bs)) (level_at bs) e l o first)) p.line p.token))
+      subst (λ (xs : List Lexeme). Leads totals ((spelled_blocks bs ++ xs) ++ p ∷ []) (statement_step (machine.without_else (around_at bs ss (bound_in bs)) (kept (bound_in bs) (level_at bs) e) (first_kept (bound_in bs) (level_at bs) first) (bad_first (scope_of totals (bound_in bs)) (level_at bs) e l o first)) p.line p.token))
       (append-nil (spelled_body ss ++ spelled_statement (choice l e o first c)))
       (statement_sound bs (more ss (choice l e o first c)) p.line p.token hb (hs, (he, hf)))
 
   else_body_sound : (bs : List Open) (ss : Statements) (l : ℕ) (e : Expression) (o : ℕ) (first : Statements) (c k q : ℕ) (t : Token) → AreOpen bs → AreStatements ss → IsExpression 0 e → AreStatements first
       → Leads totals (front bs ss (spelled_spot (at_else_body l e o first c k)) ++ put q t ∷ [])
-      (machine.else_body_step (around_at bs ss (bound_in bs)) (meant (bound_in bs) e) (meant_body (bound_in bs) first) (bad_first (scope_of totals (bound_in bs)) (level_at bs) e l o first) q t)
+      (machine.else_body_step (around_at bs ss (bound_in bs)) (kept (bound_in bs) (level_at bs) e) (first_kept (bound_in bs) (level_at bs) first) (bad_first (scope_of totals (bound_in bs)) (level_at bs) e l o first) q t)
   else_body_sound bs ss l e o first c k q (mark mark_is.OpenBlock) hb hs he hf =
       let marks : List Lexeme = at c mark_is.CloseBlock ∷ at k mark_is.Else ∷ [] in
       begun bs (spelled_spot (at_else_body l e o first c k)) (of_else ss l e o first c k q) (at q mark_is.OpenBlock) (hs, he, hf, hb)

@@ -12,7 +12,8 @@ use Rattle.ae_rlang.specs.Report.{Meant, MeantCell, Deed, deeds_of, no_deeds, ti
 use Rattle.ae_rlang.specs.declared.operand.Bound.{Bound}
 use Rattle.ae_rlang.specs.Scope.{Scope, is_among, table_bound}
 use Rattle.ae_rlang.specs.Meaning.{table_or_any}
-use Rattle.ae_rlang.specs.Bad.{bad_level, max_fors}
+use Rattle.ae_rlang.specs.Bad.{bad_level, max_fors, max_level}
+use Rattle.ae_rlang.specs.Kept.{deeds_where}
 use Rattle.ae_rlang.specs.Values.{Value, number_value, text_value, flag_value, total_value, field_value, operated_value, negated_value, within_value, timed_value}
 
 -- ---- expressions
@@ -241,15 +242,19 @@ abbrev pub dropped : List Bound → List Bound
 dropped [] = []
 dropped (b ∷ bs) = bs
 
+-- the statements of a block inside these
+abbrev pub inside_deeds : List Block → Body → List Deed
+inside_deeds blocks body = deeds_where (nat_le max_level (length blocks)) body.deeds
+
 -- the innermost block is closed
 abbrev pub close_step : List Bound → List Block → Body → Option State
 close_step bound [] body = None
 close_step bound (of_each outer w table test line ∷ blocks) body =
-    done_with (record { bound = dropped bound; blocks = blocks; body = outer }) (each w (table_or_any table) test (deeds_of body.deeds)) (earlier line body.bad)
+    done_with (record { bound = dropped bound; blocks = blocks; body = outer }) (each w (table_or_any table) test (deeds_of (inside_deeds blocks body))) (earlier line body.bad)
 close_step bound (of_choice outer test line ∷ blocks) body =
-    moved (record { bound = bound; blocks = blocks; body = outer }) (at_else test body.deeds (earlier line body.bad))
+    moved (record { bound = bound; blocks = blocks; body = outer }) (at_else test (inside_deeds blocks body) (earlier line body.bad))
 close_step bound (of_else outer test first line ∷ blocks) body =
-    done_with (record { bound = bound; blocks = blocks; body = outer }) (choose test (deeds_of first) (deeds_of body.deeds)) (earlier line body.bad)
+    done_with (record { bound = bound; blocks = blocks; body = outer }) (choose test (deeds_of first) (deeds_of (inside_deeds blocks body))) (earlier line body.bad)
 
 abbrev pub end_step : Around → List Block → Option State
 end_step around [] = moved around done

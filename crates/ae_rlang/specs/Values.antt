@@ -1,4 +1,4 @@
--- What the reader keeps of an expression: its meaning, the kind of its value where that is known, and its first bad line.
+-- What the reader keeps of an expression: what it says (Kept.antt), the kind of its value where that is known, and its first bad line.
 use Rattle.std.specs.Prelude.{ℕ, List, pos, Bool, not, nat_le, Option, Some, None}
 use Rattle.ae_rlang.specs.declared.operator.Operator.{Operator}
 use Rattle.ae_rlang.specs.declared.operator.Kind.{Kind}
@@ -7,8 +7,9 @@ use Rattle.ae_rlang.specs.Operator.{result_kind, is_other, is_wrong, earlier, ba
 use Rattle.ae_rlang.specs.Report.{Meant, operated, negated, number, text, flag, total, field, timed}
 use Rattle.ae_rlang.specs.Written.{Expression}
 use Rattle.ae_rlang.specs.Scope.{Scope, is_among, table_bound, kind_within, kind_of_name, kind_in}
-use Rattle.ae_rlang.specs.Meaning.{field_or_any, field_within, meant}
+use Rattle.ae_rlang.specs.Meaning.{field_or_any, field_within}
 use Rattle.ae_rlang.specs.Bad.{bad_field, first_bad, max_level}
+use Rattle.ae_rlang.specs.Kept.{kept, kept_where}
 
 pub record Value : Type 0 where
   pub node : Meant
@@ -17,7 +18,7 @@ pub record Value : Type 0 where
 
 -- what is kept of an expression inside so many levels
 abbrev pub value_of : Scope → ℕ → Expression → Value
-value_of scope level e = record { node = meant scope.bound e; kind = kind_in scope e; bad = first_bad scope level e }
+value_of scope level e = record { node = kept scope.bound level e; kind = kind_in scope e; bad = first_bad scope level e }
 
 abbrev pub number_value : ℕ → ℕ → Value
 number_value l n = record { node = number l (pos n); kind = Some kind_is.Number; bad = None }
@@ -50,7 +51,7 @@ negated_value l a = record { node = negated l a.node; kind = Some kind_is.Flag; 
 
 -- the value in parentheses that open in this line, maybe one level too deep
 abbrev pub within_where : Bool → ℕ → Value → Value
-within_where deep o a = record { node = a.node; kind = a.kind; bad = earlier (bad_where deep o) a.bad }
+within_where deep o a = record { node = kept_where deep o a.node; kind = a.kind; bad = earlier (bad_where deep o) a.bad }
 
 -- the value in parentheses that open at this level in this line
 abbrev pub within_value : ℕ → ℕ → Value → Value

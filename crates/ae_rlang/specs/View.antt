@@ -1,43 +1,62 @@
 -- The report that a value of the types in src/report.rt is.
-use Rattle.std.specs.Prelude.{ℕ, List, map, option_map}
+use Rattle.std.specs.Prelude.{ℕ, List, [], ◌∷◌, map, option_map}
 use Rattle.ae_rlang.specs.Report.{Meant, operated, negated, number, text, flag, total, field, timed, MeantCell, Deed, title, columns, add, each, choose, Deeds, deeds_of}
-use Rattle.ae_rlang.specs.declared.operator.Operator.TheVariants as operator_is
+use Rattle.ae_rlang.specs.declared.operator.Operator.{Operator}
+use Rattle.ae_rlang.specs.declared.report.Atom.{Atom}
+use Rattle.ae_rlang.specs.declared.report.Atom.TheVariants as atom_is
 use Rattle.ae_rlang.specs.declared.report.Expr.{Expr, fold-Expr}
-use Rattle.ae_rlang.specs.declared.report.ExprKind.{ExprKind, fold-ExprKind}
-use Rattle.ae_rlang.specs.declared.report.ExprKind.TheOpen.{Expr-F, ExprKind-F}
+use Rattle.ae_rlang.specs.declared.report.Link.{Link, fold-Link}
+use Rattle.ae_rlang.specs.declared.report.Link.TheOpen.{Expr-F, Link-F}
 use Rattle.ae_rlang.specs.declared.report.Cell.{Cell}
 use Rattle.ae_rlang.specs.declared.report.Statement.{Statement, fold-Statement}
 use Rattle.ae_rlang.specs.declared.report.StatementList.{StatementList, fold-StatementList}
 use Rattle.ae_rlang.specs.declared.report.Statement.TheOpen.{Statement-F, StatementList-F}
 
--- one level of an expression, with what stands inside already seen; its line comes last
-abbrev pub kind_step : ExprKind-F (ℕ → Meant) Meant → ℕ → Meant
-kind_step (ExprKind-F.Or a b) line = operated line operator_is.Or a.value b.value
-kind_step (ExprKind-F.And a b) line = operated line operator_is.And a.value b.value
-kind_step (ExprKind-F.Not a) line = negated line a.value
-kind_step (ExprKind-F.Equal a b) line = operated line operator_is.Equal a.value b.value
-kind_step (ExprKind-F.Unequal a b) line = operated line operator_is.Unequal a.value b.value
-kind_step (ExprKind-F.Less a b) line = operated line operator_is.Less a.value b.value
-kind_step (ExprKind-F.AtMost a b) line = operated line operator_is.AtMost a.value b.value
-kind_step (ExprKind-F.Plus a b) line = operated line operator_is.Plus a.value b.value
-kind_step (ExprKind-F.Minus a b) line = operated line operator_is.Minus a.value b.value
-kind_step (ExprKind-F.Number n) line = number line n
-kind_step (ExprKind-F.Str t) line = text line t
-kind_step (ExprKind-F.Flag b) line = flag line b
-kind_step (ExprKind-F.Total name) line = total line name
-kind_step (ExprKind-F.Field name f) line = field line name f
-kind_step (ExprKind-F.Time a) line = timed line a.value
+-- what stands behind a value: an operator with its line and its right side, or the line of a word before the value
+pub data MeantLink : Type 0 where
+  by_side : ℕ → Operator → Meant → MeantLink
+  by_not : ℕ → MeantLink
+  by_time : ℕ → MeantLink
 
-abbrev pub expr_step : Expr-F (ℕ → Meant) Meant → Meant
-expr_step e = e.kind e.line
+-- what is said with the link
+abbrev pub linked : Meant → MeantLink → Meant
+linked e (by_side line operator right) = operated line operator e right
+linked e (by_not line) = negated line e
+linked e (by_time line) = timed line e
+
+-- what is said with these links, from the left
+abbrev pub all_linked : Meant → List MeantLink → Meant
+all_linked e [] = e
+all_linked e (l ∷ ls) = all_linked (linked e l) ls
+
+-- a value without operators, in this line
+abbrev pub atom_seen : ℕ → Atom → Meant
+atom_seen line (atom_is.Number n) = number line n
+atom_seen line (atom_is.Str t) = text line t
+atom_seen line (atom_is.Flag b) = flag line b
+atom_seen line (atom_is.Total name) = total line name
+atom_seen line (atom_is.Field name f) = field line name f
+
+-- one level of an expression, with what stands inside already seen
+abbrev pub link_step : Link-F MeantLink Meant → MeantLink
+link_step (Link-F.Side line operator right) = by_side line operator right
+link_step (Link-F.Not line) = by_not line
+link_step (Link-F.Time line) = by_time line
+
+abbrev pub expr_step : Expr-F MeantLink Meant → Meant
+expr_step e = all_linked (atom_seen e.line e.first) e.links.items
 
 -- what an expression says
 abbrev pub meaning : Expr → Meant
-meaning = fold-Expr (ℕ → Meant) Meant kind_step expr_step
+meaning = fold-Expr MeantLink Meant link_step expr_step
 
--- what an expression says, but for its line
-abbrev pub kind_meaning : ExprKind → ℕ → Meant
-kind_meaning = fold-ExprKind (ℕ → Meant) Meant kind_step expr_step
+-- what a link says
+abbrev pub link_seen : Link → MeantLink
+link_seen = fold-Link MeantLink Meant link_step expr_step
+
+-- what the links in a vector say, one by one
+abbrev pub links_seen : List Link → List MeantLink
+links_seen ls = map link_seen ls
 
 abbrev pub cell_seen : Cell → MeantCell
 cell_seen c = record { value = meaning c.value; width = c.width; right = c.right }

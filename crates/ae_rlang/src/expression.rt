@@ -86,20 +86,17 @@ fn wanted(pendings: &[Pending]) -> u8
     }
 }
 
-fn taken(alloc: Global, pending: Pending, operand: Operand) -> Result<Operand, AllocError>
+fn taken(pending: Pending, operand: Operand) -> Result<Operand, AllocError>
     ensures { IfOk result (λ v. value_seen v ≡ taken (pending_seen pending) (value_seen operand)) }
 {
     match pending {
-        Pending::Side(operator, line, left) => {
-            operand::operated(alloc, operator, line, left, operand)
-        }
-        Pending::Not(line) => operand::negated(alloc, line, operand),
+        Pending::Side(operator, line, left) => { operand::operated(operator, line, left, operand) }
+        Pending::Not(line) => operand::negated(line, operand),
     }
 }
 
 // All that waits and binds so tightly takes the value.
 fn reduced(
-    alloc: Global,
     tight: u8,
     mut pendings: Vec<Pending>,
     mut operand: Operand,
@@ -111,22 +108,21 @@ fn reduced(
             pendings.push(pending)?;
             return Ok((pendings, operand));
         }
-        operand = taken(alloc, pending, operand)?;
+        operand = taken(pending, operand)?;
     }
     Ok((pendings, operand))
 }
 
 // The value of a whole expression.
-fn whole(alloc: Global, pendings: Vec<Pending>, operand: Operand) -> Result<Operand, AllocError>
+fn whole(pendings: Vec<Pending>, operand: Operand) -> Result<Operand, AllocError>
     ensures { IfOk result (λ v. value_seen v ≡ whole (pendings_seen pendings.items) (value_seen operand)) }
 {
-    let (_, operand) = reduced(alloc, 0, pendings, operand)?;
+    let (_, operand) = reduced(0, pendings, operand)?;
     Ok(operand)
 }
 
 // An operator comes.
 fn operator_turn(
-    alloc: Global,
     groups: Vec<Group>,
     pendings: Vec<Pending>,
     operand: Operand,
@@ -135,7 +131,7 @@ fn operator_turn(
 ) -> Result<Turn, AllocError>
     ensures { (t : _) → IfOk result (TurnIs t (operator_turn (groups_seen groups.items) operator line (reduced (left_binds operator) (pendings_seen pendings.items) (value_seen operand)))) }
 {
-    let (mut pendings, left) = reduced(alloc, operator.left_binds(), pendings, operand)?;
+    let (mut pendings, left) = reduced(operator.left_binds(), pendings, operand)?;
     if wanted(pendings.as_slice()) > operator.binds() {
         drop(left);
         return Ok(Turn::Stuck);
@@ -153,9 +149,9 @@ fn closed(
 ) -> Result<Operand, AllocError>
     ensures { IfOk result (λ v. value_seen v ≡ timed_where time (within_where deep line (value_seen operand))) }
 {
-    let inner = operand::within(deep, line, operand);
+    let inner = operand::within(alloc, deep, line, operand);
     match time {
-        Some(time) => operand::timed(alloc, time, inner),
+        Some(time) => operand::timed(time, inner),
         None => Ok(inner),
     }
 }
@@ -179,7 +175,7 @@ fn close_group(
     ensures outside { IfOk result (λ r. r.0 ≡ group.pendings) }
     ensures value { IfOk result (λ r. value_seen r.1 ≡ closed_value (level_in (groups_seen groups.now) level) (group_seen group) (whole (pendings_seen pendings.items) (value_seen operand))) }
 {
-    let operand = whole(alloc, pendings, operand)?;
+    let operand = whole(pendings, operand)?;
     let deep = are_deep(level, groups);
     let operand = closed(alloc, deep, group.time, group.line, operand)?;
     Ok((group.pendings, operand))
@@ -197,7 +193,7 @@ fn behind_turn(
     ensures { IfOk result (TurnIs (token_of token) (behind_turn level (groups_seen groups.items) (pendings_seen pendings.items) (value_seen operand) (is_close (token_of token)))) }
 {
     let Some(group) = groups.pop() else {
-        return Ok(Turn::Ended(whole(alloc, pendings, operand)?, token));
+        return Ok(Turn::Ended(whole(pendings, operand)?, token));
     };
     if !is_close(&token) {
         drop(group);
@@ -241,7 +237,7 @@ fn having_turn(
 {
     let Lexeme { line, token } = lexeme;
     match token_operator(&token) {
-        Some(operator) => operator_turn(alloc, groups, pendings, operand, line, operator),
+        Some(operator) => operator_turn(groups, pendings, operand, line, operator),
         None => behind_turn(alloc, level, groups, pendings, operand, token),
     }
 }
@@ -289,19 +285,19 @@ fn waiting_turn(
             if n >= NUMBERS {
                 return Ok(Turn::Stuck);
             }
-            let value = operand::number(line, n);
+            let value = operand::number(alloc, line, n);
             Ok(Turn::Goes(groups, pendings, Point::Having(value)))
         }
         Token::Str(text) => {
-            let value = operand::text(line, text);
+            let value = operand::text(alloc, line, text);
             Ok(Turn::Goes(groups, pendings, Point::Having(value)))
         }
         Token::Mark(Mark::True) => {
-            let value = operand::flag(line, true);
+            let value = operand::flag(alloc, line, true);
             Ok(Turn::Goes(groups, pendings, Point::Having(value)))
         }
         Token::Mark(Mark::False) => {
-            let value = operand::flag(line, false);
+            let value = operand::flag(alloc, line, false);
             Ok(Turn::Goes(groups, pendings, Point::Having(value)))
         }
         Token::Mark(Mark::Not) => {
@@ -335,12 +331,13 @@ fn named_turn(
     if is_dot(&lexeme.token) {
         return Ok(Turn::Goes(groups, pendings, Point::Dotted(name_line, name)));
     }
-    let value = operand::total(scope, name_line, name);
+    let value = operand::total(alloc, scope, name_line, name);
     having_turn(alloc, scope.level, groups, pendings, value, lexeme)
 }
 
 // Behind a name and `.`.
 fn dotted_turn(
+    alloc: Global,
     scope: Scope<'_>,
     groups: Vec<Group>,
     pendings: Vec<Pending>,
@@ -353,7 +350,7 @@ fn dotted_turn(
     let Lexeme { line, token } = lexeme;
     match token {
         Token::Name(field) => {
-            let value = operand::field(scope, name_line, name, line, field);
+            let value = operand::field(alloc, scope, name_line, name, line, field);
             Ok(Turn::Goes(groups, pendings, Point::Having(value)))
         }
         _ => Ok(Turn::Stuck),
@@ -397,7 +394,7 @@ pub(crate) fn take_token(
             named_turn(alloc, scope, groups, pendings, name_line, name, lexeme)
         }
         Point::Dotted(name_line, name) => {
-            dotted_turn(scope, groups, pendings, name_line, name, lexeme)
+            dotted_turn(alloc, scope, groups, pendings, name_line, name, lexeme)
         }
         Point::Timing(time) => timing_turn(alloc, groups, pendings, time, lexeme),
         Point::Having(operand) => {

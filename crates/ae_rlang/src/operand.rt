@@ -3,16 +3,16 @@ ghost use Rattle.std.specs.Prelude.{◌≡◌, ◌<◌, ◌^◌, ◌+◌, nat_le
 ghost use Rattle.std.specs.Str.{bytes_eq};
 ghost use Rattle.ae_rlang.specs.Operator.{bad_where};
 ghost use Rattle.ae_rlang.specs.Table.{field_kind};
-ghost use Rattle.ae_rlang.specs.View.{meaning, kind_meaning};
-ghost use Rattle.ae_rlang.specs.Report.{operated};
+ghost use Rattle.ae_rlang.specs.View.{meaning, atom_seen, link_seen, linked};
 ghost use Rattle.ae_rlang.specs.Scope.{is_among, table_bound, kind_within, kind_of_name};
 ghost use Rattle.ae_rlang.specs.Meaning.{field_or_any, field_within};
 ghost use Rattle.ae_rlang.specs.Bad.{bad_field, bad_level, max_level};
+ghost use Rattle.ae_rlang.specs.Kept.{kept_where};
 ghost use Rattle.ae_rlang.specs.Values.{number_value, text_value, flag_value, total_value, field_value, operated_value, negated_value, within_where, timed_value};
 ghost use Rattle.ae_rlang.specs.Steps.{scope_seen, value_seen};
 
 use crate::operator::{Kind, Operator, bad_where, earlier, is_other};
-use crate::report::{Expr, ExprKind};
+use crate::report::{Atom, Expr, Link};
 use crate::table::{RowField, Table, field_of};
 use ae_base::Text;
 use std::alloc::{AllocError, Global};
@@ -99,60 +99,59 @@ fn field_kind(field: RowField) -> Kind
     }
 }
 
-pub(crate) fn number(line: u32, n: u64) -> Operand
+// A value without operators.
+fn atom(alloc: Global, line: u32, first: Atom, kind: Option<Kind>, bad: Option<u32>) -> Operand
+    ensures { value_seen result ≡ record { node = atom_seen line first; kind = kind; bad = bad } }
+{
+    Operand {
+        expr: Expr {
+            line,
+            first,
+            links: Vec::new(alloc),
+        },
+        kind,
+        bad,
+    }
+}
+
+pub(crate) fn number(alloc: Global, line: u32, n: u64) -> Operand
     requires { n < 2 ^ 63 }
     ensures { value_seen result ≡ number_value line n }
 {
-    Operand {
-        expr: Expr {
-            line,
-            kind: ExprKind::Number(n as i64),
-        },
-        kind: Some(Kind::Number),
-        bad: None,
-    }
+    atom(
+        alloc,
+        line,
+        Atom::Number(n as i64),
+        Some(Kind::Number),
+        None,
+    )
 }
 
-pub(crate) fn text(line: u32, text: Text) -> Operand
+pub(crate) fn text(alloc: Global, line: u32, text: Text) -> Operand
     ensures { value_seen result ≡ text_value line text }
 {
-    Operand {
-        expr: Expr {
-            line,
-            kind: ExprKind::Str(text),
-        },
-        kind: Some(Kind::Text),
-        bad: None,
-    }
+    atom(alloc, line, Atom::Str(text), Some(Kind::Text), None)
 }
 
-pub(crate) fn flag(line: u32, flag: bool) -> Operand
+pub(crate) fn flag(alloc: Global, line: u32, flag: bool) -> Operand
     ensures { value_seen result ≡ flag_value line flag }
 {
-    Operand {
-        expr: Expr {
-            line,
-            kind: ExprKind::Flag(flag),
-        },
-        kind: Some(Kind::Flag),
-        bad: None,
-    }
+    atom(alloc, line, Atom::Flag(flag), Some(Kind::Flag), None)
 }
 
 /// A name alone, which is to be a total.
-pub(crate) fn total(scope: Scope<'_>, line: u32, name: Text) -> Operand
+pub(crate) fn total(alloc: Global, scope: Scope<'_>, line: u32, name: Text) -> Operand
     ensures { value_seen result ≡ total_value (scope_seen scope.entry) line name }
 {
     let known = is_among(&name, scope.totals);
     let kind = if known { Some(Kind::Number) } else { None };
-    Operand {
-        expr: Expr {
-            line,
-            kind: ExprKind::Total(name),
-        },
+    atom(
+        alloc,
+        line,
+        Atom::Total(name),
         kind,
-        bad: bad_where(!known, line),
-    }
+        bad_where(!known, line),
+    )
 }
 
 // The field of this name of what a name is bound to.
@@ -197,6 +196,7 @@ fn field_or_any(field: Option<RowField>) -> RowField
 
 /// A name, `.` and a field.
 pub(crate) fn field(
+    alloc: Global,
     scope: Scope<'_>,
     line: u32,
     name: Text,
@@ -209,34 +209,19 @@ pub(crate) fn field(
     let found = field_or_any(field_within(table, &field));
     let kind = kind_within(table, &field);
     let bad = bad_field(table, line, field_line, &field);
-    Operand {
-        expr: Expr {
-            line,
-            kind: ExprKind::Field(name, found),
-        },
-        kind,
-        bad,
-    }
+    atom(alloc, line, Atom::Field(name, found), kind, bad)
 }
 
-fn joined(operator: Operator, left: Box<Expr>, right: Box<Expr>) -> ExprKind
-    ensures { (line : _) → kind_meaning result line ≡ operated line operator (meaning left.value) (meaning right.value) }
+// The expression with one link more.
+fn with_link(mut expr: Expr, link: Link) -> Result<Expr, AllocError>
+    ensures { IfOk result (λ made. meaning made ≡ linked (meaning expr) (link_seen link)) }
 {
-    match operator {
-        Operator::Or => ExprKind::Or(left, right),
-        Operator::And => ExprKind::And(left, right),
-        Operator::Equal => ExprKind::Equal(left, right),
-        Operator::Unequal => ExprKind::Unequal(left, right),
-        Operator::Less => ExprKind::Less(left, right),
-        Operator::AtMost => ExprKind::AtMost(left, right),
-        Operator::Plus => ExprKind::Plus(left, right),
-        Operator::Minus => ExprKind::Minus(left, right),
-    }
+    expr.links.push(link)?;
+    Ok(expr)
 }
 
 /// Two sides and the operator between them.
 pub(crate) fn operated(
-    alloc: Global,
     operator: Operator,
     line: u32,
     left: Operand,
@@ -246,53 +231,34 @@ pub(crate) fn operated(
 {
     let wrong = operator.is_wrong(left.kind, right.kind);
     let bad = earlier(earlier(left.bad, right.bad), bad_where(wrong, line));
-    let left = Box::new(alloc, left.expr)?;
-    let right = Box::new(alloc, right.expr)?;
     Ok(Operand {
-        expr: Expr {
-            line,
-            kind: joined(operator, left, right),
-        },
+        expr: with_link(left.expr, Link::Side(line, operator, right.expr))?,
         kind: Some(operator.result()),
         bad,
     })
 }
 
 /// `not` and what follows it.
-pub(crate) fn negated(alloc: Global, line: u32, operand: Operand) -> Result<Operand, AllocError>
+pub(crate) fn negated(line: u32, operand: Operand) -> Result<Operand, AllocError>
     ensures { IfOk result (λ v. value_seen v ≡ negated_value line (value_seen operand)) }
 {
-    let bad = earlier(
-        operand.bad,
-        bad_where(is_other(operand.kind, Kind::Flag), line),
-    );
-    let inner = Box::new(alloc, operand.expr)?;
+    let wrong = is_other(operand.kind, Kind::Flag);
     Ok(Operand {
-        expr: Expr {
-            line,
-            kind: ExprKind::Not(inner),
-        },
+        expr: with_link(operand.expr, Link::Not(line))?,
         kind: Some(Kind::Flag),
-        bad,
+        bad: earlier(operand.bad, bad_where(wrong, line)),
     })
 }
 
 /// What stands in parentheses behind `time`.
-pub(crate) fn timed(alloc: Global, line: u32, operand: Operand) -> Result<Operand, AllocError>
+pub(crate) fn timed(line: u32, operand: Operand) -> Result<Operand, AllocError>
     ensures { IfOk result (λ v. value_seen v ≡ timed_value line (value_seen operand)) }
 {
-    let bad = earlier(
-        operand.bad,
-        bad_where(is_other(operand.kind, Kind::Number), line),
-    );
-    let inner = Box::new(alloc, operand.expr)?;
+    let wrong = is_other(operand.kind, Kind::Number);
     Ok(Operand {
-        expr: Expr {
-            line,
-            kind: ExprKind::Time(inner),
-        },
+        expr: with_link(operand.expr, Link::Time(line))?,
         kind: Some(Kind::Text),
-        bad,
+        bad: earlier(operand.bad, bad_where(wrong, line)),
     })
 }
 
@@ -306,12 +272,23 @@ pub(crate) fn bad_level(level: usize, line: u32) -> Option<u32>
     bad_where(level >= MAX_LEVEL, line)
 }
 
+// What is kept of an expression in parentheses that open in this line: where they are one level too deep, a flag in its place.
+fn kept_where(alloc: Global, deep: bool, line: u32, expr: Expr) -> Expr
+    ensures { meaning result ≡ kept_where deep line (meaning expr) }
+{
+    if deep {
+        let kind = Some(Kind::Flag);
+        return atom(alloc, line, Atom::Flag(false), kind, None).expr;
+    }
+    expr
+}
+
 /// What stands in parentheses that open in this line, maybe one level too deep.
-pub(crate) fn within(deep: bool, line: u32, operand: Operand) -> Operand
+pub(crate) fn within(alloc: Global, deep: bool, line: u32, operand: Operand) -> Operand
     ensures { value_seen result ≡ within_where deep line (value_seen operand) }
 {
     Operand {
-        expr: operand.expr,
+        expr: kept_where(alloc, deep, line, operand.expr),
         kind: operand.kind,
         bad: earlier(bad_where(deep, line), operand.bad),
     }

@@ -2,20 +2,21 @@
 ghost use Rattle.std.specs.Prelude.{◌≡◌, ◌++◌, ◌∷◌, ◌||◌, [], not, nat_le, length, is_some, IfOk};
 ghost use Rattle.ae_rlang.specs.Operator.{earlier, bad_where};
 ghost use Rattle.ae_rlang.specs.Scope.{is_among, table_bound};
-ghost use Rattle.ae_rlang.specs.Bad.{max_fors};
+ghost use Rattle.ae_rlang.specs.Bad.{max_fors, max_level};
+ghost use Rattle.ae_rlang.specs.Kept.{deeds_where};
 ghost use Rattle.ae_rlang.specs.Meaning.{table_or_any};
 ghost use Rattle.ae_rlang.specs.View.{cells_seen, deed_of, deeds_seen, meaning};
-ghost use Rattle.ae_rlang.specs.Machine.{empty_body, start, with_deed, done_with, moved, at_statement, close_step, dropped, in_expression, waiting, end_step, statement_step, title_step, title_end_step, total_name_step, total_equals_step, for_name_step, in_step, table_step, opening_bad, where_step, slot_step, for_cell, for_total, for_test, for_choice, place_step, width_step, comma_step, right_step, is_right, is_else, else_step, else_body_step, step};
+ghost use Rattle.ae_rlang.specs.Machine.{empty_body, start, with_deed, done_with, moved, at_statement, close_step, dropped, in_expression, waiting, end_step, statement_step, title_step, title_end_step, total_name_step, total_equals_step, for_name_step, in_step, table_step, opening_bad, where_step, slot_step, for_cell, for_total, for_test, for_choice, place_step, width_step, comma_step, right_step, else_step, else_body_step, step};
 ghost use Rattle.ae_rlang.specs.Steps.{Gives, around_seen, block_seen, blocks_seen, body_seen, groups_seen, lexeme_of, pendings_seen, place_seen, point_seen, slot_seen, state_seen, token_of, value_seen};
 ghost use Rattle.ae_rlang.specs.declared.statement.Stop.TheVariants.{Memory};
 
 use crate::expression;
 use crate::expression::{Group, Pending, Point, Turn};
-use crate::operand::{Bound, Operand, Scope, bad_level, is_among, table_bound};
+use crate::operand::{Bound, Operand, Scope, bad_level, is_among, is_deep, table_bound};
 use crate::operator::{Kind, bad_where, earlier, is_other};
 use crate::report::{Cell, CellList, Expr, Statement, StatementList};
 use crate::table::{Table, table_of};
-use crate::token::{Lexeme, Mark, Token};
+use crate::token::{Lexeme, Mark, Token, is_else, is_right};
 use ae_base::Text;
 use std::alloc::{AllocError, AllocFailed, Global};
 
@@ -224,8 +225,18 @@ fn without_first(mut bound: Vec<Bound>) -> Vec<Bound>
     bound
 }
 
+// What is kept of the statements of a block inside these: none where it is one level too deep.
+fn inside_kept(alloc: Global, blocks: &[Block], statements: Vec<Statement>) -> Vec<Statement>
+    ensures { deeds_seen result.items ≡ deeds_where (nat_le max_level (length (blocks_seen blocks.now))) (deeds_seen statements.items) }
+{
+    if is_deep(blocks.len(), 0) {
+        return Vec::new(alloc);
+    }
+    statements
+}
+
 // The innermost block is closed.
-fn close(around: Around) -> Result<State, Stop>
+fn close(alloc: Global, around: Around) -> Result<State, Stop>
     ensures { Gives result (close_step (around_seen around).bound (around_seen around).blocks (around_seen around).body) }
 {
     let Around {
@@ -234,33 +245,29 @@ fn close(around: Around) -> Result<State, Stop>
         body,
     } = around;
     let Body { statements, bad } = body;
-    match blocks.pop() {
+    let block = blocks.pop();
+    let inside = inside_kept(alloc, blocks.as_slice(), statements);
+    match block {
         None => Err(Stop::Wrong),
         Some(Block::Each(outer, name, table, test, line)) => {
-            let bound = without_first(bound);
-            let body = StatementList::of(statements);
-            let each = Statement::For(name, table_or_any(table), test, body);
+            let each = Statement::For(name, table_or_any(table), test, StatementList::of(inside));
             let around = Around {
-                bound,
+                bound: without_first(bound),
                 blocks,
                 body: outer,
             };
             done_with(around, each, earlier(line, bad))
         }
-        Some(Block::Choice(outer, test, line)) => Ok(State {
-            around: Around {
+        Some(Block::Choice(outer, test, line)) => {
+            let around = Around {
                 bound,
                 blocks,
                 body: outer,
-            },
-            place: Place::AtElse(test, statements, earlier(line, bad)),
-        }),
+            };
+            moved(around, Place::AtElse(test, inside, earlier(line, bad)))
+        }
         Some(Block::Else(outer, test, first, line)) => {
-            let choose = Statement::If(
-                test,
-                StatementList::of(first),
-                StatementList::of(statements),
-            );
+            let choose = Statement::If(test, StatementList::of(first), StatementList::of(inside));
             let around = Around {
                 bound,
                 blocks,
@@ -313,7 +320,7 @@ fn statement(alloc: Global, around: Around, line: u32, token: Token) -> Result<S
         Token::Mark(Mark::Total) => moved(around, Place::AtTotalName(line)),
         Token::Mark(Mark::For) => moved(around, Place::AtForName(line)),
         Token::Mark(Mark::If) => begun(alloc, around, Slot::Choice(line)),
-        Token::Mark(Mark::CloseBlock) => close(around),
+        Token::Mark(Mark::CloseBlock) => close(alloc, around),
         Token::End => end(around),
         _ => Err(Stop::Wrong),
     }
@@ -680,12 +687,6 @@ fn with_cell(
     Ok(cells)
 }
 
-fn is_right(token: &Token) -> bool
-    ensures { result ≡ is_right (token_of token.now) }
-{
-    matches!(token, Token::Mark(Mark::Right))
-}
-
 fn right_or_comma(
     alloc: Global,
     around: Around,
@@ -705,12 +706,6 @@ fn right_or_comma(
     } else {
         comma(alloc, around, cells, bad, token)
     }
-}
-
-fn is_else(token: &Token) -> bool
-    ensures { result ≡ is_else (token_of token.now) }
-{
-    matches!(token, Token::Mark(Mark::Else))
 }
 
 fn else_or_statement(
