@@ -1,0 +1,5 @@
+pub mod Answers
+pub mod Asked
+pub mod Laws
+pub mod Reports
+pub mod Telling
