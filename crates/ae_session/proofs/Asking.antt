@@ -1,6 +1,5 @@
 -- What words ask for, once.
-use Rattle.std.proofs.Common.{◌≡◌, ℕ, List, true, false, not, Result, Err, refl, sym, ap, subst, ◌∙◌}
-use Rattle.std.proofs.lemmas.Bool.{not-true}
+use Rattle.std.proofs.Common.{◌≡◌, ℕ, List, true, false, Result, Err, refl, sym, ap, subst, ◌∙◌}
 use Rattle.ae_words.specs.Answer.{IsAnswer, told}
 use Rattle.ae_words.specs.declared.command.Command.{Command}
 use Rattle.ae_words.specs.declared.read.WordsError.{WordsError}
@@ -8,15 +7,14 @@ use Rattle.ae_words.specs.declared.read.WordsError.TheVariants as words_error
 use Rattle.ae_words.specs.declared.table.Function.{Function}
 use Rattle.ae_words.specs.declared.table.Function.TheVariants as function
 use Rattle.ae_words.specs.Grammar.{IsCommand, IsFirstBad}
-use Rattle.ae_words.specs.Table.{is_to_come}
+use Rattle.ae_words.specs.Table.{is_one_command}
 use Rattle.ae_words.proofs.FirstBad.{one_command, never_both}
 use Rattle.ae_words.proofs.OneAnswer.{one_place}
-use Rattle.ae_machine.specs.Legal.{is_one_command}
 use Rattle.ae_script.specs.Step.{may_give}
 use Rattle.ae_session.specs.declared.request.Request.{Request}
 use Rattle.ae_session.specs.declared.request.RequestError.{RequestError}
 use Rattle.ae_session.specs.declared.request.RequestError.TheVariants as error
-use Rattle.ae_session.specs.Request.{AsksFor, BadAt, nobody, to_come, bad_word, is_one_to_come, names_one_to_come, NeverBoth, OnePlace}
+use Rattle.ae_session.specs.Request.{AsksFor, BadAt, nobody, to_come, bad_word, is_to_come, is_one_to_come, names_one_to_come, NeverBoth, OnePlace}
 
 pub asks_once : (words : List (List ℕ)) (who : List ℕ) (now : ℕ) (command other : Command) → AsksFor words who now command → AsksFor words who now other → command ≡ other
 asks_once words who now command other a b = one_command words command other a.said b.said
@@ -37,15 +35,17 @@ good_bad words who now place command (bad_word first may none is told) asks said
 
 -- a function that is one command is there
 one_is_there : (f : Function) → is_one_command f ≡ true → is_to_come f ≡ false
-one_is_there function.Script one = refl
-one_is_there function.Generate one = refl
-one_is_there f one = not-true (is_to_come f) one
+one_is_there function.DistributionSend one = sym one
+one_is_there function.DistributionReceive one = sym one
+one_is_there _ one = refl
 
 pub never_both_asked : NeverBoth
 never_both_asked words who now place bad = record {
   no_command = λ command asks. good_bad words who now place command bad asks.may asks.said (one_is_there command.function asks.one);
   no_script = λ asks. good_bad words who now place asks.command bad asks.may asks.said (ap is_to_come asks.is_script);
   no_project = λ start changes files asks. good_bad words who now place asks.command bad asks.may asks.said (ap is_to_come asks.generates);
+  no_report = λ r asks. good_bad words who now place asks.command bad asks.may asks.said (ap is_to_come asks.reports);
+  no_audit = λ asks. good_bad words who now place asks.command bad asks.may asks.said (ap is_to_come asks.audits);
 }
 
 pub one_bad_place : OnePlace
@@ -70,11 +70,15 @@ not_both_functions words a b is_a is_b one none = absurd (let both : false ≡ t
 pub not_both_kinds : (words : List (List ℕ)) (a b : Command) → IsCommand words a → IsCommand words b → a.function ≡ function.Script → b.function ≡ function.Generate → ⊥
 not_both_kinds words a b is_a is_b script made = absurd (let both : function.Script ≡ function.Generate = sym script ∙ ap (λ (c : Command). c.function) (one_command words a b is_a is_b) ∙ made in cc)
 
--- a function that is there, and is neither a script nor the generator, is one command
-pub one_of_others : (f : Function) → (f ≡ function.Script → ⊥) → (f ≡ function.Generate → ⊥) → is_to_come f ≡ false → is_one_command f ≡ true
-one_of_others function.Script no_script no_made there = absurd (no_script refl)
-one_of_others function.Generate no_script no_made there = absurd (no_made refl)
-one_of_others f no_script no_made there = ap not there
+-- a function that is there, and none of those with a call of their own, is one command
+pub one_of_others : (f : Function) → (f ≡ function.Script → ⊥) → (f ≡ function.Generate → ⊥) → (f ≡ function.Audit → ⊥) → (f ≡ function.Report → ⊥) → is_to_come f ≡ false → is_one_command f ≡ true
+one_of_others function.Script no_script no_made no_audit no_report there = absurd (no_script refl)
+one_of_others function.Generate no_script no_made no_audit no_report there = absurd (no_made refl)
+one_of_others function.Audit no_script no_made no_audit no_report there = absurd (no_audit refl)
+one_of_others function.Report no_script no_made no_audit no_report there = absurd (no_report refl)
+one_of_others function.DistributionSend no_script no_made no_audit no_report there = sym there
+one_of_others function.DistributionReceive no_script no_made no_audit no_report there = sym there
+one_of_others _ no_script no_made no_audit no_report there = refl
 
 -- ---- what is read
 

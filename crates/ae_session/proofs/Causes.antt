@@ -1,11 +1,12 @@
 -- What is so of all calls.
-use Rattle.std.specs.Prelude.{◌≡◌, ◌≤◌, ◌⊎◌, ℕ, Bool, true, false, List}
-use Rattle.std.proofs.Common.{inl, inr, sym, subst, arith}
+use Rattle.std.specs.Prelude.{◌≡◌, ◌≤◌, ◌⊎◌, ℕ, Bool, true, false, List, IfErr, Result, Err}
+use Rattle.std.proofs.Common.{inl, inr, refl, sym, ap, subst, arith}
 use Rattle.ae_base.specs.declared.outcome.Outcome.{Outcome}
-use Rattle.ae_base.specs.declared.outcome.Outcome.TheVariants.{Memory}
+use Rattle.ae_base.specs.declared.outcome.Outcome.TheVariants.{Done, Memory}
 use Rattle.ae_outside.specs.Causes.{HasRisen}
 use Rattle.ae_outside.proofs.Rising.{risen_later}
 use Rattle.ae_telling.specs.Telling.{SinkUse}
+use Rattle.ae_telling.specs.Sinks.{told_to}
 use Rattle.ae_lines.specs.declared.line.Line.{Line}
 use Rattle.ae_lines.specs.declared.line.Line.TheVariants.{Do}
 use Rattle.ae_words.specs.declared.command.Command.{Command}
@@ -13,6 +14,20 @@ use Rattle.ae_machine.specs.Called.{called}
 use Rattle.ae_exec.specs.Performs.{Completes}
 use Rattle.ae_exec.specs.Said.{is_listing}
 use Rattle.ae_exec.proofs.Completing.{completes}
+use Rattle.ae_exec.proofs.Ended.{only-read}
+use Rattle.ae_audit.specs.declared.error.AuditError.{AuditError}
+use Rattle.ae_audit.specs.declared.error.AuditError.TheVariants as error
+use Rattle.ae_audit.specs.Audits.{Answer}
+use Rattle.ae_audited.specs.Telling.{Means, outcome_of}
+use Rattle.ae_audited.specs.Telling as audited
+use Rattle.ae_exec.specs.Endings as ending
+use Rattle.ae_outside.specs.Image.{Image}
+use Rattle.ae_outside.specs.Site.{SiteState}
+use Rattle.ae_outside.specs.State.{reads}
+use Rattle.ae_reporting.specs.Answers.{FailsAs}
+use Rattle.ae_reporting.specs.Reports.{Asked as AskedReport}
+use Rattle.ae_telling.specs.Answered.{IsAnswerTold, IsMeant}
+use Rattle.ae_telling.specs.Answered as answered
 use Rattle.ae_script.specs.Causes.{IsCaused}
 use Rattle.ae_script.specs.Lines.{Did, DoesLine, Stand}
 use Rattle.ae_script.specs.Step.{KeepsDisk}
@@ -22,9 +37,8 @@ use Rattle.ae_script.specs.declared.manner.Manner.TheVariants.{Plan, Generator}
 use Rattle.ae_script.proofs.Caused.{caused_did, caused_on, caused_told, disk_later}
 use Rattle.ae_script.proofs.Keeping.{does_keep, keeps_by, keeps_still, keeps_then, lines_keep}
 use Rattle.ae_script.proofs.Completed as script
-use Rattle.ae_session.specs.Called.{Asked, CallDone, CallsAreCaused, CallsKeepDisks, CommandCalled, CommandsEndWhole, IsAsked, OnlyTold, ProjectDone, command, lines_made, project, stops, tells, unmade, wanting}
+use Rattle.ae_session.specs.Called.{Asked, AuditDone, ReportDone, CallDone, CallsAreCaused, CallsKeepDisks, CommandCalled, CommandsEndWhole, IsAsked, OnlyTold, ProjectDone, command, lines_made, project, stops, tells, unmade, wanting}
 use Rattle.ae_session.specs.Called as asking
-use Rattle.ae_session.specs.Calls.{told_to}
 
 rose_either : (b : Bool) (out err : SinkUse) → (told_to b out err).rose → out.rose ⊎ err.rose
 rose_either true out err rose = inl rose
@@ -60,12 +74,69 @@ module _ (d : Disks) (s : Sites) where
         first : d.faults from.disk ≤ d.faults mid
         first = subst (λ (x : d.Disk). d.faults from.disk ≤ d.faults x) did.disk_is (disk_later d s Generator from did.done did.runs)
 
+  -- the outcome of an error is a fault only where the disk failed
+  caused_error : (e : AuditError) (rose : Type 0) → (e ≡ error.DiskFault → rose) → IsCaused rose ⊥ ⊥ ⊥ (outcome_of e)
+  caused_error error.NoProject rose cause = tt
+  caused_error (error.NotShown n) rose cause = tt
+  caused_error (error.Damaged name) rose cause = tt
+  caused_error error.DiskFault rose cause = cause refl
+  caused_error error.Memory rose cause = tt
+
+  caused_meant : (answer : Answer) (meant : Outcome) (text : List ℕ) (to_out : Bool) (rose : Type 0) → Means answer meant text to_out → (answer ≡ Err error.DiskFault → rose) → IsCaused rose ⊥ ⊥ ⊥ meant
+  caused_meant _ _ _ _ rose (audited.lines rows) cause = tt
+  caused_meant _ _ _ _ rose (audited.error e) cause = caused_error e rose (λ is. cause (ap Err is))
+  caused_meant _ _ _ _ rose (audited.wanting answer) cause = tt
+
+  caused_audit : (from : Stand d s) (disk : d.Disk) (site : s.Site) (input_rose : Type 0) (out err : SinkUse) (result : Outcome) → AuditDone d s from disk site out err result → Caused from disk site input_rose out err result
+  caused_audit from disk site input_rose out err result did =
+      caused_told _ _ input_rose (out.rose ⊎ err.rose) did.told.meant result
+      (caused_on _ ⊥ ⊥ ⊥ _ _ input_rose (out.rose ⊎ err.rose) (λ rose. rose) (λ none. absurd none) (λ none. absurd none) (λ none. absurd none) did.told.meant
+      (caused_meant did.told.answer did.told.meant did.told.text did.told.to_out _ did.told.means did.told.cause))
+      (elim did.told.told.how [ inl is ↦ inl is | inr untold ↦ inr (untold.0, rose_either did.told.to_out out err untold.1) ])
+
+  -- an answer fails by a fault only where that count rose
+  caused_failing : (disk_told site_told : Type 0) (image : Image) (before : SiteState) (report : AskedReport) (disk_rose site_rose : Type 0) (why : Outcome) → FailsAs disk_told site_told image before report disk_rose site_rose why → IsCaused disk_rose site_rose ⊥ ⊥ why
+  caused_failing disk_told site_told image before report disk_rose site_rose _ (ending.done is) = absurd is
+  caused_failing disk_told site_told image before report disk_rose site_rose _ (ending.run_failed is) = absurd is
+  caused_failing disk_told site_told image before report disk_rose site_rose _ (ending.refused refusal is) = tt
+  caused_failing disk_told site_told image before report disk_rose site_rose _ (ending.damaged name is) = tt
+  caused_failing disk_told site_told image before report disk_rose site_rose _ (ending.disk_fault rose) = rose
+  caused_failing disk_told site_told image before report disk_rose site_rose _ (ending.site_fault rose) = rose.0
+  caused_failing disk_told site_told image before report disk_rose site_rose _ ending.memory = tt
+
+  caused_report : (report : AskedReport) (from : Stand d s) (disk : d.Disk) (site : s.Site) (input_rose : Type 0) (out err : SinkUse) (result : Outcome) → ReportDone d s report from disk site out err result → Caused from disk site input_rose out err result
+  caused_report report from disk site input_rose out err result did = by did.told.told
+    where
+      disk_rose : Type 0
+      disk_rose = HasRisen (d.faults from.disk) (d.faults disk)
+
+      site_rose : Type 0
+      site_rose = HasRisen (s.faults from.site) (s.faults site)
+
+      fails : (why : Outcome) → did.told.answer ≡ Err why → IsCaused disk_rose site_rose ⊥ ⊥ why
+      fails why is =
+          caused_failing d.told s.told (reads (d.state from.disk)) (s.state from.site) report disk_rose site_rose why
+          (subst (λ (a : Result (List ℕ) Outcome). IfErr a (FailsAs d.told s.told (reads (d.state from.disk)) (s.state from.site) report disk_rose site_rose)) is did.told.fails)
+
+      meant_so : (why meant : Outcome) → IsMeant why meant → IsCaused disk_rose site_rose ⊥ ⊥ why → IsCaused disk_rose site_rose ⊥ ⊥ meant
+      meant_so why meant (inl same) is = subst (λ (o : Outcome). IsCaused disk_rose site_rose ⊥ ⊥ o) (sym same) is
+      meant_so why meant (inr lacking) is = subst (λ (o : Outcome). IsCaused disk_rose site_rose ⊥ ⊥ o) (sym lacking.0) tt
+
+      by : IsAnswerTold did.told.answer out err result → Caused from disk site input_rose out err result
+      by (answered.done text is told quiet) = caused_told _ _ input_rose (out.rose ⊎ err.rose) Done result tt (elim told.how [ inl same ↦ inl same | inr untold ↦ inr (untold.0, inl untold.1) ])
+      by (answered.stopped why meant is how told quiet) =
+          caused_told _ _ input_rose (out.rose ⊎ err.rose) meant result
+          (caused_on disk_rose site_rose ⊥ ⊥ _ _ input_rose (out.rose ⊎ err.rose) (λ rose. rose) (λ rose. rose) (λ none. absurd none) (λ none. absurd none) meant (meant_so why meant how (fails why is)))
+          (elim told.how [ inl same ↦ inl same | inr untold ↦ inr (untold.0, inr untold.1) ])
+
   asked_caused : (asked : Asked) (from : Stand d s) (disk : d.Disk) (site : s.Site) (input : SourceUse) (out err : SinkUse) (result : Outcome) (manner : Manner) (done : List (Did d s)) → IsAsked d s asked from disk site input out err result manner done
       → IsCaused (HasRisen (d.faults from.disk) (d.faults disk)) (HasRisen (s.faults from.site) (s.faults site)) input.rose (out.rose ⊎ err.rose) result
   asked_caused asked from disk site input out err result _ _ (command c asks one) = caused_command from disk site input.rose out err result c one
   asked_caused asked from disk site input out err result _ _ (asking.script asks did quiet) =
       caused_on _ _ input.rose out.rose _ _ input.rose (out.rose ⊎ err.rose) (λ rose. rose) (λ rose. rose) (λ rose. rose) (λ rose. inl rose) result (script.caused_script d s _ from disk site input out result did)
   asked_caused asked from disk site input out err result _ _ (project start changes files asks made) = caused_project from disk site input.rose out err result start changes files made
+  asked_caused asked from disk site input out err result _ _ (asking.report r asks did) = caused_report r from disk site input.rose out err result did
+  asked_caused asked from disk site input out err result _ _ (asking.audit asks did) = caused_audit from disk site input.rose out err result did
   asked_caused asked from disk site input out err result _ _ (wanting only) = caused_only from disk site input.rose out err result only
 
   pub caused : (i o e : Streams) → CallsAreCaused d s i o e
@@ -86,6 +157,8 @@ module _ (d : Disks) (s : Sites) where
   asked_keeps seen asked from disk site input out err result _ _ (command c asks one) = subst (λ (x : d.Disk). KeepsDisk (d.state from.disk) (d.state x)) one.disk_is (does_keep d s Plan seen from one.line one.does)
   asked_keeps seen asked from disk site input out err result _ _ (asking.script asks did quiet) = subst (λ (x : d.Disk). KeepsDisk (d.state from.disk) (d.state x)) did.disk_is (lines_keep d s _ seen from did.done did.runs)
   asked_keeps seen asked from disk site input out err result _ _ (project start changes files asks made) = keeps_made seen from disk site out err result start changes files made
+  asked_keeps seen asked from disk site input out err result _ _ (asking.report r asks did) = keeps_by (d.state from.disk) (d.state disk) (Unit {0}) (did.leaves seen)
+  asked_keeps seen asked from disk site input out err result _ _ (asking.audit asks did) = keeps_by (d.state from.disk) (d.state disk) (Unit {0}) (only-read (d.state from.disk) (d.state disk) (did.only_reads seen))
   asked_keeps seen asked from disk site input out err result _ _ (wanting only) = subst (λ (x : d.Disk). KeepsDisk (d.state from.disk) (d.state x)) (sym only.disk_is) (keeps_still (d.state from.disk))
 
   pub kept : (i o e : Streams) → CallsKeepDisks d s i o e

@@ -3,6 +3,7 @@ pub mod Calling
 pub mod Causes
 pub mod Counting
 pub mod Making
+pub mod OnePath
 pub mod Projects
 pub mod Repeating
 pub mod RunsMade

@@ -16,6 +16,7 @@ use Rattle.ae_types.specs.Observation.{Observation}
 use Rattle.ae_exec.specs.Holding.{HoldsLegal}
 use Rattle.ae_telling.specs.Messages.{message}
 use Rattle.ae_telling.specs.Telling.{IsTold, SinkUse, sink_use, unless_told}
+use Rattle.ae_telling.specs.Sinks.{TakesNothing}
 use Rattle.ae_script.specs.Causes.{IsCaused}
 use Rattle.ae_script.specs.Follows.{AreStepsOf, FollowLogs, IsLogged}
 use Rattle.ae_script.specs.Lines.{AllLead, AreDone, Did, LinesEnd, Stand, by_end, by_line, last_stand, lines_said, transcript}
@@ -33,7 +34,6 @@ use Rattle.ae_script.proofs.Logged.{follows_all}
 use Rattle.ae_script.proofs.Telling.{done_is, meant_done}
 use Rattle.ae_script.specs.Ends.{HasReadTo, ScriptDone, ScriptEnds, read, bad_line, source, memory}
 use Rattle.ae_session.specs.Called.{ProjectDone, ProjectsCountRuns, lines_made, stops, stored, tells, unmade}
-use Rattle.ae_session.specs.Calls.{TakesNothing}
 use Rattle.ae_session.specs.Summary.{HasBuilds, MakesRuns, SummaryTold, builds}
 use Rattle.ae_session.specs.Summary as summary
 use Rattle.ae_session.proofs.Making.{loaded_along, loaded_holds}

@@ -1,10 +1,11 @@
 -- A call: the lines that it does, and what is then so. A command alone is the list of one line, a script has those of the input,
--- and the generator those of the script that it makes.
+-- the generator those of the script that it makes, and an audit and a report none.
 use Rattle.std.specs.Prelude.{◌≡◌, ◌≤◌, ◌⊎◌, ℕ, List, [], ◌∷◌, false}
 use Rattle.ae_base.specs.declared.outcome.Outcome.{Outcome}
 use Rattle.ae_base.specs.declared.outcome.Outcome.TheVariants.{Done, Memory}
 use Rattle.ae_outside.specs.Causes.{HasRisen}
-use Rattle.ae_outside.specs.State.{reads}
+use Rattle.ae_outside.specs.Image.{IsSame}
+use Rattle.ae_outside.specs.State.{GoesOn, reads}
 use Rattle.ae_log.specs.Log.{Log}
 use Rattle.ae_log.specs.Observed.{observation}
 use Rattle.ae_lines.specs.declared.line.Line.TheVariants.{Do}
@@ -16,7 +17,11 @@ use Rattle.ae_exec.specs.Said.{is_listing}
 use Rattle.ae_exec.specs.Stands.{StandsForLog}
 use Rattle.ae_telling.specs.Messages.{memory_text}
 use Rattle.ae_telling.specs.Telling.{SinkUse, IsTold, sink_use}
+use Rattle.ae_telling.specs.Sinks.{told_to, silent, TakesNothing}
 use Rattle.ae_generator.specs.Lines.{generated_text}
+use Rattle.ae_audited.specs.Telling.{IsAuditTold, IsDoneOnLegal}
+use Rattle.ae_reporting.specs.Reports.{Asked as AskedReport}
+use Rattle.ae_reporting.specs.Telling.{IsDoneSo, IsReportTold}
 use Rattle.ae_script.specs.Follows.{FollowLogs}
 use Rattle.ae_script.specs.Causes.{IsCaused}
 use Rattle.ae_script.specs.Lines.{AllLead, AreDone, Did, Does, Stand, last_stand, lines_said, stand}
@@ -26,8 +31,7 @@ use Rattle.ae_script.specs.Uses.{Disks, Sites, SourceUse, Streams, read_from, so
 use Rattle.ae_script.specs.declared.manner.Manner.{Manner}
 use Rattle.ae_script.specs.declared.manner.Manner.TheVariants.{Plan, Script, Generator}
 use Rattle.ae_script.specs.Ends.{ScriptDone}
-use Rattle.ae_session.specs.Calls.{told_to, silent, TakesNothing}
-use Rattle.ae_session.specs.Request.{AsksFor, AsksForScript, AsksForGenerate, BadAt}
+use Rattle.ae_session.specs.Request.{AsksFor, AsksForAudit, AsksForReport, AsksForScript, AsksForGenerate, BadAt}
 use Rattle.ae_session.specs.Summary.{MakesRuns, SummaryTold, builds}
 
 -- its words, who gives it, and when
@@ -92,6 +96,31 @@ module _ (d : Disks) (s : Sites) where
   lines_made (stops left did other silent) = did.done
   lines_made (tells mid left taken did summary) = did.done
 
+  -- ---- an audit
+
+  -- The disk is only read. The answer of the audit is so of what it reads, and is told: its lines to `out`, or the message of why there
+  -- are none to `err`. On a disk that holds a legal log with a project it is done, unless a count rises or memory runs out.
+  pub record AuditDone (from : Stand d s) (disk : d.Disk) (site : s.Site) (out err : SinkUse) (result : Outcome) : Type 0 where
+    pub only_reads : d.told → GoesOn IsSame (d.state from.disk) (d.state disk)
+    pub site_is : site ≡ from.site
+    pub told : IsAuditTold d.told (reads (d.state from.disk)) (HasRisen (d.faults from.disk) (d.faults disk)) out err result
+    pub legal : IsDoneOnLegal d.told (reads (d.state from.disk)) (HasRisen (d.faults from.disk) (d.faults disk)) out err result
+    pub later : d.faults from.disk ≤ d.faults disk
+
+  -- ---- a report
+
+  -- The disk is left as by a command that changes nothing, and the directories as they are. What the report prints of what the disk's files
+  -- show is told to `out`, or the message of why it prints nothing to `err`.
+  pub record ReportDone (wanted : AskedReport) (from : Stand d s) (disk : d.Disk) (site : s.Site) (out err : SinkUse) (result : Outcome) : Type 0 where
+    pub leaves : d.told → LeavesDisk (d.state from.disk) (d.state disk) (Unit {0})
+    pub site_same : s.told → s.state site ≡ s.state from.site
+    pub told : IsReportTold d.told s.told (reads (d.state from.disk)) (s.state from.site) wanted
+        (HasRisen (d.faults from.disk) (d.faults disk)) (HasRisen (s.faults from.site) (s.faults site)) out err result
+    -- once it is done its lines were printed, and `out` has taken them
+    pub printed : IsDoneSo d.told s.told (reads (d.state from.disk)) (s.state from.site) wanted out result
+    pub disk_later : d.faults from.disk ≤ d.faults disk
+    pub site_later : s.faults from.site ≤ s.faults site
+
   -- ---- any call
 
   -- The lines that a call does are those that it asks for, in this manner, and it ends so.
@@ -100,6 +129,9 @@ module _ (d : Disks) (s : Sites) where
     script : AsksForScript asked.words asked.who asked.now → (did : ScriptDone d s Script from disk site input out result) → TakesNothing err → IsAsked asked from disk site input out err result Script did.done
     project : (start changes files : ℕ) → AsksForGenerate asked.words asked.who asked.now start changes files → (made : ProjectDone start changes files from disk site out err result)
         → IsAsked asked from disk site input out err result Generator (lines_made made)
+    audit : AsksForAudit asked.words asked.who asked.now → AuditDone from disk site out err result → IsAsked asked from disk site input out err result Plan []
+    report : (wanted : AskedReport) → AsksForReport asked.words asked.who asked.now wanted → ReportDone wanted from disk site out err result
+        → IsAsked asked from disk site input out err result Plan []
     wanting : OnlyTold from disk site out err result → IsAsked asked from disk site input out err result Plan []
 
   -- What a call did that asks for something, from this stand on, whatever the disk holds.

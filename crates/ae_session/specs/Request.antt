@@ -3,12 +3,12 @@ use Rattle.std.specs.Prelude.{ℕ, ◌≡◌, List, [], ◌∷◌, Bool, true, f
 use Rattle.ae_words.specs.Answer.{told}
 use Rattle.ae_words.specs.Grammar.{IsCommand, IsFirstBad}
 use Rattle.ae_words.specs.Items.{function}
-use Rattle.ae_words.specs.Table.{is_to_come}
+use Rattle.ae_words.specs.Table.{is_one_command}
 use Rattle.ae_words.specs.declared.command.Command.{Command}
 use Rattle.ae_words.specs.declared.table.Function.{Function}
 use Rattle.ae_words.specs.declared.table.Function.TheVariants as functions
-use Rattle.ae_machine.specs.Legal.{is_one_command}
 use Rattle.ae_exec.specs.Said.{lists}
+use Rattle.ae_reporting.specs.Reports.{Asked as AskedReport}
 use Rattle.ae_script.specs.Step.{may_give}
 
 -- the call asks for this command alone
@@ -32,11 +32,35 @@ pub record AsksForGenerate (words : List (List ℕ)) (who : List ℕ) (now start
   pub generates : command.function ≡ functions.Generate
   pub numbers : command.numbers ≡ start ∷ changes ∷ files ∷ []
 
--- it asks for something that is told to `out`: a script, a listing, or a made-up project
+-- it asks for an audit of what the disk reads
+pub record AsksForAudit (words : List (List ℕ)) (who : List ℕ) (now : ℕ) : Type 0 where
+  pub may : may_give who now ≡ true
+  pub command : Command
+  pub said : IsCommand words command
+  pub audits : command.function ≡ functions.Audit
+
+-- it asks for a report of the project of this name, where one is given, by the file of this path
+pub record AsksForReport (words : List (List ℕ)) (who : List ℕ) (now : ℕ) (wanted : AskedReport) : Type 0 where
+  pub may : may_give who now ≡ true
+  pub command : Command
+  pub said : IsCommand words command
+  pub reports : command.function ≡ functions.Report
+  pub project : command.project ≡ wanted.project
+  pub path : command.paths ≡ wanted.path ∷ []
+
+-- it asks for something that is told to `out`: a script, a listing, a made-up project, an audit, or a report
 pub data TellsToOut (words : List (List ℕ)) (who : List ℕ) (now : ℕ) : Type 0 where
   script : AsksForScript words who now → TellsToOut words who now
   listing : (command : Command) → AsksFor words who now command → lists command.function ≡ true → TellsToOut words who now
   project : (start changes files : ℕ) → AsksForGenerate words who now start changes files → TellsToOut words who now
+  audit : AsksForAudit words who now → TellsToOut words who now
+  report : (wanted : AskedReport) → AsksForReport words who now wanted → TellsToOut words who now
+
+-- whether the words of a function are read, and the program doesn't do it yet
+abbrev pub is_to_come : Function → Bool
+is_to_come functions.DistributionSend = true
+is_to_come functions.DistributionReceive = true
+is_to_come _ = false
 
 -- whether it is there, and is to come
 abbrev pub is_one_to_come : Option Function → Bool
@@ -59,6 +83,8 @@ pub record AsksForNothing (words : List (List ℕ)) (who : List ℕ) (now : ℕ)
   pub no_command : (command : Command) → AsksFor words who now command → ⊥
   pub no_script : AsksForScript words who now → ⊥
   pub no_project : (start changes files : ℕ) → AsksForGenerate words who now start changes files → ⊥
+  pub no_audit : AsksForAudit words who now → ⊥
+  pub no_report : (wanted : AskedReport) → AsksForReport words who now wanted → ⊥
 
 abbrev pub NeverBoth : Type 0
 NeverBoth = (words : List (List ℕ)) (who : List ℕ) (now place : ℕ) → BadAt words who now place → AsksForNothing words who now

@@ -3,17 +3,16 @@ ghost use Rattle.std.specs.Prelude.{◌≡◌, ◌≤◌, ℕ, true, false, map,
 ghost use Rattle.ae_base.specs.Limits.{last_moment};
 ghost use Rattle.ae_words.specs.Formed.{IsFormed};
 ghost use Rattle.ae_words.specs.Grammar.{IsCommand};
-ghost use Rattle.ae_words.specs.Table.{is_to_come};
 ghost use Rattle.ae_script.specs.Step.{may_give};
-ghost use Rattle.ae_session.specs.Request.{BadAt, NeverBoth, OnePlace, names_one_to_come};
+ghost use Rattle.ae_session.specs.Request.{BadAt, NeverBoth, OnePlace, is_to_come, names_one_to_come};
 ghost use Rattle.ae_session.specs.declared.request.RequestError.TheVariants.{Memory};
 
 use ae_base::User;
 use ae_base::limits::LAST_MOMENT;
-use ae_words::{Command, WordsError, first_function, read_words};
+use ae_words::{Command, Function, WordsError, first_function, read_words};
 use std::alloc::{AllocError, Global};
 
-/// A command, given by this user; it may be a script or the generator.
+/// A command, given by this user; it may be a script, the generator, an audit or a report.
 #[derive(Drop)]
 pub struct Request {
     pub command: Command,
@@ -35,12 +34,22 @@ impl From<AllocError> for RequestError {
     }
 }
 
+/// Whether the words of a function are read, and the program doesn't do it yet.
+pub fn is_to_come(function: Function) -> bool
+    ensures { result ≡ is_to_come function }
+{
+    matches!(
+        function,
+        Function::DistributionSend | Function::DistributionReceive
+    )
+}
+
 // Whether the first word names a function that the program doesn't do yet.
 fn names_one_to_come(words: &[String]) -> bool
     ensures { result ≡ names_one_to_come (map string_bytes words.now) }
 {
     match first_function(words) {
-        Some(function) => function.is_to_come(),
+        Some(function) => is_to_come(function),
         None => false,
     }
 }

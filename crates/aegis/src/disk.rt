@@ -3,8 +3,7 @@ ghost use Rattle.std.specs.Prelude.{⊤};
 ghost use Rattle.ae_outside.specs.Causes.{Counted, HasCause};
 ghost use Rattle.ae_outside.specs.Untold.{untold_disk};
 
-use crate::lock::Patience;
-use crate::store::Store;
+use crate::store::{Access, Store};
 use crate::trouble::{Faults, Trouble};
 use ae_outside::{Disk, Failed, ReadError};
 use std::alloc::Global;
@@ -14,7 +13,7 @@ use std::io::ErrorKind;
 use std::rt::{Clock, Files};
 
 /// The files of the store. A call fails where another process holds the lock until the patience ends, and the next asks for it
-/// again. It tells nothing of what the files hold.
+/// again; where the store is only read no lock is asked for, and each write fails. It tells nothing of what the files hold.
 #[derive(Drop)]
 pub struct RealDisk<'a, R> {
     store: Store<'a, R>,
@@ -23,9 +22,9 @@ pub struct RealDisk<'a, R> {
 
 impl<'a, R: Files<File = File> + Alloc + Clock + Clone + Drop + Eprint> RealDisk<'a, R> {
     /// A disk that hasn't looked for the store yet.
-    pub fn new(rt: &'a R, alloc: Global, patience: Patience) -> RealDisk<'a, R> {
+    pub fn new(rt: &'a R, alloc: Global, access: Access) -> RealDisk<'a, R> {
         RealDisk {
-            store: Store::new(rt, alloc, patience),
+            store: Store::new(rt, alloc, access),
             faults: Faults::none(),
         }
     }

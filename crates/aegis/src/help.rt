@@ -66,11 +66,13 @@ The files of a change, and tests:
   -ReMove_file_Undo -Change N PATH..   has it keep them
   -Test -Change N [-BaseLine | -REGression]   runs the change's tests, these on the old baseline, or the other tests
 
-Listings, scripts and made-up projects:
+Listings, scripts, made-up projects, an audit, and reports:
 
   -List LISTING [-Change N]   prints a listing
   -SCRipt   does the lines of standard input
   -GENerate START CHANGES FILES   makes a project with a long history, in an empty folder
+  -AUDit   shows by the files of the store alone how each delta was built, tested and reviewed
+  -REPort PATH   prints what a report says of the project
 
 The listings:
 
@@ -90,7 +92,7 @@ The listings:
 
 An option's value is the next word, or stands after `=` in the same word. The options:
 
-    -Project NAME   the command is refused where the project has another name; with every function but the first and the last two
+    -Project NAME   the command is refused where the project has another name; with every function but -npr, -scr, -gen and -aud
     -File PATH      a file of attributes in the current folder
     -Change N       the number of a change, 10 to 1999
     -DELta N        the files as they were after that delta, 0 to 1990, and not as they are in the baseline

@@ -91,6 +91,13 @@ pub(crate) const FUNCTIONS: &str = "  -New_PRoject NAME [-File PATH]
 ~  -GENerate START CHANGES FILES
       Makes the project gen with 1 to 200 changes of 1 to 99 files, drawn from the number START. Call it in an empty folder: it
       writes p.attr and c.attr there.
+~  -AUDit
+      Reads the store by itself, and prints a line for each delta: its change, the digest of its files, how many runs it needed,
+      and who reviewed it. Or it names the first delta that isn't shown by its rows, or the damaged file. It writes nothing and
+      takes no lock: give it again where another command works meanwhile. Anybody asks.
+~  -REPort PATH
+      Reads a report from the file PATH of the current folder, and prints its lines: rows of the project's changes, files, deltas,
+      histories and runs, with sums, as in 'for c in changes { columns c.number:4, c.phase:1; }'. Anybody asks.
 ";
 
 // Whether a block is that of the function with this pattern.

@@ -19,12 +19,14 @@ mod who;
 
 use ae_base::Outcome;
 use ae_session::aegis;
+use ae_words::{Function, first_function};
 use disk::RealDisk;
 use help::Question;
 use site::RealSite;
 use std::io;
 use std::io::{ErrorKind, IsTerminal, Write};
 use std::process::ExitCode;
+use store::Access;
 use streams::{Reading, Writing};
 use trouble::Trouble;
 
@@ -63,10 +65,18 @@ fn tell(rt: &impl Eprint, device: &str, trouble: Option<&Trouble>) {
     }
 }
 
+// What a command of these words does with the store: an audit only reads it.
+fn access(rt: &HostRuntime, words: &[String]) -> Access {
+    if first_function(words) == Some(Function::Audit) {
+        Access::Reading
+    } else {
+        Access::Alone(who::patience(rt, rt.stderr().is_terminal()))
+    }
+}
+
 // Does what the words ask for, with the real devices.
 fn work(rt: &HostRuntime, words: &[String], who: &str) -> Outcome {
-    let patience = who::patience(rt, rt.stderr().is_terminal());
-    let mut disk = RealDisk::new(rt, rt.alloc(), patience);
+    let mut disk = RealDisk::new(rt, rt.alloc(), access(rt, words));
     let mut site = RealSite::new(rt, rt.alloc());
     let mut input = Reading::new(rt.stdin());
     let mut output = Writing::new(rt.stdout());

@@ -19,6 +19,15 @@ const STORE: &str = "aegis.d/store";
 
 const LOCK: &str = "aegis.d/lock";
 
+/// What a command does with the store.
+#[derive(Clone, Copy, Debug, PartialEq, Eq)]
+pub enum Access {
+    /// It reads and writes it, alone: it takes the lock, which is waited for so long.
+    Alone(Patience),
+    /// It reads it as it is, without the lock, and writes nothing.
+    Reading,
+}
+
 // What is known of the store.
 #[derive(Drop)]
 enum Standing {
@@ -28,15 +37,17 @@ enum Standing {
     Absent,
     // It is there, and this lock is held.
     Held(File),
+    // It is there, and only read.
+    Open,
 }
 
 /// The store in the current folder. Where there is none it reads as empty, and the first write makes it. No file of it
-/// is touched before the lock is held.
+/// is touched before the lock is held, unless it is only read: then each write fails.
 #[derive(Drop)]
 pub struct Store<'a, R> {
     rt: &'a R,
     alloc: Global,
-    patience: Patience,
+    access: Access,
     standing: Standing,
     // Whether the names of its files outlast a stop.
     has_stable_names: bool,
@@ -44,11 +55,11 @@ pub struct Store<'a, R> {
 
 impl<'a, R: Files<File = File> + Alloc + Clock + Clone + Drop + Eprint> Store<'a, R> {
     /// A store that hasn't been looked for yet.
-    pub fn new(rt: &'a R, alloc: Global, patience: Patience) -> Store<'a, R> {
+    pub fn new(rt: &'a R, alloc: Global, access: Access) -> Store<'a, R> {
         Store {
             rt,
             alloc,
-            patience,
+            access,
             standing: Standing::Unknown,
             has_stable_names: false,
         }
@@ -60,16 +71,24 @@ impl<'a, R: Files<File = File> + Alloc + Clock + Clone + Drop + Eprint> Store<'a
         sync_folder(self.rt, ROOT)
     }
 
-    // Looks for the store, and takes the lock where it is there. Who made it may have been stopped before its name was
-    // stable, but then it holds no file.
+    // Takes the lock of a store that is there. Who made it may have been stopped before its name was stable, but then it
+    // holds no file.
+    fn hold(&self, patience: Patience) -> io::Result<Standing> {
+        let lock = take_lock(self.rt, LOCK, patience)?;
+        if is_empty_folder(self.rt, STORE)? {
+            self.sync_above()?;
+        }
+        Ok(Standing::Held(lock))
+    }
+
+    // Looks for the store. Where it is there the lock is taken, unless it is only read.
     fn find(&mut self) -> io::Result<bool> {
         match look(self.rt, STORE)? {
             Found::Folder => {
-                let lock = take_lock(self.rt, LOCK, self.patience)?;
-                if is_empty_folder(self.rt, STORE)? {
-                    self.sync_above()?;
-                }
-                self.standing = Standing::Held(lock);
+                self.standing = match self.access {
+                    Access::Alone(patience) => self.hold(patience)?,
+                    Access::Reading => Standing::Open,
+                };
                 Ok(true)
             }
             Found::Absent => {
@@ -80,22 +99,31 @@ impl<'a, R: Files<File = File> + Alloc + Clock + Clone + Drop + Eprint> Store<'a
         }
     }
 
-    // Whether the store is there. Where it is, the lock is held from then on.
+    // Whether the store is there. Where it is, the lock is held from then on, unless it is only read.
     fn is_there(&mut self) -> io::Result<bool> {
         match self.standing {
-            Standing::Held(_) => Ok(true),
+            Standing::Held(_) | Standing::Open => Ok(true),
             Standing::Absent => Ok(false),
             Standing::Unknown => self.find(),
         }
     }
 
+    // How long the lock is waited for. Where the store is only read, nothing may be written.
+    fn patience(&self) -> io::Result<Patience> {
+        match self.access {
+            Access::Alone(patience) => Ok(patience),
+            Access::Reading => Err(io::Error::from(ErrorKind::PermissionDenied)),
+        }
+    }
+
     // Has the store there. One that has appeared since it was looked for is another process's, which is an error.
     fn make(&mut self) -> io::Result<()> {
+        let patience = self.patience()?;
         if self.is_there()? {
             return Ok(());
         }
         make_folder(self.rt, ROOT)?;
-        let lock = take_lock(self.rt, LOCK, self.patience)?;
+        let lock = take_lock(self.rt, LOCK, patience)?;
         fs::create_dir(self.rt, STORE)?;
         share_folder(self.rt, STORE)?;
         self.sync_above()?;
@@ -106,6 +134,7 @@ impl<'a, R: Files<File = File> + Alloc + Clock + Clone + Drop + Eprint> Store<'a
     // Whether the lock that is held is still the file of its name. Where it isn't, another process may hold the one that is, so
     // nothing more may be written.
     fn keep_lock(&self) -> io::Result<()> {
+        self.patience()?;
         match &self.standing {
             Standing::Held(lock) if !has_name(self.rt, lock, LOCK)? => {
                 Err(io::Error::from(ErrorKind::NotFound))
@@ -118,19 +147,25 @@ impl<'a, R: Files<File = File> + Alloc + Clock + Clone + Drop + Eprint> Store<'a
         format!(in self.alloc; "{STORE}/{name}")
     }
 
+    // Whether a call that fails now fails as it asks for the lock.
+    fn asks_for_lock(&self) -> bool {
+        matches!(
+            (&self.standing, self.access),
+            (Standing::Unknown, Access::Alone(_))
+        )
+    }
+
     /// What fails where this call does: taking the lock, as long as that isn't held, and then the call.
     pub fn call_of_fault(&self, call: &'static str) -> &'static str {
-        match self.standing {
-            Standing::Unknown => "lock",
-            _ => call,
-        }
+        if self.asks_for_lock() { "lock" } else { call }
     }
 
     /// Where a call for this file fails: at the lock, as long as that isn't held, and then at the file.
     pub fn place_of_fault(&self, name: &str) -> Result<String, AllocError> {
-        match self.standing {
-            Standing::Unknown => String::from_str(self.alloc, LOCK),
-            _ => self.place(name),
+        if self.asks_for_lock() {
+            String::from_str(self.alloc, LOCK)
+        } else {
+            self.place(name)
         }
     }
 
@@ -198,6 +233,7 @@ impl<'a, R: Files<File = File> + Alloc + Clock + Clone + Drop + Eprint> Store<'a
 
     /// Makes a file outlast a stop. The folder is synced the first time, and where a file was made since.
     pub fn sync(&mut self, name: &str) -> io::Result<()> {
+        self.patience()?;
         if !self.is_there()? {
             return Ok(());
         }
