@@ -28,7 +28,7 @@ WATCHED = {WRITE, PREAD, PWRITE, FLOCK, FSYNC, FDATASYNC, FTRUNCATE, MKDIR, GETD
 
 TRACEME, PEEKUSER, POKEUSER, SYSCALL, SETOPTIONS = 0, 3, 6, 24, 0x4200
 SEES_CALLS_ENDS_WITH_TRACER = 0x00100001
-NUMBER, ANSWER, FIRST_WORD, SECOND_WORD = 15 * 8, 10 * 8, 14 * 8, 13 * 8
+NUMBER, ANSWER, FIRST_WORD, SECOND_WORD, THIRD_WORD = 15 * 8, 10 * 8, 14 * 8, 13 * 8, 12 * 8
 STOP = object()
 
 ptrace = ctypes.CDLL(None, use_errno=True).ptrace
@@ -168,3 +168,17 @@ def looked_at(program, top, who, words):
         child = start_traced(program, top, who, words, said.fileno(), said.fileno())
         follow(child, watch)
     return paths
+
+
+def opened(program, top, who, words):
+    """Runs one command, and answers the files that it opens, each with the flags that it is opened with."""
+    files = {}
+
+    def watch(_, number):
+        if number == OPENAT:
+            files[named_path(child)] = files.get(named_path(child), 0) | ptrace(PEEKUSER, child, THIRD_WORD, None)
+
+    with tempfile.TemporaryFile() as said:
+        child = start_traced(program, top, who, words, said.fileno(), said.fileno())
+        follow(child, watch)
+    return files

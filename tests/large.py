@@ -1,4 +1,7 @@
-"""A project as large as is wanted, whose changes are all integrated: its store, written file by file (docs/FORMATS.md)."""
+"""A project as large as is wanted, whose changes are all integrated: its store, written file by file (docs/FORMATS.md).
+
+Of each change the run of its integration has the digest of the baseline that it made, so that an audit shows all of them.
+"""
 import hashlib
 import os
 
@@ -39,18 +42,18 @@ def content(number):
     return f"version {number}\n".encode().ljust(LENGTH, b".")
 
 
-def file_row(path, number, delta):
-    digest = hashlib.sha256(content(number)).hexdigest()
+def file_row(path, number, delta, digest):
     at = (number - 1) * LENGTH // UNIT
     version = f'version = {{ number = {number}; at = {at}; length = {LENGTH}; digest = "{digest}"; }};'
     return f'{{ path = "{path}"; edit = 1; past = [{{ delta = {delta}; usage = source; {version} }}]; }}'
 
 
-def change_text(number, paths, form):
+def change_text(number, paths, form, digest):
+    """The record of a change, whose integration was built on files of this digest."""
     files = [f'{{ path = "{p}"; action = create; usage = source; origin = 0; version = {{ }}; }}' for p in paths]
     runs = [
-        f'{{ ground = {ground}; kind = build; path = ""; status = 0; clean = true; subject = "{DIGEST}"; when = {WHEN}; who = "{who}"; }}'
-        for ground, who in [("develop", "bob"), ("integrate", "alice")]
+        f'{{ ground = {ground}; kind = build; path = ""; status = 0; clean = true; subject = "{subject}"; when = {WHEN}; who = "{who}"; }}'
+        for ground, subject, who in [("develop", DIGEST, "bob"), ("integrate", digest, "alice")]
     ]
     reason = ' why = "";' if form == 2 else ""
     rows = [f'{{ what = {what}; who = "{who}"; when = {WHEN};{reason} }}' for what, who in STEPS]
@@ -66,12 +69,16 @@ def write_store(folder, paths, changes, form=2):
     """Writes the store in this format of the state files."""
     names = [f"source/part{n // 100:03}/file{n:05}.c" for n in range(paths)]
     each = [names[d * paths // changes : (d + 1) * paths // changes] for d in range(changes)]
-    rows = []
+    rows, tree, trees = [], hashlib.sha256(), []
     for delta, mine in enumerate(each, 1):
-        rows += [file_row(p, len(rows) + i, delta) for i, p in enumerate(mine, 1)]
+        for path in mine:
+            digest = hashlib.sha256(content(len(rows) + 1)).hexdigest()
+            rows.append(file_row(path, len(rows) + 1, delta, digest))
+            tree.update(f"{path} {LENGTH} {digest}\n".encode())
+        trees.append(tree.hexdigest())
     texts = {"project": project_text(paths, changes, form), "files": f"files = {listed(rows)};\nlocks = [];\n"}
-    for delta, mine in enumerate(each, 1):
-        texts[f"change.{delta + 9}"] = change_text(delta + 9, mine, form)
+    for delta, (mine, digest) in enumerate(zip(each, trees), 1):
+        texts[f"change.{delta + 9}"] = change_text(delta + 9, mine, form, digest)
     os.makedirs(folder)
     for name, text in texts.items():
         with open(os.path.join(folder, name), "w") as file:
