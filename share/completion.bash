@@ -191,4 +191,4 @@ _aegis_short() {
 
 complete -F _aegis aegis
 complete -F _aegis_short aena aera aend aerd aenrv aerrv aeni aeri aenpr aepa aenc aeca aencu aedb aedbu aeb aede aedeu aerb aerbu \
-    aerpass aerpu aerfail aeib aeibu aeipass aeifail aecp aecpu aenf aenfu aent aentu aerm aermu aet ael aescr aegen
+    aerpass aerpu aerfail aeib aeibu aeipass aeifail aecp aecpu aenf aenfu aent aentu aerm aermu aet ael aescr aegen aeaud aerep
