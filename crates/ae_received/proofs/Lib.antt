@@ -1,0 +1,13 @@
+pub mod Acts
+pub mod Begins
+pub mod Commands
+pub mod Described
+pub mod Directories
+pub mod Edits
+pub mod FileActs
+pub mod Passes
+pub mod Received
+pub mod Rows
+pub mod Sent
+pub mod Touches
+pub mod Whole
