@@ -32,7 +32,7 @@ use Rattle.ae_received.proofs.Acts.{ActsRun, RunsAct}
 use Rattle.ae_received.proofs.Commands.{command-leads, given_to}
 use Rattle.ae_received.proofs.Described.{attributes-described}
 use Rattle.ae_received.proofs.Directories.{put-others}
-use Rattle.ae_received.proofs.Edits.{put-leads}
+use Rattle.ae_received.proofs.Puts.{put-leads}
 use Rattle.ae_received.proofs.FileActs.{develop-led, directory_at}
 use Rattle.ae_received.proofs.Rows.{IsNew, StandsWith, begun-with, made-new}
 use Rattle.ae_received.proofs.Touches.{file-there}

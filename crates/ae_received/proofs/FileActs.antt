@@ -40,7 +40,7 @@ use Rattle.ae_received.specs.Edits.{Edit, edit, edit_at}
 use Rattle.ae_received.proofs.Acts.{RunsAct, led_to}
 use Rattle.ae_received.proofs.Commands.{CommandLeads, command-leads, given_first, given_to}
 use Rattle.ae_received.proofs.Directories.{develop-after, made-others}
-use Rattle.ae_received.proofs.Edits.{put-leads}
+use Rattle.ae_received.proofs.Puts.{put-leads}
 use Rattle.ae_received.proofs.Passes.{Leads}
 use Rattle.ae_received.proofs.Rows.{StandsWith, filed-with}
 use Rattle.ae_received.proofs.Touches.{file-others, file-there, none-found, row-found, with_row}

@@ -3,9 +3,9 @@ pub mod Begins
 pub mod Commands
 pub mod Described
 pub mod Directories
-pub mod Edits
 pub mod FileActs
 pub mod Passes
+pub mod Puts
 pub mod Received
 pub mod Rows
 pub mod Sent

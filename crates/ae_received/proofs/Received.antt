@@ -1,20 +1,26 @@
 -- Every change that is received is as it was sent.
-use Rattle.std.proofs.Common.{◌≡◌, ◌⊎◌, inl, inr, ℕ, refl, sym, ◌∙◌, ap, subst, List, [], ◌∷◌}
+use Rattle.std.proofs.Common.{◌≡◌, ◌⊎◌, inl, inr, ℕ, refl, sym, ◌∙◌, ap, subst, List, [], ◌∷◌, Some}
+use Rattle.ae_base.specs.declared.outcome.Outcome.{Outcome}
 use Rattle.ae_base.specs.declared.outcome.Outcome.TheVariants.{DiskFault, Done}
 use Rattle.ae_base.specs.declared.want.Want.TheVariants.{Nothing}
 use Rattle.ae_bundle.specs.declared.bundle.Bundle.{Bundle}
 use Rattle.ae_dist.specs.Plan.{free_number, plan_of}
 use Rattle.ae_lines.specs.declared.act.Act.{Act}
 use Rattle.ae_log.specs.Log.{Log}
+use Rattle.ae_log.specs.Observed.{observation}
+use Rattle.ae_machine.specs.Legal.{Legal}
+use Rattle.ae_outside.specs.Site.{SiteState}
 use Rattle.ae_outside.specs.declared.dir.Dir.TheVariants.{Develop}
-use Rattle.ae_script.specs.Follows.{AreStepsOf, LastFailed}
+use Rattle.ae_script.specs.Acts.{ActsDone}
+use Rattle.ae_script.specs.Follows.{AreStepsOf, IsLogged, LastFailed}
 use Rattle.ae_script.specs.Lines.{Did, Stand, last_stand}
-use Rattle.ae_script.specs.Steps.{LineDone, Point, point, stop}
-use Rattle.ae_script.specs.Uses.{Disks, Sites, Streams}
+use Rattle.ae_script.specs.Steps.{LineDone, Point, Runs, point, stop}
+use Rattle.ae_script.specs.Uses.{Disks, Sites, Streams, written_from}
+use Rattle.ae_script.specs.declared.manner.Manner.TheVariants.{Plan}
 use Rattle.ae_script.proofs.Acting.{done_means_all}
 use Rattle.ae_types.specs.Observation.{Observation}
 use Rattle.ae_types.specs.Part.{part}
-use Rattle.ae_received.specs.Laws.{ReceivedAreAsSent}
+use Rattle.ae_received.specs.Laws.{ArePlan, ReceivedAreAsSent}
 use Rattle.ae_received.specs.Received.{HasReceived}
 use Rattle.ae_received.proofs.Acts.{ActsRun, acts-run}
 use Rattle.ae_received.proofs.Whole.{all-received}
@@ -36,6 +42,11 @@ none-failed from (act ∷ acts) [] runs failed = runs
 none-failed from (act ∷ acts) (step ∷ []) runs failed = let both : Done ≡ DiskFault = sym runs.0.done ∙ failed in cc
 none-failed from (act ∷ acts) (step ∷ next ∷ steps) runs failed = none-failed step.to acts (next ∷ steps) runs.1 failed
 
+-- so what is read is the log after the last of them
+reads-last : {A B C : Type 0} → A ⊎ (B × C) → (B → ⊥) → A
+reads-last (inl last) never = last
+reads-last (inr failed) never = absurd (never failed.0)
+
 module _ (d : Disks) (s : Sites) where
   -- where the steps stop the directories are those where the lines lead
   site-stops : (from : Stand d s) (log : Log) (done : List (Did d s)) (steps : List LineDone) → AreStepsOf d s done steps → (stop (point from.who from.now log (s.state from.site)) steps).site ≡ s.state (last_stand d s from done).site
@@ -44,19 +55,25 @@ module _ (d : Disks) (s : Sites) where
   site-stops from log (one ∷ done) [] are = absurd are
   site-stops from log (one ∷ done) (step ∷ steps) are = ap (λ (p : Point). (stop p steps).site) are.0.to ∙ site-stops one.to step.to.log done steps are.1
 
+  module _ (o : Streams) (stood : Observation) (number : ℕ) (bundle : Bundle) (acts : List Act) (plan : ArePlan stood number bundle acts) where
+    -- Acts that begin at one stand, where the disk was only read since another, and are steps from the log that it held there.
+    pub logged-as-sent : (from begun to : Stand d s) → begun ≡ record from { disk = begun.disk } → (old new : o.Stream) (result : Outcome) (done : ActsDone d s Plan acts begun to (written_from o old new) result) → result ≡ Done
+        → s.told → (held : List Log) (log : Log) → Legal log → observation log ≡ Some stood → (logged : IsLogged d s Plan from done.done to.disk held log)
+        → HasReceived stood logged.holds.read number from.who ((s.state to.site).trees (Develop number)) bundle
+    logged-as-sent from begun to same old new result done is shown held log legal stands logged =
+        let all = done_means_all d s o acts begun to old new result done is in
+        let start = point from.who from.now log (s.state from.site) in
+        let start_is : point begun.who begun.now log (s.state begun.site) ≡ start = ap (λ (at : Stand d s). point at.who at.now log (s.state at.site)) same in
+        let runs : ActsRun start acts logged.steps =
+        subst (λ (p : Point). ActsRun p acts logged.steps) start_is
+        (acts-run d s shown acts begun log done.done logged.steps all.0 all.1 done.runs logged.are (subst (λ (p : Point). Runs Plan p logged.steps) (sym start_is) logged.runs)) in
+        let has = all-received stood number bundle plan.fits (sym (same-number plan.seen stood plan.sees) ∙ plan.free) start logged.steps stands legal
+        (subst (λ (items : List Act). ActsRun start items logged.steps) (plan.are ∙ same-plan plan.seen stood number bundle plan.sees) runs) in
+        let site : (stop start logged.steps).site ≡ s.state to.site =
+        ap (λ (p : Point). (stop p logged.steps).site) (sym start_is) ∙ site-stops begun log done.done logged.steps logged.are ∙ ap (λ (p : Stand d s). s.state p.site) done.leads in
+        subst (λ (l : Log). HasReceived stood l number from.who ((s.state to.site).trees (Develop number)) bundle) (sym (reads-last logged.reads (none-failed start acts logged.steps runs)))
+        (subst (λ (state : SiteState). HasReceived stood (stop start logged.steps).log number from.who (state.trees (Develop number)) bundle) site has)
+
   pub received-as-sent : (o : Streams) → ReceivedAreAsSent d s o
   received-as-sent o stood number bundle acts plan from to old new result done is seen shown held log holds stands =
-      let all = done_means_all d s o acts from to old new result done is in
-      let logged = done.logs seen shown held log holds in
-      let start = point from.who from.now log (s.state from.site) in
-      let runs : ActsRun start acts logged.steps = acts-run d s shown acts from log done.done logged.steps all.0 all.1 done.runs logged.are logged.runs in
-      let has = all-received stood number bundle plan.fits (sym (same-number plan.seen stood plan.sees) ∙ plan.free) start logged.steps stands (holds.holds.legal)
-      (subst (λ (items : List Act). ActsRun start items logged.steps) (plan.are ∙ same-plan plan.seen stood number bundle plan.sees) runs) in
-      let site : (stop start logged.steps).site ≡ s.state to.site = site-stops from log done.done logged.steps logged.are ∙ ap (λ (p : Stand d s). s.state p.site) done.leads in
-      let reads : logged.holds.read ≡ (stop start logged.steps).log = go logged.reads (none-failed start acts logged.steps runs) in
-      subst (λ (l : Log). HasReceived stood l number from.who ((s.state to.site).trees (Develop number)) bundle) (sym reads)
-      (subst (λ state. HasReceived stood (stop start logged.steps).log number from.who (state.trees (Develop number)) bundle) site has)
-    where
-      go : {A B C : Type 0} → A ⊎ (B × C) → (B → ⊥) → A
-      go (inl a) never = a
-      go (inr b) never = absurd (never b.0)
+      logged-as-sent o stood number bundle acts plan from from to refl old new result done is shown held log holds.holds.legal stands (done.logs seen shown held log holds)

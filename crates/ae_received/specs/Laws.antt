@@ -19,12 +19,12 @@ use Rattle.ae_types.specs.Observation.{Observation}
 use Rattle.ae_types.specs.Part.{part}
 use Rattle.ae_received.specs.Received.{HasReceived}
 
--- The acts are the plan of a change set that has a text, for the least free number; it was made over what stands, or over that without
+-- The acts are the plan of a change set that has a text, for the least free number; it was made over what stood, or over that without
 -- its changes.
-pub record ArePlan (stands : Observation) (number : ℕ) (bundle : Bundle) (acts : List Act) : Type 0 where
+pub record ArePlan (stood : Observation) (number : ℕ) (bundle : Bundle) (acts : List Act) : Type 0 where
   pub fits : Fits bundle
   pub seen : Observation
-  pub sees : (seen ≡ part Nothing stands) ⊎ (seen ≡ stands)
+  pub sees : (seen ≡ part Nothing stood) ⊎ (seen ≡ stood)
   pub free : free_number seen ≡ Some number
   pub are : acts ≡ plan_of seen number bundle
 
