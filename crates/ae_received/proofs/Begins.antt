@@ -1,6 +1,7 @@
 -- The first acts of a plan: the file of attributes is put, the change made, and its development begun.
 use Rattle.std.proofs.Common.{◌≡◌, ℕ, refl, sym, ◌∙◌, ap, subst, List, [], ◌∷◌, Option, Some, None, Bool, true, false, cond, Result, Ok, Err}
 use Rattle.std.specs.Prelude.{length, nat_le}
+use Rattle.std.specs.Option.{option_map}
 use Rattle.ae_base.specs.Limits.{most_attribute_bytes}
 use Rattle.ae_bundle.specs.declared.bundle.Bundle.{Bundle}
 use Rattle.ae_conf.specs.Change.{change_attributes}
@@ -19,6 +20,8 @@ use Rattle.ae_machine.specs.Call.{given_in, refusal_in}
 use Rattle.ae_machine.specs.Legal.{Legal}
 use Rattle.ae_machine.specs.Sight.{with_bytes}
 use Rattle.ae_machine.specs.Verdict.{change_file, maker_in, old_change_attributes}
+use Rattle.ae_machine.proofs.LegalRightly.{legal-sound}
+use Rattle.ae_machine.proofs.PathsUp.{baseline-up}
 use Rattle.ae_outside.specs.Site.{content_within}
 use Rattle.ae_outside.specs.Trees.{Tree, no_files, with_rows}
 use Rattle.ae_outside.specs.declared.dir.Content.TheVariants.{Bytes, TooLong}
@@ -27,11 +30,11 @@ use Rattle.ae_script.specs.Steps.{LineDone, Point, stop}
 use Rattle.ae_types.specs.declared.change.ChangeAttributes.{ChangeAttributes}
 use Rattle.ae_types.specs.Observation.{Observation}
 use Rattle.ae_types.specs.Trees.{TreeRow, baseline_of}
-use Rattle.ae_received.specs.Received.{AreDescribed, TextsAreBytes}
+use Rattle.ae_received.specs.Received.{AreDescribed, TextsAreBytes, file_below}
 use Rattle.ae_received.proofs.Acts.{ActsRun, RunsAct}
 use Rattle.ae_received.proofs.Commands.{command-leads, given_to}
 use Rattle.ae_received.proofs.Described.{attributes-described}
-use Rattle.ae_received.proofs.Directories.{put-others}
+use Rattle.ae_received.proofs.Directories.{filled}
 use Rattle.ae_received.proofs.Puts.{put-leads}
 use Rattle.ae_received.proofs.FileActs.{develop-led, directory_at}
 use Rattle.ae_received.proofs.Rows.{IsNew, StandsWith, begun-with, made-new}
@@ -65,6 +68,7 @@ module _ (stood : Observation) (number : ℕ) (bundle : Bundle) where
     described : TextsAreBytes bundle → AreDescribed attributes bundle
     new : IsNew stood number attributes step.to.log
     who : step.to.who ≡ from.who
+    bytes : version_bytes step.to.log ≡ version_bytes from.log
 
   change-made : (from : Point) (step : LineDone) → observation from.log ≡ Some stood → Legal from.log → free_number stood ≡ Some number → from.site.trees Here attributes_path ≡ Some (attributes_text bundle) → RunsAct from (Run new_change) step → IsMade from step
   change-made from step stands legal free put run =
@@ -78,13 +82,14 @@ module _ (stood : Observation) (number : ℕ) (bundle : Bundle) where
         new = made-new stood number attributes step.to.log (maker_in given)
             (l.stands ∙ ap (λ (n : Option ℕ). Some (after stood (event_by (maker_in given) n (on.New attributes)))) free) l.legal;
         who = l.who;
+        bytes = ap version_bytes l.follows;
       }
 
   -- ---- its development begins
 
   record IsBegun (from : Point) (attributes : ChangeAttributes) (step : LineDone) : Type 0 where
     stands : StandsWith stood number from.who attributes step.to.log []
-    empty : (q : List ℕ) → row_at (baseline_of stood) q ≡ None → directory_at number step.to q ≡ None
+    filled : (q : List ℕ) → directory_at number step.to q ≡ file_below stood (version_bytes from.log) q
 
   development-begun : (from : Point) (attributes : ChangeAttributes) (step : LineDone) → IsNew stood number attributes from.log → RunsAct from (Run (begin number)) step → IsBegun from attributes step
   development-begun from attributes step new run =
@@ -94,12 +99,13 @@ module _ (stood : Observation) (number : ℕ) (bundle : Bundle) where
       develop-led from (begin number) new.o step number new.change (Fill (Develop new.change.number) (with_bytes bytes (baseline_of new.o))) new.there refl (ap Develop new.numbered) (l.trees refl) in
       record {
         stands = begun-with stood number from.who attributes from.log step.to.log new (maker_in (given_to from (begin number) step.to new.o)) refl l.stands l.legal;
-        empty = λ q none. ap (λ (t : Tree). t q) tree ∙ put-others bytes (baseline_of new.o) no_files q (ap (λ (rows : List TreeRow). row_at rows q) new.baseline ∙ none);
+        filled = λ q. ap (λ (t : Tree). t q) tree ∙ filled bytes q (baseline_of new.o) (baseline-up new.o (legal-sound from.log new.o new.legal new.stands).rows.ascend)
+            ∙ ap (λ (rows : List TreeRow). option_map (λ (row : TreeRow). bytes row.version.number) (row_at rows q)) new.baseline;
       }
 
   -- ---- all three
 
-  -- these acts and steps are left; the change stands without rows, and its directory has no file where the baseline has none
+  -- these acts and steps are left; the change stands without rows, and its directory has what the baseline has
   pub record Begins (from : Point) (acts : List Act) (steps : List LineDone) : Type 0 where
     pub to : Point
     pub left : List LineDone
@@ -108,7 +114,7 @@ module _ (stood : Observation) (number : ℕ) (bundle : Bundle) where
     pub attributes : ChangeAttributes
     pub described : TextsAreBytes bundle → AreDescribed attributes bundle
     pub stands : StandsWith stood number from.who attributes to.log []
-    pub empty : (q : List ℕ) → row_at (baseline_of stood) q ≡ None → directory_at number to q ≡ None
+    pub filled : (q : List ℕ) → directory_at number to q ≡ file_below stood (version_bytes from.log) q
 
   pub begins : (from : Point) (acts : List Act) (steps : List LineDone) → observation from.log ≡ Some stood → Legal from.log → free_number stood ≡ Some number
       → ActsRun from (Put Here attributes_path (attributes_text bundle) ∷ Run new_change ∷ Run (begin number) ∷ acts) steps → Begins from acts steps
@@ -128,5 +134,5 @@ module _ (stood : Observation) (number : ℕ) (bundle : Bundle) where
         attributes = m.attributes;
         described = m.described;
         stands = subst (λ (w : List ℕ). StandsWith stood number w m.attributes start.to.log []) (m.who ∙ p.who) b.stands;
-        empty = b.empty;
+        filled = λ q. b.filled q ∙ ap (λ (bytes : ℕ → List ℕ). file_below stood bytes q) (m.bytes ∙ ap version_bytes p.log);
       }

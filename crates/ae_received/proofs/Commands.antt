@@ -58,6 +58,7 @@ given_first from command to o = given_at o (version_bytes from.log) (called_from
 
 -- where it led
 pub record CommandLeads (from : Point) (command : Command) (o : Observation) (step : LineDone) : Type 0 where
+  pub follows : step.to.log ≡ followed from.log (events_of (given_to from command step.to o))
   pub stands : observation step.to.log ≡ Some (after_all o (events_of (given_to from command step.to o)))
   pub legal : Legal step.to.log
   pub passed : IsPassed (given_to from command step.to o) (events_of (given_to from command step.to o))
@@ -75,6 +76,7 @@ command-leads from command o step stood legal run =
     let follow = called-follow from.log o (version_bytes from.log) comes was.events stood (legal-sound from.log o legal stood)
     (record { formed = run.given.formed; moment = run.given.moment; one = run.given.one; fits = left.1.0 }) is in
     record {
+      follows = was.follows ∙ ap (λ (events : List Event). followed from.log events) (sym passed.these);
       stands = ap observation was.follows ∙ follow.stands ∙ ap (λ (events : List Event). Some (after_all o events)) (sym passed.these);
       legal = run.does.legal;
       passed = record { before = passed.before; sight = passed.sight; these = refl };

@@ -6,6 +6,7 @@ use Rattle.ae_base.specs.declared.want.Want.TheVariants.{Nothing}
 use Rattle.ae_bundle.specs.declared.bundle.Bundle.{Bundle}
 use Rattle.ae_dist.specs.Plan.{free_number, plan_of}
 use Rattle.ae_lines.specs.declared.act.Act.{Act}
+use Rattle.ae_log.specs.Files.{version_bytes}
 use Rattle.ae_log.specs.Log.{Log}
 use Rattle.ae_log.specs.Observed.{observation}
 use Rattle.ae_machine.specs.Legal.{Legal}
@@ -59,7 +60,7 @@ module _ (d : Disks) (s : Sites) where
     -- Acts that begin at one stand, where the disk was only read since another, and are steps from the log that it held there.
     pub logged-as-sent : (from begun to : Stand d s) → begun ≡ record from { disk = begun.disk } → (old new : o.Stream) (result : Outcome) (done : ActsDone d s Plan acts begun to (written_from o old new) result) → result ≡ Done
         → s.told → (held : List Log) (log : Log) → Legal log → observation log ≡ Some stood → (logged : IsLogged d s Plan from done.done to.disk held log)
-        → HasReceived stood logged.holds.read number from.who ((s.state to.site).trees (Develop number)) bundle
+        → HasReceived stood (version_bytes log) bundle number from.who logged.holds.read ((s.state to.site).trees (Develop number))
     logged-as-sent from begun to same old new result done is shown held log legal stands logged =
         let all = done_means_all d s o acts begun to old new result done is in
         let start = point from.who from.now log (s.state from.site) in
@@ -71,8 +72,8 @@ module _ (d : Disks) (s : Sites) where
         (subst (λ (items : List Act). ActsRun start items logged.steps) (plan.are ∙ same-plan plan.seen stood number bundle plan.sees) runs) in
         let site : (stop start logged.steps).site ≡ s.state to.site =
         ap (λ (p : Point). (stop p logged.steps).site) (sym start_is) ∙ site-stops begun log done.done logged.steps logged.are ∙ ap (λ (p : Stand d s). s.state p.site) done.leads in
-        subst (λ (l : Log). HasReceived stood l number from.who ((s.state to.site).trees (Develop number)) bundle) (sym (reads-last logged.reads (none-failed start acts logged.steps runs)))
-        (subst (λ (state : SiteState). HasReceived stood (stop start logged.steps).log number from.who (state.trees (Develop number)) bundle) site has)
+        subst (λ (l : Log). HasReceived stood (version_bytes log) bundle number from.who l ((s.state to.site).trees (Develop number))) (sym (reads-last logged.reads (none-failed start acts logged.steps runs)))
+        (subst (λ (state : SiteState). HasReceived stood (version_bytes log) bundle number from.who (stop start logged.steps).log (state.trees (Develop number))) site has)
 
   pub received-as-sent : (o : Streams) → ReceivedAreAsSent d s o
   received-as-sent o stood number bundle acts plan from to old new result done is seen shown held log holds stands =

@@ -13,6 +13,7 @@ use Rattle.ae_bundle.specs.declared.bundle.BundleFile.{BundleFile}
 use Rattle.ae_dist.specs.Plan.{addition, free_number, plan_of, put, removal}
 use Rattle.ae_files.specs.InTree.{row_at}
 use Rattle.ae_lines.specs.declared.act.Act.{Act}
+use Rattle.ae_log.specs.Files.{version_bytes}
 use Rattle.ae_log.specs.Observed.{observation}
 use Rattle.ae_machine.specs.Legal.{Legal}
 use Rattle.ae_script.specs.Steps.{LineDone, Point, stop}
@@ -28,11 +29,11 @@ use Rattle.ae_types.proofs.Members.{In}
 use Rattle.ae_types.proofs.Ordered.{ascending-is, at, at-rows, none-some, rows-ascend}
 use Rattle.ae_types.proofs.Searched.{in-found}
 use Rattle.ae_received.specs.Edits.{Edit, edit, edit_at, edit_of, edit_path}
-use Rattle.ae_received.specs.Received.{AreDescribed, HasReceived, LiesThere, TextsAreBytes, edit_received, edits_received}
+use Rattle.ae_received.specs.Received.{AreDescribed, HasReceived, LiesThere, TextsAreBytes, edit_received, edits_received, file_below, sent_at}
 use Rattle.ae_received.proofs.Acts.{ActsRun, RunsAct, led_to}
 use Rattle.ae_received.proofs.Begins.{begins}
 use Rattle.ae_received.proofs.FileActs.{directory_at, stands_at}
-use Rattle.ae_received.proofs.Passes.{Passed, at_path, passes}
+use Rattle.ae_received.proofs.Passes.{Passed, passes}
 use Rattle.ae_received.proofs.Sent.{addition-leads, addition_by, file_put, file_removed, none-added, none-put, none-removed, put-leads-there, put_by_removes, received-is, received_by, removal-leads, removal_by, row_added, row_removed, rows-together}
 
 -- ---- lists of edits
@@ -79,7 +80,7 @@ no-more : (from : Point) (steps : List LineDone) → ActsRun from [] steps → s
 no-more from [] runs = refl
 no-more from (step ∷ steps) runs = absurd runs
 
-module _ (stood : Observation) (number : ℕ) (bundle : Bundle) (fits : Fits bundle) (who : List ℕ) (attributes : ChangeAttributes) where
+module _ (stood : Observation) (number : ℕ) (bundle : Bundle) (fits : Fits bundle) (bytes : ℕ → List ℕ) (who : List ℕ) (attributes : ChangeAttributes) where
   abbrev there : BundleFile → Option TreeRow
   there file = row_at (baseline_of stood) file.path
 
@@ -133,15 +134,12 @@ module _ (stood : Observation) (number : ℕ) (bundle : Bundle) (fits : Fits bun
 
   -- ---- what they make together
 
-  module _ (from : Point) (rest more : List Act) (steps : List LineDone) (empty : (q : List ℕ) → row_at (baseline_of stood) q ≡ None → directory_at number from q ≡ None)
+  module _ (from : Point) (rest more : List Act) (steps : List LineDone) (filled : (q : List ℕ) → directory_at number from q ≡ file_below stood bytes q)
       (one : Passes (removal stood number) removed_row removed_file from [] rest steps) (two : Passes (addition stood number) added_row no_file one.to one.next more one.left)
       (three : Passes (put number) no_row put_file two.to two.next [] two.left) where
-    abbrev sent_at : List ℕ → Option BundleFile
-    sent_at q = at_path bundle_path q bundle.files
-
-    found-received : (q : List ℕ) → edit_at three.next q ≡ option_and_then (edit_received stood) (sent_at q)
+    found-received : (q : List ℕ) → edit_at three.next q ≡ option_and_then (edit_received stood) (sent_at bundle q)
     found-received q =
-        three.found q ∙ ap (option_or (option_and_then no_row (sent_at q))) (two.found q ∙ ap (option_or (option_and_then added_row (sent_at q))) (one.found q)) ∙ go (sent_at q)
+        three.found q ∙ ap (option_or (option_and_then no_row (sent_at bundle q))) (two.found q ∙ ap (option_or (option_and_then added_row (sent_at bundle q))) (one.found q)) ∙ go (sent_at bundle q)
       where
         go : (v : Option BundleFile) → option_or (option_and_then no_row v) (option_or (option_and_then added_row v) (option_or (option_and_then removed_row v) None)) ≡ option_and_then (edit_received stood) v
         go (Some file) = rows-together file (removes file) (there file) ∙ received-is stood file
@@ -158,7 +156,7 @@ module _ (stood : Observation) (number : ℕ) (bundle : Bundle) (fits : Fits bun
         own file made is = received-path file (removes file) (there file) made (received-is stood file ∙ is)
 
     -- the directory at the path of a file
-    lies : (file : BundleFile) → sent_at file.path ≡ Some file → (r : Bool) → removes file ≡ r → (v : Option TreeRow) → there file ≡ v → directory_at number three.to file.path ≡ cond r None (Some file.bytes)
+    lies : (file : BundleFile) → sent_at bundle file.path ≡ Some file → (r : Bool) → removes file ≡ r → (v : Option TreeRow) → there file ≡ v → directory_at number three.to file.path ≡ cond r None (Some file.bytes)
     lies file is false kept v found =
         let there_now : IfSome (put_file file) (λ bytes. directory_at number three.to file.path ≡ bytes) =
         subst (λ (w : Option BundleFile). IfSome (option_and_then put_file w) (λ bytes. directory_at number three.to file.path ≡ bytes)) is (three.lying file.path) in
@@ -176,10 +174,16 @@ module _ (stood : Observation) (number : ℕ) (bundle : Bundle) (fits : Fits bun
             (subst (λ (r : Bool). IfSome (file_removed r (there file)) (λ bytes. directory_at number one.to file.path ≡ bytes)) gone there_now)
         taken None found =
             one.quiet file.path (ap (option_and_then (removal stood number)) is ∙ ap (λ (r : Bool). removal_by number file r (there file)) gone ∙ ap (λ (w : Option TreeRow). removal_by number file true w) found)
-            ∙ empty file.path found
+            ∙ filled file.path ∙ ap (option_map (λ (row : TreeRow). bytes row.version.number)) found
 
     files-lie : AllByRecursion (LiesThere (directory_at number three.to)) bundle.files
     files-lie = all-by-members (LiesThere (directory_at number three.to)) bundle.files (λ file member. lies file (in-found by_text bundle_path bundle.files fits.limits.ascend file member) (removes file) refl (there file) refl)
+
+    -- and at every other path
+    others-lie : (q : List ℕ) → sent_at bundle q ≡ None → directory_at number three.to q ≡ file_below stood bytes q
+    others-lie q none =
+        three.quiet q (ap (option_and_then (put number)) none) ∙ two.quiet q (ap (option_and_then (addition stood number)) none)
+        ∙ one.quiet q (ap (option_and_then (removal stood number)) none) ∙ filled q
 
     -- the steps stop where the last of them led
     stops : stop from steps ≡ three.to
@@ -187,38 +191,40 @@ module _ (stood : Observation) (number : ℕ) (bundle : Bundle) (fits : Fits bun
         one.reaches stop (λ p step more. refl) ∙ two.reaches stop (λ p step more. refl) ∙ three.reaches stop (λ p step more. refl)
         ∙ no-more three.to three.left three.runs
 
-    there-received : (TextsAreBytes bundle → AreDescribed attributes bundle) → HasReceived stood (stop from steps).log number who (directory_at number (stop from steps)) bundle
+    there-received : (TextsAreBytes bundle → AreDescribed attributes bundle) → HasReceived stood bytes bundle number who (stop from steps).log (directory_at number (stop from steps))
     there-received described =
-        subst (λ (p : Point). HasReceived stood p.log number who (directory_at number p) bundle) (sym stops)
+        subst (λ (p : Point). HasReceived stood bytes bundle number who p.log (directory_at number p)) (sym stops)
         (record {
           after = three.stands.o;
           stands = three.stands.stands;
+          baseline = three.stands.baseline;
+          change = three.stands.change;
+          there = three.stands.there;
           is = record {
-            change = three.stands.change;
-            there = three.stands.there;
             phase = three.stands.phase;
             developer = three.stands.developer;
-            described = λ bytes. subst (λ (a : ChangeAttributes). AreDescribed a bundle) (sym three.stands.attributes_are) (described bytes);
+            described = λ texts. subst (λ (a : ChangeAttributes). AreDescribed a bundle) (sym three.stands.attributes_are) (described texts);
             edits = ap (map edit_of) three.stands.files_are ∙ edits-are;
             files = files-lie;
+            others = others-lie;
           };
         })
 
   -- ---- all three, one after another
 
-  passes-received : (TextsAreBytes bundle → AreDescribed attributes bundle) → (from : Point) → Stands from [] → ((q : List ℕ) → row_at (baseline_of stood) q ≡ None → directory_at number from q ≡ None)
-      → (steps : List LineDone) → ActsRun from (removals stood number bundle ++ (additions stood number bundle ++ puts number bundle)) steps → HasReceived stood (stop from steps).log number who (directory_at number (stop from steps)) bundle
-  passes-received described from stands empty steps runs =
+  passes-received : (TextsAreBytes bundle → AreDescribed attributes bundle) → (from : Point) → Stands from [] → ((q : List ℕ) → directory_at number from q ≡ file_below stood bytes q)
+      → (steps : List LineDone) → ActsRun from (removals stood number bundle ++ (additions stood number bundle ++ puts number bundle)) steps → HasReceived stood bytes bundle number who (stop from steps).log (directory_at number (stop from steps))
+  passes-received described from stands filled steps runs =
       let one = removals-pass from [] stands (additions stood number bundle ++ puts number bundle) steps runs in
       let two = additions-pass one.to one.next one.stands (puts number bundle) one.left one.runs in
       let three = puts-pass two.to two.next two.stands [] two.left (subst (λ (acts : List Act). ActsRun two.to acts two.left) (sym (append-nil (puts number bundle))) two.runs) in
-      there-received from (additions stood number bundle ++ puts number bundle) (puts number bundle) steps empty one two three described
+      there-received from (additions stood number bundle ++ puts number bundle) (puts number bundle) steps filled one two three described
 
 -- ---- the plan
 
 pub all-received : (stood : Observation) (number : ℕ) (bundle : Bundle) → Fits bundle → free_number stood ≡ Some number → (from : Point) (steps : List LineDone) → observation from.log ≡ Some stood → Legal from.log → ActsRun from (plan_of stood number bundle) steps
-    → HasReceived stood (stop from steps).log number from.who (directory_at number (stop from steps)) bundle
+    → HasReceived stood (version_bytes from.log) bundle number from.who (stop from steps).log (directory_at number (stop from steps))
 all-received stood number bundle fits free from steps stands legal runs =
     let begun = begins stood number bundle from (removals stood number bundle ++ (additions stood number bundle ++ puts number bundle)) steps stands legal free runs in
-    subst (λ (p : Point). HasReceived stood p.log number from.who (directory_at number p) bundle) (sym begun.stops)
-    (passes-received stood number bundle fits from.who begun.attributes begun.described begun.to begun.stands begun.empty begun.left begun.runs)
+    subst (λ (p : Point). HasReceived stood (version_bytes from.log) bundle number from.who p.log (directory_at number p)) (sym begun.stops)
+    (passes-received stood number bundle fits (version_bytes from.log) from.who begun.attributes begun.described begun.to begun.stands begun.filled begun.left begun.runs)

@@ -8,6 +8,7 @@ use Rattle.ae_bundle.specs.declared.bundle.Bundle.{Bundle}
 use Rattle.ae_dist.specs.Plan.{free_number, plan_of}
 use Rattle.ae_exec.specs.Holding.{HoldsLegal}
 use Rattle.ae_lines.specs.declared.act.Act.{Act}
+use Rattle.ae_log.specs.Files.{version_bytes}
 use Rattle.ae_log.specs.Log.{Log}
 use Rattle.ae_log.specs.Observed.{observation}
 use Rattle.ae_outside.specs.declared.dir.Dir.TheVariants.{Develop}
@@ -36,4 +37,4 @@ module _ (d : Disks) (s : Sites) (o : Streams) where
       (stood : Observation) (number : ℕ) (bundle : Bundle) (acts : List Act) → ArePlan stood number bundle acts
       → (from to : Stand d s) (old new : o.Stream) (result : Outcome) (done : ActsDone d s Plan acts from to (written_from o old new) result) → result ≡ Done
       → (seen : d.told) (shown : s.told) (held : List Log) (log : Log) (holds : HoldsLegal (d.state from.disk) held log) → observation log ≡ Some stood
-      → HasReceived stood (done.logs seen shown held log holds).holds.read number from.who ((s.state to.site).trees (Develop number)) bundle
+      → HasReceived stood (version_bytes log) bundle number from.who (done.logs seen shown held log holds).holds.read ((s.state to.site).trees (Develop number))
