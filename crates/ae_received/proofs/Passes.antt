@@ -4,6 +4,7 @@ use Rattle.std.specs.Prelude.{IfSome}
 use Rattle.std.specs.List.{AllByRecursion, filter_map, cons_option, find}
 use Rattle.std.specs.Option.{option_and_then, option_or}
 use Rattle.std.specs.Str.{bytes_eq}
+use Rattle.std.proofs.lemmas.Option.{IfSome_then}
 use Rattle.ae_base.specs.Rows.{text_cmp}
 use Rattle.ae_outside.specs.Trees.{Tree}
 use Rattle.ae_types.specs.declared.change.ChangeFile.{ChangeFile}
@@ -13,10 +14,6 @@ use Rattle.ae_types.proofs.Keys.{by_text}
 use Rattle.ae_types.proofs.Ordered.{at-above, none-some}
 use Rattle.ae_received.specs.Edits.{Edit, edit_at}
 use Rattle.ae_received.proofs.Touches.{Touched, none-found}
-
-if-some : {A : Type 0} (P Q : A → Type 0) (v : Option A) → ((a : A) → P a → Q a) → IfSome v P → IfSome v Q
-if-some P Q (Some a) f h = f a h
-if-some P Q None f h = tt
 
 module _ {A : Type 0} (key : A → List ℕ) where
   -- the file of a path
@@ -70,8 +67,8 @@ module _ {Point Step Act : Type 0} (led : Step → Point) (Runs : Point → Act 
 
         lying-more : (q : List ℕ) (b : Bool) → bytes_eq q (key file) ≡ b → IfSome (option_and_then lies_by (cond b (Some file) (at_path key q sent))) (λ bytes. tree after.to q ≡ bytes)
         lying-more q true is =
-            if-some (λ bytes. tree mid (key file) ≡ bytes) (λ bytes. tree after.to q ≡ bytes) (lies_by file)
-            (λ bytes h. after.quiet q (ap (option_and_then act_of) (none-after q is)) ∙ ap (tree mid) (by_text.same_is q (key file) is) ∙ h) touched.there
+            IfSome_then (lies_by file) {P = λ bytes. tree mid (key file) ≡ bytes} {Q = λ bytes. tree after.to q ≡ bytes} touched.there
+            (λ bytes there. after.quiet q (ap (option_and_then act_of) (none-after q is)) ∙ ap (tree mid) (by_text.same_is q (key file) is) ∙ there)
         lying-more q false is = after.lying q
 
         quiet-more : (q : List ℕ) (b : Bool) → bytes_eq q (key file) ≡ b → option_and_then act_of (cond b (Some file) (at_path key q sent)) ≡ None → tree after.to q ≡ tree from q

@@ -1,9 +1,9 @@
 -- An act on a path leaves the rows of a change, and its directory, as they are at every other path.
-use Rattle.std.proofs.Common.{◌≡◌, ℕ, refl, sym, ◌∙◌, ap, List, Option, Some, Bool, true, false, cond}
+use Rattle.std.proofs.Common.{◌≡◌, ℕ, refl, ◌∙◌, ap, List, Option, Some, Bool, true, false, cond}
 use Rattle.std.specs.Prelude.{IfSome}
 use Rattle.std.specs.Option.{option_map, option_or}
 use Rattle.std.specs.Str.{bytes_eq}
-use Rattle.std.proofs.lemmas.Bool.{false≢true}
+use Rattle.std.proofs.lemmas.Cmp.{nat_list_eq_equiv}
 use Rattle.ae_base.specs.Rows.{text_cmp}
 use Rattle.ae_outside.specs.Trees.{Tree, with_file}
 use Rattle.ae_types.specs.declared.change.ChangeFile.{ChangeFile}
@@ -12,14 +12,6 @@ use Rattle.ae_types.specs.Ordered.{Ascends, put_by}
 use Rattle.ae_types.proofs.Keys.{by_text}
 use Rattle.ae_types.proofs.Ordered.{at-put}
 use Rattle.ae_received.specs.Edits.{Edit, edit_at, edit_of}
-
--- a test of two paths, turned round
-pub turned : (p q : List ℕ) → bytes_eq q p ≡ false → bytes_eq p q ≡ false
-turned p q e = go (bytes_eq p q) refl
-  where
-    go : (b : Bool) → bytes_eq p q ≡ b → b ≡ false
-    go true is = absurd (false≢true (sym e ∙ ap (λ r. bytes_eq q r) (by_text.same_is p q is) ∙ by_text.same_self q))
-    go false is = refl
 
 -- The rows have this edit at the path now, where one is given, and the directory has this file there, where that is given; at every
 -- other path both are as they were.
@@ -47,7 +39,7 @@ none-found false found = refl
 
 -- a file that is put
 pub file-others : (path : List ℕ) (bytes : Option (List ℕ)) (tree : Tree) (q : List ℕ) → bytes_eq q path ≡ false → with_file path bytes tree q ≡ tree q
-file-others path bytes tree q e = ap (λ b. cond b bytes (tree q)) (turned path q e)
+file-others path bytes tree q e = ap (λ b. cond b bytes (tree q)) (nat_list_eq_equiv.symm path q ∙ e)
 
 pub file-there : (path : List ℕ) (bytes : Option (List ℕ)) (tree : Tree) → with_file path bytes tree path ≡ bytes
 file-there path bytes tree = ap (λ b. cond b bytes (tree path)) (by_text.same_self path)

@@ -38,6 +38,7 @@ use Rattle.ae_received.proofs.Sent.{addition-leads, addition_by, file_put, file_
 
 -- ---- lists of edits
 
+-- what the edits of rows say of a path is what the rows say
 find-edits : (q : List ℕ) (files : List ChangeFile) → at by_text edit_path q (map edit_of files) ≡ edit_at files q
 find-edits q [] = refl
 find-edits q (file ∷ files) = go (bytes_eq q file.path) (find-edits q files)
@@ -47,6 +48,7 @@ find-edits q (file ∷ files) = go (bytes_eq q file.path) (find-edits q files)
     go true rest = refl
     go false rest = rest
 
+-- they ascend where the rows do
 edits-above : (q : List ℕ) (files : List ChangeFile) → Above text_cmp file_path q files → Above text_cmp edit_path q (map edit_of files)
 edits-above q [] above = tt
 edits-above q (file ∷ files) above = (above.0, edits-above q files above.1)
@@ -55,10 +57,12 @@ edits-ascend : (files : List ChangeFile) → Ascends text_cmp file_path files �
 edits-ascend [] up = tt
 edits-ascend (file ∷ files) up = (edits-above file.path files up.0, edits-ascend files up.1)
 
+-- what is so of each member is so of all
 all-by-members : {A : Type 0} (P : A → Type 0) (xs : List A) → ((x : A) → In xs x → P x) → AllByRecursion P xs
 all-by-members P [] all = tt
 all-by-members P (x ∷ xs) all = (all x (inl refl), all-by-members P xs (λ y member. all y (inr member)))
 
+-- what is received of a file is of its path
 received-path : (file : BundleFile) (removes : Bool) (there : Option TreeRow) (made : Edit) → received_by file removes there ≡ Some made → made.path ≡ file.path
 received-path file removes (Some row) made is = ap edit_path (sym (same_Some (edit file.path (cond removes Remove Modify) row.usage) made is))
 received-path file true None made is = none-some made is
@@ -76,6 +80,7 @@ additions stood number bundle = filter_map (addition stood number) bundle.files
 abbrev puts : ℕ → Bundle → List Act
 puts number bundle = filter_map (put number) bundle.files
 
+-- where no acts are left, no steps are
 no-more : (from : Point) (steps : List LineDone) → ActsRun from [] steps → stop from steps ≡ from
 no-more from [] runs = refl
 no-more from (step ∷ steps) runs = absurd runs
