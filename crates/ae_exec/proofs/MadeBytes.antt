@@ -1,5 +1,5 @@
 -- The versions of a legal log are bytes, since what a command sees is of its types.
-use Rattle.std.proofs.Common.{◌≡◌, inl, inr, ℕ, ◌-◌, refl, sym, ◌∙◌, ap, subst, List, [], ◌∷◌, map, length, get_or, Option, Some, None, Bool, true, false}
+use Rattle.std.proofs.Common.{◌≡◌, inl, inr, ℕ, ◌-◌, refl, sym, subst, List, [], ◌∷◌, map, length, get_or, Option, Some, None, Bool, true, false}
 use Rattle.std.specs.Prelude.{All, IfSome, find, if◌then◌else◌}
 use Rattle.std.proofs.lemmas.Bool.{cases_lt}
 use Rattle.std.proofs.lemmas.List.{get_or_past}

@@ -1,5 +1,5 @@
 -- A command that is planned on files that were brought up is so on those that were read before.
-use Rattle.std.proofs.Common.{◌≡◌, ℕ, List, [], ◌∷◌, Option, Some, None, sym, ◌∙◌, ap, subst}
+use Rattle.std.proofs.Common.{◌≡◌, ℕ, List, [], ◌∷◌, Option, Some, None, inl, inr, sym, ◌∙◌, ap, subst}
 use Rattle.std.specs.Prelude.{Bool, IsSomeAnd}
 use Rattle.ae_base.specs.declared.refusal.Refusal.{Refusal}
 use Rattle.ae_base.specs.declared.want.Want.{Want}
@@ -19,7 +19,7 @@ use Rattle.ae_machine.specs.declared.verdict.Verdict.TheVariants.{Accept, Refuse
 use Rattle.ae_words.specs.Wants.{want_of}
 use Rattle.ae_exec.specs.Bytes.{HaveBytes, bytes_at}
 use Rattle.ae_exec.specs.Endings.{IsDamagedAt, IsDamagedFor, store, version}
-use Rattle.ae_exec.specs.Migrated.{AreMigrated, IsBroughtUp, as_they_are, migrated, migrated_files, with_migration}
+use Rattle.ae_exec.specs.Migrated.{AreMigrated, IsBroughtUp, MayBeMigrated, as_they_are, migrated, migrated_files, with_migration}
 use Rattle.ae_exec.specs.Plan.{IsPlanned}
 use Rattle.ae_exec.specs.Reading.{AreKept, FirstIsLost, IsKept, IsLostAmong, asked_of, here, later, reads_of}
 use Rattle.ae_exec.specs.Seen.{CallsSite, CallsSiteOn, IsAnswer, IsRefused, IsRefusedOn, LosesVersion, accepted, answering, changing, reading}
@@ -54,7 +54,7 @@ module _ (a b : Option Image) (same : SameBytes a b) where
   are_kept [] kept = tt
   are_kept (v ∷ versions) kept = (is_kept v kept.0, are_kept versions kept.1)
 
-  first_lost : (versions : List VersionRef) → FirstIsLost a versions → FirstIsLost b versions
+  pub first_lost : (versions : List VersionRef) → FirstIsLost a versions → FirstIsLost b versions
   first_lost _ (here v versions lost) = here v versions (λ kept. lost (is_kept_back v kept))
   first_lost _ (later v versions kept lost) = later v versions (is_kept v kept) (first_lost versions lost)
 
@@ -82,7 +82,7 @@ planned_upward told a b o called status batch said same plan = record {
   made = plan.made;
 }
 
-lost_among : (f g : Image) (versions : List VersionRef) (name : List ℕ) → SameBytes (effective f) (effective g) → IsLostAmong f versions name → IsLostAmong g versions name
+pub lost_among : (f g : Image) (versions : List VersionRef) (name : List ℕ) → SameBytes (effective f) (effective g) → IsLostAmong f versions name → IsLostAmong g versions name
 lost_among f g versions name same lost = record { is_pack = lost.is_pack; first = first_lost (effective f) (effective g) same versions lost.first }
 
 loses_upward : (f g : Image) (o : Option Observation) (called : Called) (name : List ℕ) → SameBytes (effective f) (effective g) → LosesVersion f o called name → LosesVersion g o called name
@@ -156,3 +156,8 @@ migrated_alike base disk (o, is, same) =
 pub upward_alike : (base disk : Image) → IsBroughtUp base (effective base) (effective disk) → ShowAlike disk base
 upward_alike base disk (as_they_are needs same) = same_alike disk base same
 upward_alike base disk (migrated is) = migrated_alike base disk is
+
+-- a call that changes nothing leaves files that show the same
+pub unchanged_alike : (base disk : Image) → MayBeMigrated base (effective base) (effective disk) → ShowAlike disk base
+unchanged_alike base disk (inl same) = same_alike disk base same
+unchanged_alike base disk (inr is) = migrated_alike base disk is

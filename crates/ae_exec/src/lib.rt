@@ -28,6 +28,7 @@ pub use laws::{
     note_whole, performed_is_legal, placing_is_in_space, released_files_are_evident,
     versions_are_carried,
 };
-pub use performing::{Performed, perform};
+pub use performing::{Performed, outcome_of_stop, perform};
 pub use project::load_project;
+pub use stop::Stop;
 pub use version::read_version;

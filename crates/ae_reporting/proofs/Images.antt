@@ -1,15 +1,13 @@
 -- What a report is answered on an image.
-use Rattle.std.proofs.Common.{◌≡◌, ◌∙◌, sym, subst, ℕ, List, Option, Some, None, IfOk, IfErr, Result, Ok, Err}
+use Rattle.std.proofs.Common.{◌≡◌, subst, ℕ, List, Option, IfOk, IfErr, Result, Ok, Err}
 use Rattle.ae_base.specs.declared.outcome.Outcome.{Outcome}
 use Rattle.ae_base.specs.declared.want.Want.TheVariants.{All as Everything}
 use Rattle.ae_outside.specs.Image.{Image}
 use Rattle.ae_outside.specs.Site.{SiteState}
 use Rattle.ae_types.specs.Observation.{Observation}
-use Rattle.ae_store.specs.Answers.{IsNamed}
 use Rattle.ae_log.specs.Observed.{observation}
-use Rattle.ae_exec.specs.Endings.{IsDamagedAt, body, damaged, disk_fault, done, memory, record_of, refused, run_failed, site_fault}
-use Rattle.ae_exec.proofs.Completing.{never_damaged}
-use Rattle.ae_exec.proofs.Showing.{one_named}
+use Rattle.ae_exec.specs.Endings.{IsDamagedAt, damaged, disk_fault, done, memory, refused, run_failed, site_fault}
+use Rattle.ae_exec.proofs.Completing.{damaged_once, never_damaged}
 use Rattle.ae_exec.proofs.Standing.{shows}
 use Rattle.ae_exec.proofs.Stores.{one}
 use Rattle.ae_reporting.specs.Answers.{FailsAs, IsAnswered, IsFoundDamaged, IsNamedSo, IsRefusedSo, IsReported, file_at}
@@ -32,15 +30,6 @@ pub report_is_of_log : ReportIsOfLog
 report_is_of_log image site asked log answer stands (o, shown, is) =
     subst (λ (x : Option Observation). Reports x asked (file_at asked.path site) answer) (one Everything image o (observation log) shown (shows image log stands)) is
 
--- one file is named
-damage_once : (image : Image) (name other : List ℕ) → IsDamagedAt Everything image name → IsDamagedAt Everything image other → name ≡ other
-damage_once image name other (body none is) (body nothing was) = is ∙ sym was
-damage_once image name other (body none is) (record_of files there named) = absurd (let both : None ≡ Some files = sym none ∙ there in cc)
-damage_once image name other (record_of files there named) (body none is) = absurd (let both : None ≡ Some files = sym none ∙ there in cc)
-damage_once image name other (record_of files there named) (record_of others here worse) =
-    let same : others ≡ files = let both : Some others ≡ Some files = sym here ∙ there in cc in
-    one_named Everything files name other named (subst (λ (f : Image). IsNamed Everything f other) same worse)
-
 -- ---- what is so is answered
 
 module _ (disk_told site_told : Type 0) (image : Image) (site : SiteState) (asked : Asked) (disk_rose site_rose : Type 0) where
@@ -62,7 +51,7 @@ module _ (disk_told site_told : Type 0) (image : Image) (site : SiteState) (aske
   only_named _ (done is) disk_tells site_tells name broken = absurd is
   only_named _ (run_failed is) disk_tells site_tells name broken = absurd is
   only_named _ (refused refusal is) disk_tells site_tells name broken = absurd (damaged_has_none image site asked (Err refusal) name (is disk_tells site_tells) broken)
-  only_named _ (damaged other is) disk_tells site_tells name broken = damage_once image name other broken (is disk_tells)
+  only_named _ (damaged other is) disk_tells site_tells name broken = damaged_once Everything image name other broken (is disk_tells)
   only_named _ (disk_fault rose) disk_tells site_tells name broken = tt
   only_named _ (site_fault rose) disk_tells site_tells name broken = let reads = rose.1 disk_tells in absurd (never_damaged Everything image reads.0 name reads.2 broken)
   only_named _ memory disk_tells site_tells name broken = tt

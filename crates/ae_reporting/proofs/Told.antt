@@ -1,5 +1,5 @@
 -- How a call ended that told a report, and by which causes.
-use Rattle.std.proofs.Common.{◌≡◌, ◌⊎◌, ◌∙◌, inl, inr, sym, subst, ℕ, List, IfOk, IfErr, Result, Ok, Err}
+use Rattle.std.proofs.Common.{◌≡◌, ◌⊎◌, ◌∙◌, ◌++◌, inl, inr, sym, subst, ℕ, List, IfOk, IfErr, Result, Ok, Err}
 use Rattle.ae_base.specs.declared.outcome.Outcome.{Outcome}
 use Rattle.ae_base.specs.declared.outcome.Outcome.TheVariants.{Done}
 use Rattle.ae_base.specs.declared.refusal.Refusal.{Refusal}
@@ -8,9 +8,10 @@ use Rattle.ae_outside.specs.Site.{SiteState}
 use Rattle.ae_telling.specs.Answered.{IsAnswerTold, IsMeant}
 use Rattle.ae_telling.specs.Answered as answer
 use Rattle.ae_telling.specs.Telling.{IsSaid, SinkUse, unless_told}
-use Rattle.ae_exec.specs.Endings.{EndsAs, MayEnd, damaged, disk_fault, done, memory, refused, run_failed, site_fault}
+use Rattle.ae_base.specs.declared.want.Want.TheVariants.{All}
+use Rattle.ae_exec.specs.Endings.{EndsAs, IsDamagedAt, MayEnd, damaged, disk_fault, done, memory, refused, run_failed, site_fault}
 use Rattle.ae_exec.proofs.Endings.{ends_for}
-use Rattle.ae_reporting.specs.Answers.{FailsAs, IsReported}
+use Rattle.ae_reporting.specs.Answers.{IsReported, ReadsFile}
 use Rattle.ae_reporting.specs.Reports.{Asked}
 use Rattle.ae_reporting.specs.Telling.{IsDoneSo, IsReportTold}
 
@@ -44,40 +45,51 @@ either_done : (meant result : Outcome) (rose : Type 0) → (result ≡ meant) �
 either_done meant result rose (inl same) is = inl (sym same ∙ is)
 either_done meant result rose (inr left) is = inr (sym left.0 ∙ is)
 
-module _ (disk_told site_told : Type 0) (image : Image) (site : SiteState) (asked : Asked) (disk_rose site_rose : Type 0) (out err : SinkUse) (result : Outcome) where
-  abbrev Fails : Outcome → Type 0
-  Fails = FailsAs disk_told site_told image site asked disk_rose site_rose
+-- ---- any answer that is told
 
-  fails_of : (answered : Result (List ℕ) Outcome) (why : Outcome) → answered ≡ Err why → IfErr answered Fails → Fails why
-  fails_of answered why is fails = subst (λ (r : Result (List ℕ) Outcome). IfErr r Fails) is fails
+module _ (out err : SinkUse) (result : Outcome) (R : Refusal → Type 0) (M : List ℕ → Type 0) (X U : Type 0) (answered : Result (List ℕ) Outcome) (fails : IfErr answered (EndsAs ⊥ ⊥ R M X U)) where
+  fails_of : (why : Outcome) → answered ≡ Err why → EndsAs ⊥ ⊥ R M X U why
+  fails_of why is = subst (λ (r : Result (List ℕ) Outcome). IfErr r (EndsAs ⊥ ⊥ R M X U)) is fails
 
-  ended_by : (answered : Result (List ℕ) Outcome) → IfErr answered Fails → IsAnswerTold answered out err result → Ended disk_rose site_rose out err result
-  ended_by answered fails (answer.done text is told quiet) = record {
+  -- the causes of the result
+  pub answer_ended : (Y V : Type 0) → (X → Y) → (U → V) → IsAnswerTold answered out err result → Ended Y V out err result
+  answer_ended Y V disk site (answer.done text is told quiet) = record {
     meant = Done;
     may_end = done tt;
     how = elim told.how [ inl same ↦ inl same | inr left ↦ inr (left.0, inl left.1) ];
   }
-  ended_by answered fails (answer.stopped why meant is may told quiet) = record {
+  answer_ended Y V disk site (answer.stopped why meant is may told quiet) = record {
     meant = meant;
-    may_end = ends_for meant (meant_ends why meant (fails_of answered why is fails) may) (λ none. tt) (λ refusal so. tt) (λ name so. tt) (λ rose. rose) (λ rose. rose.0);
+    may_end = ends_for meant (meant_ends why meant (fails_of why is) may) (λ none. tt) (λ refusal so. tt) (λ name so. tt) disk site;
     how = elim told.how [ inl same ↦ inl same | inr left ↦ inr (left.0, inr left.1) ];
   }
 
-  -- the causes of the result
+  -- once it is done the answer is a text, and `out` has taken it
+  pub done_text : IsAnswerTold answered out err result → result ≡ Done → (text : List ℕ) × (answered ≡ Ok text) × (out.told → out.after ≡ out.before ++ text)
+  done_text (answer.done text is told quiet) ended_so = (text, is, λ tells. subst (λ (o : Outcome). IsSaid text o out.before out.after out.rose) ended_so (told.said tells))
+  done_text (answer.stopped why meant is may told quiet) ended_so =
+      absurd (never_done meant (meant_ends why meant (fails_of why is) may) (either_done meant result err.rose told.how ended_so))
+
+-- ---- a report
+
+module _ (disk_told site_told : Type 0) (image : Image) (site : SiteState) (asked : Asked) (disk_rose site_rose : Type 0) (out err : SinkUse) (result : Outcome) where
+  abbrev RefusedSo : Refusal → Type 0
+  RefusedSo refusal = disk_told → site_told → IsReported image site asked (Err refusal)
+
+  abbrev BrokenSo : List ℕ → Type 0
+  BrokenSo name = disk_told → IsDamagedAt All image name
+
+  abbrev FailedSo : Type 0
+  FailedSo = site_rose × (disk_told → ReadsFile image asked)
+
   pub ended : IsReportTold disk_told site_told image site asked disk_rose site_rose out err result → Ended disk_rose site_rose out err result
-  ended t = ended_by t.answer t.fails t.told
-
-  abbrev Printed : Result (List ℕ) Outcome → Type 0
-  Printed answered = IfOk answered (λ (lines : List ℕ). disk_told → site_told → IsReported image site asked (Ok lines))
-
-  done_by : (answered : Result (List ℕ) Outcome) → Printed answered → IfErr answered Fails → IsAnswerTold answered out err result → IsDoneSo disk_told site_told image site asked out result
-  done_by answered printed fails (answer.done text is told quiet) ended_so = record {
-    lines = text;
-    printed = subst Printed is printed;
-    taken = λ tells. subst (λ (o : Outcome). IsSaid text o out.before out.after out.rose) ended_so (told.said tells);
-  }
-  done_by answered printed fails (answer.stopped why meant is may told quiet) ended_so =
-      absurd (never_done meant (meant_ends why meant (fails_of answered why is fails) may) (either_done meant result err.rose told.how ended_so))
+  ended t = answer_ended out err result RefusedSo BrokenSo disk_rose FailedSo t.answer t.fails disk_rose site_rose (λ rose. rose) (λ rose. rose.0) t.told
 
   pub done_so : IsReportTold disk_told site_told image site asked disk_rose site_rose out err result → IsDoneSo disk_told site_told image site asked out result
-  done_so t = done_by t.answer t.printed t.fails t.told
+  done_so t ended_so =
+      let made = done_text out err result RefusedSo BrokenSo disk_rose FailedSo t.answer t.fails t.told ended_so in
+      record {
+        lines = made.0;
+        printed = subst (λ (answered : Result (List ℕ) Outcome). IfOk answered (λ (lines : List ℕ). disk_told → site_told → IsReported image site asked (Ok lines))) made.1 t.printed;
+        taken = made.2;
+      }

@@ -13,7 +13,7 @@ ghost use Rattle.ae_reporting.specs.Reports.{Answer, Reports, is_asked};
 use crate::asked::AskedReport;
 use crate::file::read_file;
 use crate::printing::print;
-use ae_base::{Outcome, Refusal, Text};
+use ae_base::{Outcome, Refusal, Text, Want};
 use ae_exec::load_project;
 use ae_outside::{Disk, Site};
 use ae_types::State;
@@ -98,7 +98,7 @@ pub fn report<D: Disk, S: Site>(
     ensures disk_faults { D.faults disk.old ≤ D.faults disk.new }
     ensures site_faults { S.faults site.old ≤ S.faults site.new }
 {
-    match load_project(alloc, disk) {
+    match load_project(alloc, disk, Want::All) {
         Ok(Some(state)) => report_last(alloc, state, site, asked),
         Ok(None) => Err(Outcome::Refused(Refusal::NoProject)),
         Err(why) => Err(why),

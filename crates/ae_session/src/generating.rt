@@ -22,7 +22,7 @@ ghost use Rattle.ae_session.specs.Summary.{FailsToRead, HasBuilds, IsSummary, Su
 use crate::builds::count_builds;
 use crate::stored::Stored;
 use crate::summary::summary;
-use ae_base::{Outcome, Refusal, Text};
+use ae_base::{Outcome, Refusal, Text, Want};
 use ae_exec::load_project;
 use ae_generator::generated;
 use ae_outside::{Disk, Sink, Site};
@@ -90,7 +90,7 @@ fn read_summary<D: Disk>(alloc: Global, runs: u64, disk: &mut D) -> Result<Text,
     ensures disk { D.tells → LeavesDisk (D.state disk.old) (D.state disk.new) (Unit {0}) }
     ensures disk_faults { D.faults disk.old ≤ D.faults disk.new }
 {
-    match load_project(alloc, disk) {
+    match load_project(alloc, disk, Want::All) {
         Ok(Some(state)) => summary_of(alloc, state, runs),
         Ok(None) => Err(Outcome::Refused(Refusal::NoProject)),
         Err(why) => Err(why),
