@@ -1,45 +1,40 @@
--- Errors as answers.
-use Rattle.std.proofs.Common.{◌≡◌, ℕ, List, Err, subst, sym}
+-- Answers with their causes.
+use Rattle.std.specs.Prelude.{◌≡◌, ℕ, List, Result, Ok, Err, IfErr}
+use Rattle.std.proofs.Common.{inl, inr, refl}
+use Rattle.ae_base.specs.declared.outcome.Outcome.{Outcome}
+use Rattle.ae_base.specs.declared.outcome.Outcome.TheVariants as outcome
 use Rattle.ae_base.specs.declared.refusal.Refusal.{Refusal}
-use Rattle.ae_dist.specs.Answers.{Answers, IsNamedSo, Stops}
-use Rattle.ae_dist.specs.declared.error.DistError.{DistError}
-use Rattle.ae_dist.specs.declared.error.DistError.TheVariants.{Refused, Damaged, DiskFault, Memory}
+use Rattle.ae_exec.specs.Endings.{EndsAs, disk_fault, memory, site_fault}
+use Rattle.ae_exec.specs.Endings as ends
+use Rattle.ae_telling.specs.Telling.{IsOfCommand}
+use Rattle.ae_dist.specs.Answers.{Answers, IsAnswered, Says, damaged, done, refused}
 
--- a damaged file that is named, unless memory runs out
-pub named_so : {A : Type 0} (is_done : A → Type 0) (is_refused : Refusal → Type 0) (is_damaged : List ℕ → Type 0) (rose : Type 0) (name : List ℕ) (error : DistError)
-    → IsNamedSo name error → ((told : List ℕ) → told ≡ name → is_damaged told) → Answers is_done is_refused is_damaged rose (Err error)
-named_so is_done is_refused is_damaged rose name (Refused refusal) named each = absurd named
-named_so is_done is_refused is_damaged rose name (Damaged told) named each = each told named
-named_so is_done is_refused is_damaged rose name DiskFault named each = absurd named
-named_so is_done is_refused is_damaged rose name Memory named each = tt
+-- what isn't done is a command's outcome
+of_command : {R : Refusal → Type 0} {M : List ℕ → Type 0} {X : Type 0} (why : Outcome) → EndsAs ⊥ ⊥ R M X ⊥ why → IsOfCommand why
+of_command _ (ends.done is) = absurd is
+of_command _ (ends.run_failed is) = absurd is
+of_command _ (ends.refused refusal is) = tt
+of_command _ (ends.damaged name is) = tt
+of_command _ (disk_fault rose) = tt
+of_command _ (site_fault rose) = absurd rose
+of_command _ memory = tt
 
--- an error of a step, as one of the whole
-pub failed_as : {A B : Type 0} (done_a : A → Type 0) (done_b : B → Type 0) (refused_a refused_b : Refusal → Type 0) (damaged_a damaged_b : List ℕ → Type 0) (rose : Type 0) (error : DistError)
-    → ((refusal : Refusal) → refused_a refusal → refused_b refusal) → ((name : List ℕ) → damaged_a name → damaged_b name) → Answers done_a refused_a damaged_a rose (Err error) → Answers done_b refused_b damaged_b rose (Err error)
-failed_as done_a done_b refused_a refused_b damaged_a damaged_b rose (Refused refusal) refuses damages answers = refuses refusal answers
-failed_as done_a done_b refused_a refused_b damaged_a damaged_b rose (Damaged name) refuses damages answers = damages name answers
-failed_as done_a done_b refused_a refused_b damaged_a damaged_b rose DiskFault refuses damages answers = answers
-failed_as done_a done_b refused_a refused_b damaged_a damaged_b rose Memory refuses damages answers = tt
+pub fails_of_command : {A : Type 0} (S : A → Type 0) (R : Refusal → Type 0) (M : List ℕ → Type 0) (X : Type 0) (result : Result A Outcome) → Answers S R M X result → IfErr result IsOfCommand
+fails_of_command S R M X (Ok value) is = tt
+fails_of_command S R M X (Err why) is = of_command why is
 
--- a step that refuses nothing ends the whole
-pub stopped : {A : Type 0} (is_done : A → Type 0) (is_refused : Refusal → Type 0) (damaged_then is_damaged : List ℕ → Type 0) (rose_then rose : Type 0) (error : DistError)
-    → ((name : List ℕ) → damaged_then name → is_damaged name) → (rose_then → rose) → Stops damaged_then rose_then error → Answers is_done is_refused is_damaged rose (Err error)
-stopped is_done is_refused damaged_then is_damaged rose_then rose (Refused refusal) named failed stops = absurd stops
-stopped is_done is_refused damaged_then is_damaged rose_then rose (Damaged name) named failed stops = named name stops
-stopped is_done is_refused damaged_then is_damaged rose_then rose DiskFault named failed stops = failed stops
-stopped is_done is_refused damaged_then is_damaged rose_then rose Memory named failed stops = tt
+-- what the files say is answered, where they say one thing alone
+module _ {A : Type 0} (S : A → Type 0) (R : Refusal → Type 0) (M : List ℕ → Type 0) (once : (one other : Result A Outcome) → Says S R M one → Says S R M other → one ≡ other) (told rose : Type 0) (tells : told) where
+  only_failed : (why : Outcome) → EndsAs ⊥ ⊥ (λ (refusal : Refusal). told → R refusal) (λ (name : List ℕ). told → M name) rose ⊥ why → (said : Result A Outcome) → Says S R M said → IsAnswered said (Err why)
+  only_failed _ (ends.done is) said so = absurd is
+  only_failed _ (ends.run_failed is) said so = absurd is
+  only_failed _ (ends.refused refusal is) said so = inl (once (Err (outcome.Refused refusal)) said (refused refusal (is tells)) so)
+  only_failed _ (ends.damaged name is) said so = inl (once (Err (outcome.Damaged name)) said (damaged name (is tells)) so)
+  only_failed _ (disk_fault failed) said so = inr (inl refl)
+  only_failed _ (site_fault failed) said so = absurd failed
+  only_failed _ memory said so = inr (inr refl)
 
--- and so it ends a step of which it is a part
-pub stops_for : (damaged_then is_damaged : List ℕ → Type 0) (rose_then rose : Type 0) (error : DistError)
-    → ((name : List ℕ) → damaged_then name → is_damaged name) → (rose_then → rose) → Stops damaged_then rose_then error → Stops is_damaged rose error
-stops_for damaged_then is_damaged rose_then rose (Refused refusal) named failed stops = absurd stops
-stops_for damaged_then is_damaged rose_then rose (Damaged name) named failed stops = named name stops
-stops_for damaged_then is_damaged rose_then rose DiskFault named failed stops = failed stops
-stops_for damaged_then is_damaged rose_then rose Memory named failed stops = tt
-
--- a damaged file that is named
-pub stops_named : (is_damaged : List ℕ → Type 0) (rose : Type 0) (name : List ℕ) (error : DistError) → IsNamedSo name error → is_damaged name → Stops is_damaged rose error
-stops_named is_damaged rose name (Refused refusal) named is = absurd named
-stops_named is_damaged rose name (Damaged told) named is = subst is_damaged (sym named) is
-stops_named is_damaged rose name DiskFault named is = absurd named
-stops_named is_damaged rose name Memory named is = tt
+  pub only_said : (result : Result A Outcome) → Answers (λ (value : A). told → S value) (λ (refusal : Refusal). told → R refusal) (λ (name : List ℕ). told → M name) rose result
+      → (said : Result A Outcome) → Says S R M said → IsAnswered said result
+  only_said (Ok value) is said so = inl (once (Ok value) said (done value (is tells)) so)
+  only_said (Err why) is said so = only_failed why is said so

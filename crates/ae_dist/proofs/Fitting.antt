@@ -17,8 +17,7 @@ use Rattle.ae_bundle.specs.Bundled.{Fits, FileFits, FitsFile, bundle_path, bytes
 use Rattle.ae_dist.specs.declared.rows.Row.{Row}
 use Rattle.ae_dist.specs.declared.sending.Head.{Head}
 use Rattle.ae_dist.specs.Sending.{path_of_row, row_fits, size_of, sizes_of}
-use Rattle.ae_dist.specs.Answers.{AreGood, file_key, row_key}
-use Rattle.ae_dist.proofs.Outcomes.{HasHead}
+use Rattle.ae_dist.specs.Steps.{AreGood, HasHead, file_key, row_key}
 
 abbrev Key : Type 0
 Key = List ℕ × (Action × (Usage × ℕ))
@@ -89,8 +88,8 @@ good_fits head rows bundle good paths is same =
     record {
       some = omega (arith, many, good.some);
       limits = record {
-        brief = subst (λ (text : List ℕ). length text ≤ 65536) (sym is.0) good.brief;
-        description = subst (λ (text : List ℕ). length text ≤ 65536) (sym is.1.0) good.description;
+        brief = subst (λ (text : List ℕ). length text ≤ 65536) (sym is.brief) good.brief;
+        description = subst (λ (text : List ℕ). length text ≤ 65536) (sym is.description) good.description;
         few = omega (arith, many, good.few);
         ascend = ascend rows bundle.files same good.ascend;
         files = all_fit rows bundle.files same paths good.fit;

@@ -20,7 +20,8 @@ use Rattle.ae_types.specs.Versions.{in_table}
 use Rattle.ae_dist.specs.declared.rows.Row.{Row}
 use Rattle.ae_dist.specs.declared.sending.Head.{Head}
 use Rattle.ae_dist.specs.Sending.{can_be_sent, delta_made, path_of_row, row_fits, sent_row, sent_rows, sizes_of, version_at}
-use Rattle.ae_dist.specs.Answers.{AreGood, IsHead, IsInside}
+use Rattle.ae_exec.specs.Reading.{IsInside}
+use Rattle.ae_dist.specs.Steps.{AreGood, IsHead}
 
 -- ---- their paths ascend
 

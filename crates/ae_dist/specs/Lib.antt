@@ -1,4 +1,7 @@
 pub mod Answers
-pub mod Errors
+pub mod Laws
 pub mod Plan
+pub mod Receiving
 pub mod Sending
+pub mod Steps
+pub mod Telling

@@ -1,6 +1,7 @@
 -- How a change is made of a change set: what is done, one after the other.
 use Rattle.std.specs.Prelude.{◌≡◌, ℕ, Bool, false, ◌&&◌, not, if◌then◌else◌, List, [], ◌∷◌, ◌++◌, Option, Some, None, is_some, codes, find}
 use Rattle.std.specs.List.{filter_map}
+use Rattle.std.specs.Option.{option_and_then}
 use Rattle.std.specs.Str.{bytes_eq}
 use Rattle.ae_base.specs.Limits.{most_changes}
 use Rattle.ae_base.specs.Words.{cause_word}
@@ -22,7 +23,7 @@ use Rattle.ae_words.specs.declared.table.Function.{Function}
 use Rattle.ae_words.specs.declared.table.Function.TheVariants as function
 use Rattle.ae_bundle.specs.declared.bundle.Bundle.{Bundle}
 use Rattle.ae_bundle.specs.declared.bundle.BundleFile.{BundleFile}
-use Rattle.ae_dist.specs.Sending.{refuses_project}
+use Rattle.ae_dist.specs.Sending.{or_refuses, refuses_project}
 use Rattle.ae_lines.specs.declared.act.Act.{Act}
 use Rattle.ae_lines.specs.declared.act.Act.TheVariants.{Run, Put}
 
@@ -106,6 +107,12 @@ put number file = if is_remove file.action then None else Some (Put (Develop num
 
 -- ---- the plan
 
+-- all that is done but for the files' bytes
+abbrev pub commands_of : Observation → ℕ → Bundle → List Act
+commands_of o number bundle =
+    Put Here attributes_path (attributes_text bundle) ∷ Run new_change ∷ Run (begin number)
+    ∷ (filter_map (removal o number) bundle.files ++ filter_map (addition o number) bundle.files)
+
 abbrev pub plan_of : Observation → ℕ → Bundle → List Act
 plan_of o number bundle =
     Put Here attributes_path (attributes_text bundle) ∷ Run new_change ∷ Run (begin number)
@@ -114,6 +121,13 @@ plan_of o number bundle =
 -- there is no room for one more change
 abbrev pub no_room : Refusal
 no_room = Limit Changes most_changes
+
+abbrev pub refuses_numbers : Observation → Option Refusal
+refuses_numbers o = if is_some (free_number o) then None else Some no_room
+
+-- why there is no plan for what stands, for a call that names a project, or none: the first of these reasons
+abbrev pub refuses_plan : Option (List ℕ) → Option Observation → Option Refusal
+refuses_plan name stands = or_refuses (refuses_project name stands) (option_and_then refuses_numbers stands)
 
 -- the files say that this is the plan: of the least free number
 pub record IsPlan (o : Observation) (name : Option (List ℕ)) (bundle : Bundle) (acts : List Act) : Type 0 where

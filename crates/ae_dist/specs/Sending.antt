@@ -1,5 +1,5 @@
 -- What is sent of a completed change.
-use Rattle.std.specs.Prelude.{◌≡◌, ◌+◌, ℕ, Bool, false, ◌&&◌, not, if◌then◌else◌, List, [], ◌∷◌, map, Option, Some, None, length, nat_le, codes}
+use Rattle.std.specs.Prelude.{◌+◌, ℕ, Bool, false, ◌&&◌, not, if◌then◌else◌, List, [], ◌∷◌, map, Option, Some, None, length, nat_le, codes}
 use Rattle.std.specs.List.{list_all, filter_map}
 use Rattle.std.specs.Option.{option_map_or, option_and_then}
 use Rattle.std.specs.Str.{bytes_eq}
@@ -7,7 +7,6 @@ use Rattle.ae_base.specs.Limits.{most_attribute_bytes, most_change_files, most_f
 use Rattle.ae_base.specs.declared.refusal.Refusal.{Refusal}
 use Rattle.ae_base.specs.declared.refusal.Refusal.TheVariants.{NoProject, WrongProject, NoSuchChange, WrongPhase, BadBundle}
 use Rattle.ae_outside.specs.Image.{Image}
-use Rattle.ae_vault.specs.Pieces.{pack}
 use Rattle.ae_types.specs.declared.change.Change.{Change}
 use Rattle.ae_types.specs.declared.change.ChangeFile.{ChangeFile}
 use Rattle.ae_types.specs.declared.file_table.FileVersion.{FileVersion}
@@ -18,7 +17,7 @@ use Rattle.ae_types.specs.Observation.{Observation}
 use Rattle.ae_types.specs.Phases.{is_completed}
 use Rattle.ae_types.specs.Rules.{same_bool}
 use Rattle.ae_types.specs.Trees.{past_of}
-use Rattle.ae_history.specs.Packed.{bytes_at}
+use Rattle.ae_exec.specs.Bytes.{bytes_at}
 use Rattle.ae_dist.specs.declared.rows.Row.{Row}
 use Rattle.ae_bundle.specs.declared.bundle.Bundle.{Bundle}
 use Rattle.ae_bundle.specs.declared.bundle.BundleFile.{BundleFile}
@@ -55,7 +54,7 @@ abbrev pub sizes_of : List Row → ℕ
 sizes_of [] = 0
 sizes_of (row ∷ rows) = size_of row + sizes_of rows
 
--- its records alone say that a text of a change set can say it
+-- its records alone say that a text of a change set can say it, before any version is read
 abbrev pub can_be_sent : Change → List Row → Bool
 can_be_sent change rows =
     nat_le (length change.attributes.brief) most_attribute_bytes && nat_le (length change.attributes.description) most_attribute_bytes
@@ -79,28 +78,29 @@ abbrev pub refuses_project : Option (List ℕ) → Option Observation → Option
 refuses_project name None = Some NoProject
 refuses_project name (Some o) = if is_other name o then Some WrongProject else None
 
+-- the first reason, and the second where there is no first
+abbrev pub or_refuses : Option Refusal → Option Refusal → Option Refusal
+or_refuses (Some refusal) next = Some refusal
+or_refuses None next = next
+
+-- why the change of this number isn't sent of what stands, for a call that names a project, or none: the first of these reasons
+abbrev pub refuses_sending : Option (List ℕ) → ℕ → Option Observation → Option Refusal
+refuses_sending name number stands = or_refuses (refuses_project name stands) (option_and_then (λ (o : Observation). refuses_change o (change_at o number)) stands)
+
 -- ---- the change set
 
 -- the versions that are read, in their order
 abbrev pub versions_of : List Row → List VersionRef
 versions_of rows = filter_map (λ (row : Row). row.version) rows
 
--- a file with the bytes of its version
-abbrev pub sent_file : List ℕ → Row → BundleFile
-sent_file packed row = record { path = row.path; action = row.action; usage = row.usage; bytes = option_map_or (bytes_at packed) row.version [] }
+-- a file with the bytes that these files of the disk have of its version
+abbrev pub sent_file : Option Image → Row → BundleFile
+sent_file files row = record { path = row.path; action = row.action; usage = row.usage; bytes = option_map_or (bytes_at files) row.version [] }
 
-abbrev pub sent_bundle : List ℕ → Change → List Row → Bundle
-sent_bundle packed change rows = record {
+abbrev pub sent_bundle : Option Image → Change → List Row → Bundle
+sent_bundle files change rows = record {
   brief = change.attributes.brief;
   description = change.attributes.description;
   cause = change.attributes.cause;
-  files = map (sent_file packed) rows;
+  files = map (sent_file files) rows;
 }
-
--- the files say that this change of the project can be sent, and this is what is sent of it
-pub record IsSent (files : Image) (o : Observation) (name : Option (List ℕ)) (number : ℕ) (bundle : Bundle) : Type 0 where
-  pub change : Change
-  pub there : change_at o number ≡ Some change
-  pub named : refuses_project name (Some o) ≡ None
-  pub sendable : refuses_change o (Some change) ≡ None
-  pub is : bundle ≡ sent_bundle (files pack) change (sent_rows o change)

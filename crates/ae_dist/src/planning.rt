@@ -1,22 +1,28 @@
 // How a change is made of a change set.
-ghost use Rattle.std.specs.Prelude.{◌≡◌, ◌≤◌, ◌++◌, ◌∷◌, [], map, option_copied, IfOk, OnOk, find};
+ghost use Rattle.std.specs.Prelude.{◌≡◌, ◌≤◌, ◌++◌, ◌∷◌, [], map, option_copied, IfOk, List, OnOk, Result, find};
 ghost use Rattle.std.specs.List.{filter_map, cons_option};
 ghost use Rattle.std.specs.Ordering.{nat_cmp};
 ghost use Rattle.ae_log.specs.Settings.{change_numbers};
+ghost use Rattle.ae_base.specs.declared.outcome.Outcome.{Outcome};
+ghost use Rattle.ae_exec.specs.Endings.{IsDamagedAt};
+ghost use Rattle.ae_exec.specs.Performs.{LeavesDisk};
+ghost use Rattle.ae_lines.specs.declared.act.Act.{Act};
 ghost use Rattle.ae_outside.specs.State.{reads};
 ghost use Rattle.ae_text.specs.Tree.{fields};
 ghost use Rattle.ae_text.specs.View.{members_of, named_node, node};
 ghost use Rattle.ae_types.specs.Ordered.{Ascends, itself};
 ghost use Rattle.ae_types.specs.Phases.{is_remove};
 ghost use Rattle.ae_vault.specs.Disk.{DiskFailed};
-ghost use Rattle.ae_dist.specs.Answers.{Answers, IsPlanned, Plans, RefusesPlan, IsDamagedAt, LeavesStore};
-ghost use Rattle.ae_dist.specs.Plan.{adding, addition, attributes_of, attributes_path, attributes_text, begin, command, is_there, is_unused, new_change, on_path, plan_of, put, removal};
+ghost use Rattle.ae_dist.specs.Answers.{Answers, IsAnswered, IsPlanning, Plans, RefusesPlan};
+ghost use Rattle.ae_dist.specs.Steps.{IsPlanned, IsSomePlan};
+ghost use Rattle.ae_dist.specs.Plan.{adding, addition, attributes_of, attributes_path, attributes_text, begin, command, commands_of, is_there, is_unused, new_change, on_path, plan_of, put, removal};
 
+use crate::ActList;
 use crate::opening::open_project;
-use crate::{ActList, DistError};
 use ae_base::limits::MOST_CHANGES;
 use ae_base::{
-    Action, ChangeNo, Path, PathList, ProjectName, Refusal, Text, Usage, UserList, Want, Which,
+    Action, ChangeNo, Outcome, Path, PathList, ProjectName, Refusal, Text, Usage, UserList, Want,
+    Which,
 };
 use ae_bundle::{Bundle, BundleFile};
 use ae_files::file_in_tree;
@@ -177,16 +183,15 @@ fn addition(
     Ok(Some(on_path(alloc, adding(state, file), number, &file.path)?))
 }
 
-// Its bytes are put into the develop directory.
-fn put(alloc: Global, number: ChangeNo, file: &BundleFile) -> Result<Option<Act>, AllocError>
-    ensures { IfOk result (λ act. act ≡ put number file.now) }
+// Its bytes are put into the develop directory; they are moved there.
+fn put(number: ChangeNo, file: BundleFile) -> Option<Act>
+    ensures { result ≡ put number file }
 {
-    if is_removed(file) {
-        return Ok(None);
+    if is_removed(&file) {
+        drop(file);
+        return None;
     }
-    let path = file.path.copy(alloc)?;
-    let bytes = file.bytes.copy(alloc)?;
-    Ok(Some(Act::Put(Dir::Develop(number), path, bytes)))
+    Some(Act::Put(Dir::Develop(number), file.path, file.bytes))
 }
 
 fn add_act(acts: &mut ActList, act: Option<Act>) -> Result<(), AllocError>
@@ -230,17 +235,11 @@ fn add_additions(
     Ok(())
 }
 
-fn add_puts(
-    acts: &mut ActList,
-    alloc: Global,
-    number: ChangeNo,
-    files: &[BundleFile],
-) -> Result<(), AllocError>
-    ensures { OnOk result (acts.new ≡ acts.old ++ filter_map (put number) files.now) }
+fn add_puts(acts: &mut ActList, number: ChangeNo, files: Vec<BundleFile>) -> Result<(), AllocError>
+    ensures { OnOk result (acts.new ≡ acts.old ++ filter_map (put number) files.items) }
 {
     for file in files {
-        let act = put(alloc, number, file)?;
-        add_act(acts, act)?;
+        add_act(acts, put(number, file))?;
     }
     Ok(())
 }
@@ -271,52 +270,74 @@ fn first_acts(alloc: Global, number: ChangeNo, bundle: &Bundle) -> Result<ActLis
     Ok(acts)
 }
 
-// The plan for a change of this number.
-fn acts_for(
+// The acts on the change's files but for their bytes.
+fn commands_for(
     alloc: Global,
     state: &State,
     number: ChangeNo,
     bundle: &Bundle,
 ) -> Result<ActList, AllocError>
-    ensures { IfOk result (λ acts. acts ≡ plan_of state.now number bundle.now) }
+    ensures { IfOk result (λ acts. acts ≡ commands_of state.now number bundle.now) }
 {
     let mut acts = first_acts(alloc, number, bundle)?;
     let files = bundle.files.as_slice();
     add_removals(&mut acts, alloc, state, number, files)?;
     add_additions(&mut acts, alloc, state, number, files)?;
-    add_puts(&mut acts, alloc, number, files)?;
+    Ok(acts)
+}
+
+// The plan for a change of this number.
+fn acts_for(
+    alloc: Global,
+    state: &State,
+    number: ChangeNo,
+    bundle: Bundle,
+) -> Result<ActList, AllocError>
+    ensures { IfOk result (λ acts. acts ≡ plan_of state.now number bundle) }
+{
+    let mut acts = commands_for(alloc, state, number, &bundle)?;
+    add_puts(&mut acts, number, bundle.files.into_vec())?;
     Ok(acts)
 }
 
 // The plan for the least number that is free.
-fn acts_of(alloc: Global, state: &State, bundle: &Bundle) -> Result<ActList, DistError>
-    ensures { IsPlanned state.now bundle.now result }
+fn acts_of(alloc: Global, state: &State, bundle: Bundle) -> Result<ActList, Outcome>
+    ensures { IsPlanned state.now bundle result }
 {
     state.note_sound();
     let Some(number) = free_number(state.numbers()) else {
-        return Err(DistError::Refused(Refusal::Limit(Which::Changes, MOST_CHANGES as u64)));
+        return Err(Outcome::Refused(Refusal::Limit(Which::Changes, MOST_CHANGES as u64)));
     };
-    Ok(acts_for(alloc, state, number, bundle)?)
+    match acts_for(alloc, state, number, bundle) {
+        Ok(acts) => Ok(acts),
+        Err(_) => Err(Outcome::Memory),
+    }
 }
 
-/// The plan of a change set, for the least number that is free.
+/// The plan of a change set, for the least number that is free. The store is opened as by a command; the bytes of the files are moved
+/// into the plan.
 pub fn plan<D: Disk>(
     alloc: Global,
     disk: &mut D,
     project: Option<&ProjectName>,
-    bundle: &Bundle,
-) -> Result<ActList, DistError>
-    // Each answer has its cause in the files that the disk read.
+    bundle: Bundle,
+) -> Result<ActList, Outcome>
+    // Each answer has its cause in the files that the disk read;
     ensures answer { Answers
-        (λ acts. D.tells → Plans (reads (D.state disk.old)) (option_copied project.entry) bundle.now acts)
+        (λ acts. D.tells → Plans (reads (D.state disk.old)) (option_copied project.entry) bundle acts)
         (λ refusal. D.tells → RefusesPlan (reads (D.state disk.old)) (option_copied project.entry) refusal)
         (λ name. D.tells → IsDamagedAt Want.Nothing (reads (D.state disk.old)) name)
         (DiskFailed D.Disk disk.old disk.new) result }
-    ensures disk { D.tells → LeavesStore (D.state disk.old) (D.state disk.new) }
+    // and what they say comes, unless the disk failed or memory ran out.
+    ensures only { D.tells → (said : Result (List Act) Outcome) →
+        IsPlanning (reads (D.state disk.old)) (option_copied project.entry) bundle said → IsAnswered said result }
+    // Acts that are answered are the plan of some project, whatever the disk tells.
+    ensures planned { IfOk result (IsSomePlan bundle) }
+    ensures disk { D.tells → LeavesDisk (D.state disk.old) (D.state disk.new) (Unit {0}) }
     ensures later { D.faults disk.old ≤ D.faults disk.new }
 {
     match open_project(alloc, disk, Want::Nothing, project) {
         Ok(state) => acts_of(alloc, &state, bundle),
-        Err(error) => Err(error),
+        Err(why) => Err(why),
     }
 }

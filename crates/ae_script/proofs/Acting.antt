@@ -149,7 +149,11 @@ module _ (d : Disks) (s : Sites) where
   after_caused : (disk_rose site_rose sink_rose : Type 0) (o : Outcome) (text : List ℕ) (rest : List Line) → AllDone rest o text → IsCaused disk_rose site_rose ⊥ sink_rose o
   after_caused disk_rose site_rose sink_rose o text rest all = subst (λ (x : Outcome). IsCaused disk_rose site_rose ⊥ sink_rose x) (sym all.1) tt
 
+  pub caused_by_acts : (sink : SinkUse) (manner : Manner) (acts : List Act) (from to : Stand d s) (result : Outcome) → ActsDone d s manner acts from to sink result
+      → IsCaused (HasRisen (d.faults from.disk) (d.faults to.disk)) (HasRisen (s.faults from.site) (s.faults to.site)) ⊥ sink.rose result
+  caused_by_acts sink manner acts from to result did =
+      subst (λ (p : Stand d s). IsCaused (HasRisen (d.faults from.disk) (d.faults p.disk)) (HasRisen (s.faults from.site) (s.faults p.site)) ⊥ sink.rose result) did.leads
+      (caused_end d s manner from did.done sink _ ⊥ result did.runs did.ends (λ r text all. after_caused _ _ sink.rose r text did.rest all))
+
   pub caused_acts : (o : Streams) → ActsAreCaused d s o
-  caused_acts o manner acts from to old new result did =
-      subst (λ (p : Stand d s). IsCaused (HasRisen (d.faults from.disk) (d.faults p.disk)) (HasRisen (s.faults from.site) (s.faults p.site)) ⊥ (HasRisen (o.faults old) (o.faults new)) result) did.leads
-      (caused_end d s manner from did.done (written_from o old new) _ ⊥ result did.runs did.ends (λ r text all. after_caused _ _ (HasRisen (o.faults old) (o.faults new)) r text did.rest all))
+  caused_acts o manner acts from to old new result did = caused_by_acts (written_from o old new) manner acts from to result did

@@ -1,17 +1,16 @@
 use Rattle.std.proofs.Common.{◌≡◌, ap, arith, le_refl, refl, rules, subst, ◌∙◌, List, take, map}
 use Rattle.std.proofs.lemmas.List.{take_all}
+use Rattle.std.specs.Prelude.{IfSome, Option, ◌++◌, ◌∷◌, []}
 use Rattle.ae_outside.proofs.Rising.{risen_later}
-use Rattle.ae_outside.specs.Causes.{HasRisen}
 use Rattle.ae_outside.specs.Image.{Image, IsSame}
 use Rattle.ae_outside.specs.State.{reads}
 use Rattle.ae_outside.specs.Time.{same_on, same_reads, goes_on_refl}
 use Rattle.ae_vault.specs.Vault.{effective}
-use Rattle.std.specs.Prelude.{IfSome, Some, ◌++◌, ◌∷◌, []}
+use Rattle.ae_exec.specs.Reading.{AreKept, IsInside}
+use Rattle.ae_exec.proofs.Endings.{ends_for}
 use Rattle.ae_dist.specs.declared.rows.Row.{Row}
 use Rattle.ae_dist.specs.Sending.{sent_file, versions_of}
-use Rattle.ae_vault.specs.Pieces.{pack}
-use Rattle.ae_dist.specs.Answers.{AreKept, AreReadFrom, IsInside, IsLostAmong, file_key, row_key}
-use Rattle.ae_dist.proofs.Answering.{stops_for}
+use Rattle.ae_dist.specs.Steps.{AreReadFrom, file_key, row_key}
 use Rattle.ae_dist.proofs.VersionsRead.{each_at, lost_among, read_next, sized_next}
 use Rattle.ae_dist.proofs.sending.files_of.Goals as goal
 
@@ -20,7 +19,7 @@ push_file-requires-clause-inside g c = each_at (λ (row : Row). IfSome row.versi
 
 pub loop-row-init : goal.loop-row-init
 loop-row-init g c = record {
-  files = λ tells files at. (c.new-files.ensures, tt);
+  files = λ tells. record { are = c.new-files.ensures; kept = tt };
   sized = ap (map file_key) c.new-files.ensures;
   same = λ tells. goes_on_refl IsSame (g.D.Disk.state c.args.disk.now) (λ image. refl);
   later = le_refl _;
@@ -28,11 +27,10 @@ loop-row-init g c = record {
 
 pub returns-in-Err-clause-stopped : goal.returns-in-Err-clause-stopped
 returns-in-Err-clause-stopped g c =
-    stops_for (λ name. g.D.Disk.tells → IsLostAmong (reads (g.D.Disk.state c.loop-row.disk)) (versions_of (c.row-item.result ∷ [])) name) (λ name. g.D.Disk.tells → IsLostAmong (reads (g.D.Disk.state c.args.disk.now)) (versions_of c.args.rows.now) name)
-    (HasRisen (g.D.Disk.faults c.loop-row.disk) (g.D.Disk.faults c.push_file.new.disk)) (HasRisen (g.D.Disk.faults c.args.disk.now) (g.D.Disk.faults c.push_file.new.disk)) c.in-Err.error
+    ends_for c.in-Err.why c.in-Err.ensures.stopped (λ none. none) (λ refusal none. none)
     (λ name lost tells. lost_among c.args.rows.now c.loop-row.row-index c.row-item.result c.loop-row-test.true c.row-item.is (reads (g.D.Disk.state c.args.disk.now)) (reads (g.D.Disk.state c.loop-row.disk)) c.loop-row.files name
     (ap effective (same_reads (g.D.Disk.state c.args.disk.now) (g.D.Disk.state c.loop-row.disk) (c.loop-row.invariant.same tells))) (c.loop-row.invariant.files tells) (lost tells))
-    (λ rose. risen_later _ _ _ c.loop-row.invariant.later rose) c.in-Err.ensures.stopped
+    (λ rose. risen_later _ _ _ c.loop-row.invariant.later rose) (λ none. none)
 
 pub returns-in-Err-clause-same : goal.returns-in-Err-clause-same
 returns-in-Err-clause-same g c = λ tells. same_on (g.D.Disk.state c.args.disk.now) (g.D.Disk.state c.loop-row.disk) (g.D.Disk.state c.push_file.new.disk) (c.loop-row.invariant.same tells) (c.push_file.ensures.same tells)
@@ -42,11 +40,15 @@ returns-in-Err-clause-later g c = omega (arith, c.loop-row.invariant.later, c.pu
 
 pub loop-row-preserved : goal.loop-row-preserved
 loop-row-preserved g c =
-    let pushed : g.D.Disk.tells → (image : Image) → effective (reads (g.D.Disk.state c.loop-row.disk)) ≡ Some image → (c.push_file.new.files ≡ c.loop-row.files ++ sent_file (image pack) c.row-item.result ∷ []) × AreKept (image pack) (versions_of (c.row-item.result ∷ [])) = search rules in
+    let pushed : g.D.Disk.tells → c.push_file.new.files ≡ c.loop-row.files ++ sent_file (effective (reads (g.D.Disk.state c.loop-row.disk))) c.row-item.result ∷ [] = search rules in
+    let kept : g.D.Disk.tells → AreKept (effective (reads (g.D.Disk.state c.loop-row.disk))) (versions_of (c.row-item.result ∷ [])) = search rules in
     let sized : map file_key c.push_file.new.files ≡ map file_key c.loop-row.files ++ row_key c.row-item.result ∷ [] = search rules in
     record {
-      files = λ tells. read_next c.args.rows.now c.loop-row.row-index c.row-item.result c.loop-row-test.true c.row-item.is (reads (g.D.Disk.state c.args.disk.now)) (reads (g.D.Disk.state c.loop-row.disk)) c.loop-row.files c.push_file.new.files
-          (ap effective (same_reads (g.D.Disk.state c.args.disk.now) (g.D.Disk.state c.loop-row.disk) (c.loop-row.invariant.same tells))) (c.loop-row.invariant.files tells) (pushed tells);
+      files = λ tells.
+          let same : effective (reads (g.D.Disk.state c.loop-row.disk)) ≡ effective (reads (g.D.Disk.state c.args.disk.now)) = ap effective (same_reads (g.D.Disk.state c.args.disk.now) (g.D.Disk.state c.loop-row.disk) (c.loop-row.invariant.same tells)) in
+          read_next c.args.rows.now c.loop-row.row-index c.row-item.result c.loop-row-test.true c.row-item.is (effective (reads (g.D.Disk.state c.args.disk.now))) c.loop-row.files c.push_file.new.files (c.loop-row.invariant.files tells)
+          (subst (λ (files : Option Image). c.push_file.new.files ≡ c.loop-row.files ++ sent_file files c.row-item.result ∷ []) same (pushed tells))
+          (subst (λ (files : Option Image). AreKept files (versions_of (c.row-item.result ∷ []))) same (kept tells));
       sized = sized_next c.args.rows.now c.loop-row.row-index c.row-item.result c.loop-row-test.true c.row-item.is c.loop-row.files c.push_file.new.files c.loop-row.invariant.sized sized;
       same = λ tells. same_on (g.D.Disk.state c.args.disk.now) (g.D.Disk.state c.loop-row.disk) (g.D.Disk.state c.push_file.new.disk) (c.loop-row.invariant.same tells) (c.push_file.ensures.same tells);
       later = omega (arith, c.loop-row.invariant.later, c.push_file.ensures.later);
@@ -55,7 +57,7 @@ loop-row-preserved g c =
 pub returns-clause-files : goal.returns-clause-files
 returns-clause-files g c = λ tells.
     let all : take c.loop-row.row-index c.args.rows.now ≡ c.args.rows.now = take_all c.loop-row.row-index c.args.rows.now (omega arith) in
-    subst (λ (rows : List Row). AreReadFrom (reads (g.D.Disk.state c.args.disk.now)) rows c.loop-row.files) all (c.loop-row.invariant.files tells)
+    subst (λ (rows : List Row). AreReadFrom (effective (reads (g.D.Disk.state c.args.disk.now))) rows c.loop-row.files) all (c.loop-row.invariant.files tells)
 
 pub returns-clause-sized : goal.returns-clause-sized
 returns-clause-sized g c =
