@@ -14,54 +14,37 @@ use Rattle.ae_script.specs.Step.{may_give}
 use Rattle.ae_session.specs.declared.request.Request.{Request}
 use Rattle.ae_session.specs.declared.request.RequestError.{RequestError}
 use Rattle.ae_session.specs.declared.request.RequestError.TheVariants as error
-use Rattle.ae_session.specs.Request.{AsksFor, BadAt, nobody, to_come, bad_word, is_to_come, is_one_to_come, names_one_to_come, NeverBoth, OnePlace}
+use Rattle.ae_session.specs.Request.{AsksFor, BadAt, nobody, bad_word, NeverBoth, OnePlace}
 
 pub asks_once : (words : List (List ℕ)) (who : List ℕ) (now : ℕ) (command other : Command) → AsksFor words who now command → AsksFor words who now other → command ≡ other
 asks_once words who now command other a b = one_command words command other a.said b.said
 
 -- ---- good or bad
 
-named_there : (words : List (List ℕ)) (command : Command) → IsCommand words command → names_one_to_come words ≡ is_to_come command.function
-named_there words command said = ap is_one_to_come said.names
-
--- the function of a command is there, where its words name none to come
-pub there_if : (words : List (List ℕ)) (command : Command) → IsCommand words command → names_one_to_come words ≡ false → is_to_come command.function ≡ false
-there_if words command said none = sym (named_there words command said) ∙ none
-
-good_bad : (words : List (List ℕ)) (who : List ℕ) (now place : ℕ) (command : Command) → BadAt words who now place → may_give who now ≡ true → IsCommand words command → is_to_come command.function ≡ false → ⊥
-good_bad words who now place command (nobody may is) asks said there = absurd (let both : true ≡ false = sym asks ∙ may in cc)
-good_bad words who now place command (to_come may named is) asks said there = absurd (let both : true ≡ false = sym named ∙ named_there words command said ∙ there in cc)
-good_bad words who now place command (bad_word first may none is told) asks said there = never_both words command first said is
-
--- a function that is one command is there
-one_is_there : (f : Function) → is_one_command f ≡ true → is_to_come f ≡ false
-one_is_there function.DistributionSend one = sym one
-one_is_there function.DistributionReceive one = sym one
-one_is_there _ one = refl
+good_bad : (words : List (List ℕ)) (who : List ℕ) (now place : ℕ) (command : Command) → BadAt words who now place → may_give who now ≡ true → IsCommand words command → ⊥
+good_bad words who now place command (nobody may is) asks said = absurd (let both : true ≡ false = sym asks ∙ may in cc)
+good_bad words who now place command (bad_word first may is told) asks said = never_both words command first said is
 
 pub never_both_asked : NeverBoth
 never_both_asked words who now place bad = record {
-  no_command = λ command asks. good_bad words who now place command bad asks.may asks.said (one_is_there command.function asks.one);
-  no_script = λ asks. good_bad words who now place asks.command bad asks.may asks.said (ap is_to_come asks.is_script);
-  no_project = λ start changes files asks. good_bad words who now place asks.command bad asks.may asks.said (ap is_to_come asks.generates);
-  no_report = λ r asks. good_bad words who now place asks.command bad asks.may asks.said (ap is_to_come asks.reports);
-  no_audit = λ asks. good_bad words who now place asks.command bad asks.may asks.said (ap is_to_come asks.audits);
+  no_command = λ command asks. good_bad words who now place command bad asks.may asks.said;
+  no_script = λ asks. good_bad words who now place asks.command bad asks.may asks.said;
+  no_project = λ start changes files asks. good_bad words who now place asks.command bad asks.may asks.said;
+  no_audit = λ asks. good_bad words who now place asks.command bad asks.may asks.said;
+  no_report = λ r asks. good_bad words who now place asks.command bad asks.may asks.said;
+  no_sending = λ name number asks. good_bad words who now place asks.command bad asks.may asks.said;
+  no_receiving = λ name asks. good_bad words who now place asks.command bad asks.may asks.said;
 }
 
 pub one_bad_place : OnePlace
 one_bad_place words who now place other (nobody may is) (nobody can at) = is ∙ sym at
-one_bad_place words who now place other (nobody may is) (to_come can named at) = absurd (let both : true ≡ false = sym can ∙ may in cc)
-one_bad_place words who now place other (nobody may is) (bad_word first can none at told) = absurd (let both : true ≡ false = sym can ∙ may in cc)
-one_bad_place words who now place other (to_come may named is) (nobody can at) = absurd (let both : true ≡ false = sym may ∙ can in cc)
-one_bad_place words who now place other (to_come may named is) (to_come can too at) = is ∙ sym at
-one_bad_place words who now place other (to_come may named is) (bad_word first can none at told) = absurd (let both : true ≡ false = sym named ∙ none in cc)
-one_bad_place words who now place other (bad_word first may none is told_so) (nobody can at) = absurd (let both : true ≡ false = sym may ∙ can in cc)
-one_bad_place words who now place other (bad_word first may none is told_so) (to_come can named at) = absurd (let both : true ≡ false = sym named ∙ none in cc)
-one_bad_place words who now place other (bad_word first may none is told_so) (bad_word second can too at told_too) = told_so ∙ ap told (one_place words first second is at) ∙ sym told_too
+one_bad_place words who now place other (nobody may is) (bad_word first can at told) = absurd (let both : true ≡ false = sym can ∙ may in cc)
+one_bad_place words who now place other (bad_word first may is told_so) (nobody can at) = absurd (let both : true ≡ false = sym may ∙ can in cc)
+one_bad_place words who now place other (bad_word first may is told_so) (bad_word second can at told_too) = told_so ∙ ap told (one_place words first second is at) ∙ sym told_too
 
 -- what was read asks for something
-pub read_not_bad : (words : List (List ℕ)) (who : List ℕ) (now place : ℕ) (command : Command) → may_give who now ≡ true → IsCommand words command → is_to_come command.function ≡ false → BadAt words who now place → ⊥
-read_not_bad words who now place command may said there bad = good_bad words who now place command bad may said there
+pub read_not_bad : (words : List (List ℕ)) (who : List ℕ) (now place : ℕ) (command : Command) → may_give who now ≡ true → IsCommand words command → BadAt words who now place → ⊥
+read_not_bad words who now place command may said bad = good_bad words who now place command bad may said
 
 -- no words ask for two of these
 pub not_both_functions : (words : List (List ℕ)) (a b : Command) → IsCommand words a → IsCommand words b → is_one_command a.function ≡ true → is_one_command b.function ≡ false → ⊥
@@ -70,15 +53,16 @@ not_both_functions words a b is_a is_b one none = absurd (let both : false ≡ t
 pub not_both_kinds : (words : List (List ℕ)) (a b : Command) → IsCommand words a → IsCommand words b → a.function ≡ function.Script → b.function ≡ function.Generate → ⊥
 not_both_kinds words a b is_a is_b script made = absurd (let both : function.Script ≡ function.Generate = sym script ∙ ap (λ (c : Command). c.function) (one_command words a b is_a is_b) ∙ made in cc)
 
--- a function that is there, and none of those with a call of their own, is one command
-pub one_of_others : (f : Function) → (f ≡ function.Script → ⊥) → (f ≡ function.Generate → ⊥) → (f ≡ function.Audit → ⊥) → (f ≡ function.Report → ⊥) → is_to_come f ≡ false → is_one_command f ≡ true
-one_of_others function.Script no_script no_made no_audit no_report there = absurd (no_script refl)
-one_of_others function.Generate no_script no_made no_audit no_report there = absurd (no_made refl)
-one_of_others function.Audit no_script no_made no_audit no_report there = absurd (no_audit refl)
-one_of_others function.Report no_script no_made no_audit no_report there = absurd (no_report refl)
-one_of_others function.DistributionSend no_script no_made no_audit no_report there = sym there
-one_of_others function.DistributionReceive no_script no_made no_audit no_report there = sym there
-one_of_others _ no_script no_made no_audit no_report there = refl
+-- a function that is none of those with a call of their own is one command
+pub one_of_others : (f : Function) → (f ≡ function.Script → ⊥) → (f ≡ function.Generate → ⊥) → (f ≡ function.Audit → ⊥) → (f ≡ function.Report → ⊥) → (f ≡ function.DistributionSend → ⊥) → (f ≡ function.DistributionReceive → ⊥)
+    → is_one_command f ≡ true
+one_of_others function.Script no_script no_made no_audit no_report no_sent no_received = absurd (no_script refl)
+one_of_others function.Generate no_script no_made no_audit no_report no_sent no_received = absurd (no_made refl)
+one_of_others function.Audit no_script no_made no_audit no_report no_sent no_received = absurd (no_audit refl)
+one_of_others function.Report no_script no_made no_audit no_report no_sent no_received = absurd (no_report refl)
+one_of_others function.DistributionSend no_script no_made no_audit no_report no_sent no_received = absurd (no_sent refl)
+one_of_others function.DistributionReceive no_script no_made no_audit no_report no_sent no_received = absurd (no_received refl)
+one_of_others _ no_script no_made no_audit no_report no_sent no_received = refl
 
 -- ---- what is read
 

@@ -39,6 +39,7 @@ use Rattle.ae_script.proofs.Keeping.{does_keep, keeps_by, keeps_still, keeps_the
 use Rattle.ae_script.proofs.Completed as script
 use Rattle.ae_session.specs.Called.{Asked, AuditDone, ReportDone, CallDone, CallsAreCaused, CallsKeepDisks, CommandCalled, CommandsEndWhole, IsAsked, OnlyTold, ProjectDone, command, lines_made, project, stops, tells, unmade, wanting}
 use Rattle.ae_session.specs.Called as asking
+use Rattle.ae_session.proofs.Exchanged.{caused_receiving, caused_sending, keeps_receiving}
 
 rose_either : (b : Bool) (out err : SinkUse) → (told_to b out err).rose → out.rose ⊎ err.rose
 rose_either true out err rose = inl rose
@@ -129,19 +130,21 @@ module _ (d : Disks) (s : Sites) where
           (caused_on disk_rose site_rose ⊥ ⊥ _ _ input_rose (out.rose ⊎ err.rose) (λ rose. rose) (λ rose. rose) (λ none. absurd none) (λ none. absurd none) meant (meant_so why meant how (fails why is)))
           (elim told.how [ inl same ↦ inl same | inr untold ↦ inr (untold.0, inr untold.1) ])
 
-  asked_caused : (asked : Asked) (from : Stand d s) (disk : d.Disk) (site : s.Site) (input : SourceUse) (out err : SinkUse) (result : Outcome) (manner : Manner) (done : List (Did d s)) → IsAsked d s asked from disk site input out err result manner done
+  asked_caused : (asked : Asked) (from : Stand d s) (disk : d.Disk) (site : s.Site) (input : SourceUse) (out err : SinkUse) (result : Outcome) (manner : Manner) (begun : Stand d s) (done : List (Did d s)) → IsAsked d s asked from disk site input out err result manner begun done
       → IsCaused (HasRisen (d.faults from.disk) (d.faults disk)) (HasRisen (s.faults from.site) (s.faults site)) input.rose (out.rose ⊎ err.rose) result
-  asked_caused asked from disk site input out err result _ _ (command c asks one) = caused_command from disk site input.rose out err result c one
-  asked_caused asked from disk site input out err result _ _ (asking.script asks did quiet) =
+  asked_caused asked from disk site input out err result _ _ _ (command c asks one) = caused_command from disk site input.rose out err result c one
+  asked_caused asked from disk site input out err result _ _ _ (asking.script asks did quiet) =
       caused_on _ _ input.rose out.rose _ _ input.rose (out.rose ⊎ err.rose) (λ rose. rose) (λ rose. rose) (λ rose. rose) (λ rose. inl rose) result (script.caused_script d s _ from disk site input out result did)
-  asked_caused asked from disk site input out err result _ _ (project start changes files asks made) = caused_project from disk site input.rose out err result start changes files made
-  asked_caused asked from disk site input out err result _ _ (asking.report r asks did) = caused_report r from disk site input.rose out err result did
-  asked_caused asked from disk site input out err result _ _ (asking.audit asks did) = caused_audit from disk site input.rose out err result did
-  asked_caused asked from disk site input out err result _ _ (wanting only) = caused_only from disk site input.rose out err result only
+  asked_caused asked from disk site input out err result _ _ _ (project start changes files asks made) = caused_project from disk site input.rose out err result start changes files made
+  asked_caused asked from disk site input out err result _ _ _ (asking.report r asks did) = caused_report r from disk site input.rose out err result did
+  asked_caused asked from disk site input out err result _ _ _ (asking.audit asks did) = caused_audit from disk site input.rose out err result did
+  asked_caused asked from disk site input out err result _ _ _ (asking.sending name number asks did) = caused_sending d s name number from disk site input.rose out err result did
+  asked_caused asked from disk site input out err result _ _ _ (asking.receiving name begun done asks did few quiet) = caused_receiving d s name from disk site input out err result begun done did
+  asked_caused asked from disk site input out err result _ _ _ (wanting only) = caused_only from disk site input.rose out err result only
 
   pub caused : (i o e : Streams) → CallsAreCaused d s i o e
   caused i o e asked from disk site input input_new out out_new err err_new result call =
-      asked_caused asked from disk site (read_from i input input_new) (written_from o out out_new) (written_from e err err_new) result call.manner call.done call.is
+      asked_caused asked from disk site (read_from i input input_new) (written_from o out out_new) (written_from e err err_new) result call.manner call.begun call.done call.is
 
   -- ---- the disk
 
@@ -152,18 +155,20 @@ module _ (d : Disks) (s : Sites) where
       keeps_then (d.state from.disk) (d.state mid) (d.state disk) (subst (λ (x : d.Disk). KeepsDisk (d.state from.disk) (d.state x)) did.disk_is (lines_keep d s Generator seen from did.done did.runs))
       (keeps_by (d.state mid) (d.state disk) (Unit {0}) (summary.leaves seen))
 
-  asked_keeps : (seen : d.told) (asked : Asked) (from : Stand d s) (disk : d.Disk) (site : s.Site) (input : SourceUse) (out err : SinkUse) (result : Outcome) (manner : Manner) (done : List (Did d s)) → IsAsked d s asked from disk site input out err result manner done
+  asked_keeps : (seen : d.told) (asked : Asked) (from : Stand d s) (disk : d.Disk) (site : s.Site) (input : SourceUse) (out err : SinkUse) (result : Outcome) (manner : Manner) (begun : Stand d s) (done : List (Did d s)) → IsAsked d s asked from disk site input out err result manner begun done
       → KeepsDisk (d.state from.disk) (d.state disk)
-  asked_keeps seen asked from disk site input out err result _ _ (command c asks one) = subst (λ (x : d.Disk). KeepsDisk (d.state from.disk) (d.state x)) one.disk_is (does_keep d s Plan seen from one.line one.does)
-  asked_keeps seen asked from disk site input out err result _ _ (asking.script asks did quiet) = subst (λ (x : d.Disk). KeepsDisk (d.state from.disk) (d.state x)) did.disk_is (lines_keep d s _ seen from did.done did.runs)
-  asked_keeps seen asked from disk site input out err result _ _ (project start changes files asks made) = keeps_made seen from disk site out err result start changes files made
-  asked_keeps seen asked from disk site input out err result _ _ (asking.report r asks did) = keeps_by (d.state from.disk) (d.state disk) (Unit {0}) (did.leaves seen)
-  asked_keeps seen asked from disk site input out err result _ _ (asking.audit asks did) = keeps_by (d.state from.disk) (d.state disk) (Unit {0}) (only-read (d.state from.disk) (d.state disk) (did.only_reads seen))
-  asked_keeps seen asked from disk site input out err result _ _ (wanting only) = subst (λ (x : d.Disk). KeepsDisk (d.state from.disk) (d.state x)) (sym only.disk_is) (keeps_still (d.state from.disk))
+  asked_keeps seen asked from disk site input out err result _ _ _ (command c asks one) = subst (λ (x : d.Disk). KeepsDisk (d.state from.disk) (d.state x)) one.disk_is (does_keep d s Plan seen from one.line one.does)
+  asked_keeps seen asked from disk site input out err result _ _ _ (asking.script asks did quiet) = subst (λ (x : d.Disk). KeepsDisk (d.state from.disk) (d.state x)) did.disk_is (lines_keep d s _ seen from did.done did.runs)
+  asked_keeps seen asked from disk site input out err result _ _ _ (project start changes files asks made) = keeps_made seen from disk site out err result start changes files made
+  asked_keeps seen asked from disk site input out err result _ _ _ (asking.report r asks did) = keeps_by (d.state from.disk) (d.state disk) (Unit {0}) (did.leaves seen)
+  asked_keeps seen asked from disk site input out err result _ _ _ (asking.audit asks did) = keeps_by (d.state from.disk) (d.state disk) (Unit {0}) (only-read (d.state from.disk) (d.state disk) (did.only_reads seen))
+  asked_keeps seen asked from disk site input out err result _ _ _ (asking.sending name number asks did) = keeps_by (d.state from.disk) (d.state disk) (Unit {0}) (did.leaves seen)
+  asked_keeps seen asked from disk site input out err result _ _ _ (asking.receiving name begun done asks did few quiet) = keeps_receiving d s name from disk site input err result seen begun done did
+  asked_keeps seen asked from disk site input out err result _ _ _ (wanting only) = subst (λ (x : d.Disk). KeepsDisk (d.state from.disk) (d.state x)) (sym only.disk_is) (keeps_still (d.state from.disk))
 
   pub kept : (i o e : Streams) → CallsKeepDisks d s i o e
   kept i o e asked from disk site input input_new out out_new err err_new result call seen =
-      asked_keeps seen asked from disk site (read_from i input input_new) (written_from o out out_new) (written_from e err err_new) result call.manner call.done call.is
+      asked_keeps seen asked from disk site (read_from i input input_new) (written_from o out out_new) (written_from e err err_new) result call.manner call.begun call.done call.is
 
   -- ---- where no count rises
 

@@ -1,12 +1,16 @@
 pub mod Asking
 pub mod Calling
 pub mod Causes
+pub mod CommandNames
 pub mod Counting
+pub mod Exchanged
 pub mod Making
-pub mod OnePath
+pub mod PlanFormed
 pub mod Projects
+pub mod Received
 pub mod Repeating
 pub mod RunsMade
+pub mod Sent
 pub mod Sizes
 pub mod Summed
 pub mod Summing

@@ -1,6 +1,7 @@
 -- A call: the lines that it does, and what is then so. A command alone is the list of one line, a script has those of the input,
--- the generator those of the script that it makes, and an audit and a report none.
-use Rattle.std.specs.Prelude.{◌≡◌, ◌≤◌, ◌⊎◌, ℕ, List, [], ◌∷◌, false}
+-- the generator those of the script that it makes, a change set that is received the acts of its plan, and an audit, a report and a
+-- change set that is sent none.
+use Rattle.std.specs.Prelude.{◌≡◌, ◌≤◌, ◌⊎◌, ℕ, List, [], ◌∷◌, false, Option}
 use Rattle.ae_base.specs.declared.outcome.Outcome.{Outcome}
 use Rattle.ae_base.specs.declared.outcome.Outcome.TheVariants.{Done, Memory}
 use Rattle.ae_outside.specs.Causes.{HasRisen}
@@ -22,7 +23,13 @@ use Rattle.ae_generator.specs.Lines.{generated_text}
 use Rattle.ae_audited.specs.Telling.{IsAuditTold, IsDoneOnLegal}
 use Rattle.ae_reporting.specs.Reports.{Asked as AskedReport}
 use Rattle.ae_reporting.specs.Telling.{IsDoneSo, IsReportTold}
-use Rattle.ae_script.specs.Follows.{FollowLogs}
+use Rattle.ae_bundle.specs.declared.bundle.Bundle.{Bundle}
+use Rattle.ae_lines.specs.declared.act.Act.{Act}
+use Rattle.ae_dist.specs.Answers.{Plans}
+use Rattle.ae_dist.specs.Receiving.{IsReceived, IsUnread, TakesNoMore}
+use Rattle.ae_dist.specs.Telling.{IsSentTold}
+use Rattle.ae_script.specs.Acts.{ActsDone}
+use Rattle.ae_script.specs.Follows.{FollowLogs, Looks}
 use Rattle.ae_script.specs.Causes.{IsCaused}
 use Rattle.ae_script.specs.Lines.{AllLead, AreDone, Did, Does, Stand, last_stand, lines_said, stand}
 use Rattle.ae_script.specs.Manner.{is_done}
@@ -31,7 +38,8 @@ use Rattle.ae_script.specs.Uses.{Disks, Sites, SourceUse, Streams, read_from, so
 use Rattle.ae_script.specs.declared.manner.Manner.{Manner}
 use Rattle.ae_script.specs.declared.manner.Manner.TheVariants.{Plan, Script, Generator}
 use Rattle.ae_script.specs.Ends.{ScriptDone}
-use Rattle.ae_session.specs.Request.{AsksFor, AsksForAudit, AsksForReport, AsksForScript, AsksForGenerate, BadAt}
+use Rattle.ae_session.specs.Received.{HasNoPlan, HasSent, IsWhyTold}
+use Rattle.ae_session.specs.Request.{AsksFor, AsksForAudit, AsksForReceiving, AsksForReport, AsksForScript, AsksForSending, AsksForGenerate, BadAt}
 use Rattle.ae_session.specs.Summary.{MakesRuns, SummaryTold, builds}
 
 -- its words, who gives it, and when
@@ -121,26 +129,65 @@ module _ (d : Disks) (s : Sites) where
     pub disk_later : d.faults from.disk ≤ d.faults disk
     pub site_later : s.faults from.site ≤ s.faults site
 
+  -- ---- a change set that is sent
+
+  -- The disk is left as by a command that changes nothing. The text of what is sent of the change, by what the disk's files show, is told
+  -- to `out`, or the message of why there is none to `err`.
+  pub record SendDone (name : Option (List ℕ)) (number : ℕ) (from : Stand d s) (disk : d.Disk) (site : s.Site) (out err : SinkUse) (result : Outcome) : Type 0 where
+    pub leaves : d.told → LeavesDisk (d.state from.disk) (d.state disk) (Unit {0})
+    pub site_is : site ≡ from.site
+    pub told : IsSentTold d.told (reads (d.state from.disk)) name number (HasRisen (d.faults from.disk) (d.faults disk)) out err result
+    -- once it is done `out` has taken the one text of what is sent of the change
+    pub sent : result ≡ Done → HasSent d.told (reads (d.state from.disk)) name number out
+    pub later : d.faults from.disk ≤ d.faults disk
+
+  -- ---- a change set that is received
+
+  -- How a call ends that receives the input as a change set, in the project of this name, where one is given: it is no change set; or it
+  -- has no plan; or the acts of its plan are done one after another, up to the first that isn't done, from where the plan was made.
+  pub data ReceiveDone (name : Option (List ℕ)) (from : Stand d s) (disk : d.Disk) (site : s.Site) (input : SourceUse) (err : SinkUse) (result : Outcome) : Stand d s → List (Did d s) → Type 0 where
+    -- nothing is called but the input and the sink of messages
+    unread : (why : Outcome) → IsUnread input.told input.before input.rose why → disk ≡ from.disk → site ≡ from.site → IsWhyTold why err result
+        → ReceiveDone name from disk site input err result from []
+    -- the disk is only looked at, as by a command that changes nothing
+    unplanned : (bundle : Bundle) (why : Outcome) → IsReceived input.told input.before input.after bundle → HasNoPlan d.told (reads (d.state from.disk)) name bundle (HasRisen (d.faults from.disk) (d.faults disk)) why
+        → Looks d s from (record from { disk = disk }) → site ≡ from.site → IsWhyTold why err result → ReceiveDone name from disk site input err result from []
+    planned : (bundle : Bundle) (begun : Stand d s) (acts : List Act) → IsReceived input.told input.before input.after bundle → Looks d s from begun → (d.told → Plans (reads (d.state from.disk)) name bundle acts)
+        → (did : ActsDone d s Plan acts begun (stand d s from.who from.now disk site) err result) → ReceiveDone name from disk site input err result begun did.done
+
+  -- so it did some acts, or none
+  pub record Receives (name : Option (List ℕ)) (from : Stand d s) (disk : d.Disk) (site : s.Site) (input : SourceUse) (err : SinkUse) (result : Outcome) : Type 0 where
+    pub begun : Stand d s
+    pub done : List (Did d s)
+    pub is : ReceiveDone name from disk site input err result begun done
+
   -- ---- any call
 
-  -- The lines that a call does are those that it asks for, in this manner, and it ends so.
-  pub data IsAsked (asked : Asked) (from : Stand d s) (disk : d.Disk) (site : s.Site) (input : SourceUse) (out err : SinkUse) (result : Outcome) : Manner → List (Did d s) → Type 0 where
-    command : (command : Command) → AsksFor asked.words asked.who asked.now command → (one : CommandCalled command from disk site out err result) → IsAsked asked from disk site input out err result Plan (one.line ∷ [])
-    script : AsksForScript asked.words asked.who asked.now → (did : ScriptDone d s Script from disk site input out result) → TakesNothing err → IsAsked asked from disk site input out err result Script did.done
+  -- The lines that a call does are those that it asks for, in this manner, from this stand on, and it ends so.
+  pub data IsAsked (asked : Asked) (from : Stand d s) (disk : d.Disk) (site : s.Site) (input : SourceUse) (out err : SinkUse) (result : Outcome) : Manner → Stand d s → List (Did d s) → Type 0 where
+    command : (command : Command) → AsksFor asked.words asked.who asked.now command → (one : CommandCalled command from disk site out err result) → IsAsked asked from disk site input out err result Plan from (one.line ∷ [])
+    script : AsksForScript asked.words asked.who asked.now → (did : ScriptDone d s Script from disk site input out result) → TakesNothing err → IsAsked asked from disk site input out err result Script from did.done
     project : (start changes files : ℕ) → AsksForGenerate asked.words asked.who asked.now start changes files → (made : ProjectDone start changes files from disk site out err result)
-        → IsAsked asked from disk site input out err result Generator (lines_made made)
-    audit : AsksForAudit asked.words asked.who asked.now → AuditDone from disk site out err result → IsAsked asked from disk site input out err result Plan []
+        → IsAsked asked from disk site input out err result Generator from (lines_made made)
+    audit : AsksForAudit asked.words asked.who asked.now → AuditDone from disk site out err result → IsAsked asked from disk site input out err result Plan from []
     report : (wanted : AskedReport) → AsksForReport asked.words asked.who asked.now wanted → ReportDone wanted from disk site out err result
-        → IsAsked asked from disk site input out err result Plan []
-    wanting : OnlyTold from disk site out err result → IsAsked asked from disk site input out err result Plan []
+        → IsAsked asked from disk site input out err result Plan from []
+    sending : (name : Option (List ℕ)) (number : ℕ) → AsksForSending asked.words asked.who asked.now name number → SendDone name number from disk site out err result
+        → IsAsked asked from disk site input out err result Plan from []
+    receiving : (name : Option (List ℕ)) (begun : Stand d s) (done : List (Did d s)) → AsksForReceiving asked.words asked.who asked.now name → ReceiveDone name from disk site input err result begun done
+        → (input.told → TakesNoMore input.before input.after) → TakesNothing out → IsAsked asked from disk site input out err result Plan begun done
+    wanting : OnlyTold from disk site out err result → IsAsked asked from disk site input out err result Plan from []
 
   -- What a call did that asks for something, from this stand on, whatever the disk holds.
   pub record CallDone (asked : Asked) (from : Stand d s) (disk : d.Disk) (site : s.Site) (input : SourceUse) (out err : SinkUse) (result : Outcome) : Type 0 where
-    -- it does the lines that it asks for, each from where the one before it led, and tells what they write
+    -- It does the lines that it asks for, each from where the one before it led, and tells what they write. Before the first the disk
+    -- may have been looked at, to make a plan.
     pub manner : Manner
+    pub begun : Stand d s
     pub done : List (Did d s)
-    pub is : IsAsked asked from disk site input out err result manner done
-    pub runs : AreDone d s manner from done
+    pub is : IsAsked asked from disk site input out err result manner begun done
+    pub looked : Looks d s from begun
+    pub runs : AreDone d s manner begun done
     -- Where the disk holds legal logs each is a step of the log machine; a stop at any moment leaves what stands for the log after
     -- some of them, in their order; and each baseline was built, tested and reviewed as required.
     pub logs : d.told → s.told → FollowLogs d s manner from done disk

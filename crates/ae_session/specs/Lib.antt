@@ -1,4 +1,5 @@
 pub mod Called
+pub mod Received
 pub mod Request
 pub mod Summary
 pub mod Stopped

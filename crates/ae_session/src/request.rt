@@ -1,18 +1,18 @@
 // What the words of a call ask for.
-ghost use Rattle.std.specs.Prelude.{◌≡◌, ◌≤◌, ℕ, true, false, map, IfOk, IsErrOf, string_bytes};
+ghost use Rattle.std.specs.Prelude.{◌≡◌, ◌≤◌, ℕ, true, map, IfOk, IsErrOf, string_bytes};
 ghost use Rattle.ae_base.specs.Limits.{last_moment};
 ghost use Rattle.ae_words.specs.Formed.{IsFormed};
 ghost use Rattle.ae_words.specs.Grammar.{IsCommand};
 ghost use Rattle.ae_script.specs.Step.{may_give};
-ghost use Rattle.ae_session.specs.Request.{BadAt, NeverBoth, OnePlace, is_to_come, names_one_to_come};
+ghost use Rattle.ae_session.specs.Request.{BadAt, NeverBoth, OnePlace};
 ghost use Rattle.ae_session.specs.declared.request.RequestError.TheVariants.{Memory};
 
 use ae_base::User;
 use ae_base::limits::LAST_MOMENT;
-use ae_words::{Command, Function, WordsError, first_function, read_words};
+use ae_words::{Command, WordsError, read_words};
 use std::alloc::{AllocError, Global};
 
-/// A command, given by this user; it may be a script, the generator, an audit or a report.
+/// A command, given by this user; it may be a script, the generator, an audit, a report, or a change set to send or to receive.
 #[derive(Drop)]
 pub struct Request {
     pub command: Command,
@@ -34,27 +34,7 @@ impl From<AllocError> for RequestError {
     }
 }
 
-/// Whether the words of a function are read, and the program doesn't do it yet.
-pub fn is_to_come(function: Function) -> bool
-    ensures { result ≡ is_to_come function }
-{
-    matches!(
-        function,
-        Function::DistributionSend | Function::DistributionReceive
-    )
-}
-
-// Whether the first word names a function that the program doesn't do yet.
-fn names_one_to_come(words: &[String]) -> bool
-    ensures { result ≡ names_one_to_come (map string_bytes words.now) }
-{
-    match first_function(words) {
-        Some(function) => is_to_come(function),
-        None => false,
-    }
-}
-
-/// What the words ask for, or the place of the first bad one; a function to come is bad as one that there isn't.
+/// What the words ask for, or the place of the first bad one.
 pub fn read_request(
     alloc: Global,
     words: &[String],
@@ -66,7 +46,6 @@ pub fn read_request(
     ensures formed { IfOk result (λ request. IsFormed request.command) }
     ensures moment { IfOk result (λ request. now ≤ last_moment) }
     ensures who { IfOk result (λ request. request.who ≡ who.now) }
-    ensures there { IfOk result (λ request. is_to_come request.command.function ≡ false) }
     ensures bad { (place : ℕ) → IsErrOf result (RequestError.Bad place) → BadAt (map string_bytes words.now) who.now now place }
 {
     let Some(who) = User::read(alloc, who.as_bytes())? else {
@@ -74,9 +53,6 @@ pub fn read_request(
     };
     if now > LAST_MOMENT {
         return Err(RequestError::Bad(0));
-    }
-    if names_one_to_come(words) {
-        return Err(RequestError::Bad(1));
     }
     match read_words(alloc, words) {
         Ok(command) => Ok(Request { command, who }),

@@ -1,5 +1,5 @@
 use Rattle.std.proofs.Common.{◌≡◌, ◌∙◌, ◌∷◌, [], ℕ, List, length, slice_index_or, ap, arith, subst, sym}
-use Rattle.ae_session.proofs.OnePath.{path_named}
+use Rattle.ae_session.proofs.CommandNames.{path_named}
 use Rattle.ae_session.proofs.reporting.asked_report.Goals as goal
 
 pub bounds-paths-0 : goal.bounds-paths-0

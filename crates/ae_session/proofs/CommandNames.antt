@@ -1,12 +1,12 @@
--- The path of a report, which a command names.
-use Rattle.std.specs.Prelude.{◌&&◌, not, nat_le, length}
+-- What a command names: the path of a report, and the change of which a change set is asked for.
+use Rattle.std.specs.Prelude.{◌&&◌, ◌||◌, not, nat_le, length, is_some}
 use Rattle.std.specs.Option.{is_none}
-use Rattle.std.proofs.Common.{◌≡◌, ℕ, true, false, List, [], ◌∷◌, refl, ap, subst}
+use Rattle.std.proofs.Common.{◌≡◌, ◌∙◌, ℕ, true, false, List, [], ◌∷◌, None, refl, sym, ap, subst}
 use Rattle.std.proofs.lemmas.Bool.{and_parts}
 use Rattle.ae_words.specs.Formed.{IsFormed, are_plain, is_path_at_most}
-use Rattle.ae_words.specs.Meaning.{has_plain}
+use Rattle.ae_words.specs.Meaning.{has_plain, is_whole}
 use Rattle.ae_words.specs.Spelling.{is_empty}
-use Rattle.ae_words.specs.Table.{row}
+use Rattle.ae_words.specs.Table.{needs_attributes, needs_change, row}
 use Rattle.ae_words.specs.declared.command.Command.{Command}
 use Rattle.ae_words.proofs.Formed.{whole_plain}
 use Rattle.ae_words.specs.declared.table.Function.TheVariants as function
@@ -39,3 +39,14 @@ path_named c formed reports = one_path c.paths good some
 
     some : not (nat_le (length c.paths) 0) ≡ true
     some = subst (λ (r : Row). has_plain r c ≡ true) (ap row reports) (whole_plain c formed.whole)
+
+-- the change of which a change set is asked for is named
+pub change_named : (c : Command) → IsFormed c → c.function ≡ function.DistributionSend → c.change ≡ None → ⊥
+unfolding is_whole
+change_named c formed sends none = absurd (let both : false ≡ true = sym (ap is_some none) ∙ there in cc)
+  where
+    last : (not (needs_change (row c.function) c.listing) || is_some c.change) ≡ true
+    last = (and_parts (has_plain (row c.function) c && (not (needs_attributes (row c.function)) || is_some c.attributes)) (not (needs_change (row c.function) c.listing) || is_some c.change) formed.whole).1
+
+    there : is_some c.change ≡ true
+    there = subst (λ (r : Row). (not (needs_change r c.listing) || is_some c.change) ≡ true) (ap row sends) last

@@ -1,0 +1,98 @@
+-- A change set that is received, or why none is.
+use Rattle.std.specs.Prelude.{◌≡◌, ◌≤◌, ℕ, false, List, [], Option, Result, Ok, Err, IfOk, IfErr}
+use Rattle.std.proofs.Common.{inl, inr, refl, sym, subst, ap, ◌∙◌}
+use Rattle.ae_base.specs.declared.outcome.Outcome.{Outcome}
+use Rattle.ae_base.specs.declared.outcome.Outcome.TheVariants.{SourceFault}
+use Rattle.ae_base.specs.declared.refusal.Refusal.{Refusal}
+use Rattle.ae_base.specs.declared.want.Want.TheVariants.{Nothing}
+use Rattle.ae_outside.specs.Causes.{HasRisen}
+use Rattle.ae_outside.specs.Image.{Image}
+use Rattle.ae_outside.specs.State.{reads}
+use Rattle.ae_bundle.specs.Bundled.{Fits}
+use Rattle.ae_bundle.specs.declared.bundle.Bundle.{Bundle}
+use Rattle.ae_exec.specs.Endings.{EndsAs, IsDamagedAt}
+use Rattle.ae_exec.specs.Endings as ending
+use Rattle.ae_exec.specs.Performs.{LeavesDisk}
+use Rattle.ae_lines.specs.declared.act.Act.{Act}
+use Rattle.ae_dist.specs.Answers.{Answers, IsAnswered, IsPlanning, Plans, RefusesPlan}
+use Rattle.ae_dist.specs.Receiving.{IsReceived, IsUnread, not_understood, source_fault}
+use Rattle.ae_dist.specs.Receiving as receiving
+use Rattle.ae_dist.specs.Steps.{IsSomePlan}
+use Rattle.ae_telling.specs.Answered.{IsMeant}
+use Rattle.ae_telling.specs.Messages.{command_text}
+use Rattle.ae_telling.specs.Telling.{IsOfCommand, IsTold, SinkUse}
+use Rattle.ae_telling.proofs.Answered.{message_alone}
+use Rattle.ae_script.specs.Acts.{ActsDone}
+use Rattle.ae_script.specs.Lines.{Stand, stand}
+use Rattle.ae_script.specs.Uses.{Disks, Sites, SourceUse}
+use Rattle.ae_script.specs.declared.manner.Manner.TheVariants.{Plan}
+use Rattle.ae_session.specs.Called.{Receives, planned}
+use Rattle.ae_session.specs.Called as called
+use Rattle.ae_session.specs.Received.{HasPlan, IsOfReceiving, IsUnplanned, IsWhyTold, unplanned, unread}
+use Rattle.ae_session.proofs.PlanFormed.{plan_formed}
+
+module _ (disk_told input_told : Type 0) (image : Image) (name : Option (List ℕ)) (before after : List ℕ) (bundle : Bundle) (disk_rose : Type 0) where
+  abbrev Planned : Result (List Act) Outcome → Type 0
+  Planned result =
+      Answers (λ (acts : List Act). disk_told → Plans image name bundle acts) (λ (refusal : Refusal). disk_told → RefusesPlan image name refusal) (λ (damaged : List ℕ). disk_told → IsDamagedAt Nothing image damaged) disk_rose result
+
+  pub has_plan : IsReceived input_told before after bundle → Fits bundle → (result : Result (List Act) Outcome) → Planned result → IfOk result (IsSomePlan bundle) → IfOk result (HasPlan disk_told input_told image name before after)
+  has_plan received fits (Ok acts) plans some = record { bundle = bundle; received = received; plans = plans; may = plan_formed bundle acts fits some }
+  has_plan received fits (Err why) plans some = tt
+
+  pub has_none : (disk_same source_rose : Type 0) → IsReceived input_told before after bundle → (result : Result (List Act) Outcome) → Planned result
+      → (disk_told → (said : Result (List Act) Outcome) → IsPlanning image name bundle said → IsAnswered said result)
+      → IfErr result (IsUnplanned disk_told input_told image name before after disk_same disk_rose source_rose)
+  has_none disk_same source_rose received (Ok acts) caused only = tt
+  has_none disk_same source_rose received (Err why) caused only = unplanned bundle received (record { caused = caused; only = only })
+
+-- ---- how that is told
+
+told_unread : (told : Type 0) (before : List ℕ) (rose : Type 0) (why : Outcome) → IsUnread told before rose why → IsOfReceiving why
+told_unread told before rose _ (not_understood none) = inl tt
+told_unread told before rose _ (source_fault failed) = inr refl
+told_unread told before rose _ receiving.memory = inl tt
+
+told_none : (R : Refusal → Type 0) (M : List ℕ → Type 0) (X : Type 0) (why : Outcome) → EndsAs ⊥ ⊥ R M X ⊥ why → IsOfReceiving why
+told_none R M X _ (ending.done is) = absurd is
+told_none R M X _ (ending.run_failed is) = absurd is
+told_none R M X _ (ending.refused refusal is) = inl tt
+told_none R M X _ (ending.damaged name is) = inl tt
+told_none R M X _ (ending.disk_fault rose) = inl tt
+told_none R M X _ (ending.site_fault rose) = absurd rose
+told_none R M X _ ending.memory = inl tt
+
+pub of_receiving : (disk_told input_told : Type 0) (image : Image) (name : Option (List ℕ)) (before after : List ℕ) (disk_same disk_rose source_rose : Type 0) (why : Outcome)
+    → IsUnplanned disk_told input_told image name before after disk_same disk_rose source_rose why → IsOfReceiving why
+of_receiving disk_told input_told image name before after disk_same disk_rose source_rose why (unread is same) = told_unread input_told before source_rose why is
+of_receiving disk_told input_told image name before after disk_same disk_rose source_rose why (unplanned bundle received none) = told_none _ _ _ why none.caused
+
+-- what isn't a fault of the source is a command's outcome
+pub of_command : (why : Outcome) → IsOfReceiving why → (why ≡ SourceFault → ⊥) → IsOfCommand why
+of_command why (inl is) other = is
+of_command why (inr is) other = absurd (other is)
+
+pub why_told : (why meant result : Outcome) (reply said : List ℕ) (err : SinkUse) → IsMeant why meant → reply ≡ [] → said ≡ command_text false reply meant → IsTold meant said err result → IsWhyTold why err result
+why_told why meant result reply said err is none written told = record {
+  meant = meant;
+  is_meant = is;
+  is_told = subst (λ (s : List ℕ). IsTold meant s err result) (written ∙ ap (λ (r : List ℕ). command_text false r meant) none ∙ message_alone meant) told;
+}
+
+-- ---- a call that receives
+
+module _ (d : Disks) (s : Sites) (name : Option (List ℕ)) (from : Stand d s) (disk : d.Disk) (site : s.Site) (input : SourceUse) (err : SinkUse) (result : Outcome) where
+  pub received_by : (mid : d.Disk) (acts slice : List Act) → HasPlan d.told input.told (reads (d.state from.disk)) name input.before input.after acts → slice ≡ acts → (d.told → LeavesDisk (d.state from.disk) (d.state mid) (Unit {0}))
+      → d.faults from.disk ≤ d.faults mid → ActsDone d s Plan slice (stand d s from.who from.now mid from.site) (stand d s from.who from.now disk site) err result → Receives d s name from disk site input err result
+  received_by mid acts slice plan same leaves later did = record {
+    begun = stand d s from.who from.now mid from.site;
+    done = did.done;
+    is = planned plan.bundle (stand d s from.who from.now mid from.site) slice plan.received (record { same = refl; later = later; leaves = leaves })
+        (λ told. subst (λ (a : List Act). Plans (reads (d.state from.disk)) name plan.bundle a) (sym same) (plan.plans told)) did;
+  }
+
+  pub unreceived_by : (why : Outcome) → IsUnplanned d.told input.told (reads (d.state from.disk)) name input.before input.after (disk ≡ from.disk) (HasRisen (d.faults from.disk) (d.faults disk)) input.rose why → site ≡ from.site
+      → (d.told → LeavesDisk (d.state from.disk) (d.state disk) (Unit {0})) → d.faults from.disk ≤ d.faults disk → IsWhyTold why err result → Receives d s name from disk site input err result
+  unreceived_by why (unread is same) site_is leaves later told = record { begun = from; done = []; is = called.unread why is same site_is told }
+  unreceived_by why (unplanned bundle received none) site_is leaves later told =
+      record { begun = from; done = []; is = called.unplanned bundle why received none (record { same = refl; later = later; leaves = leaves }) site_is told }
