@@ -1,5 +1,6 @@
 pub mod Acts
 pub mod Begins
+pub mod Called
 pub mod Commands
 pub mod Described
 pub mod Directories

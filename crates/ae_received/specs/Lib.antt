@@ -1,3 +1,4 @@
+pub mod Calls
 pub mod Edits
 pub mod Laws
 pub mod Received

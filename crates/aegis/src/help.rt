@@ -66,13 +66,15 @@ The files of a change, and tests:
   -ReMove_file_Undo -Change N PATH..   has it keep them
   -Test -Change N [-BaseLine | -REGression]   runs the change's tests, these on the old baseline, or the other tests
 
-Listings, scripts, made-up projects, an audit, and reports:
+Listings, scripts, made-up projects, an audit, reports, and change sets:
 
   -List LISTING [-Change N]   prints a listing
   -SCRipt   does the lines of standard input
   -GENerate START CHANGES FILES   makes a project with a long history, in an empty folder
   -AUDit   shows by the files of the store alone how each delta was built, tested and reviewed
   -REPort PATH   prints what a report says of the project
+  -Distribution_Send -Change N   writes a completed change to standard output, for another project
+  -Distribution_Receive   makes a change of what was sent, which standard input has
 
 The listings:
 

@@ -98,6 +98,13 @@ pub(crate) const FUNCTIONS: &str = "  -New_PRoject NAME [-File PATH]
 ~  -REPort PATH
       Reads a report from the file PATH of the current folder, and prints its lines: rows of the project's changes, files, deltas,
       histories and runs, with sums, as in 'for c in changes { columns c.number:4, c.phase:1; }'. Anybody asks.
+~  -Distribution_Send -Change N
+      Writes the change set of a completed change to standard output: its descriptions, its cause, and what it did to each file, with
+      the bytes that it gave it. Anybody asks.
+~  -Distribution_Receive
+      Reads such a text from standard input, to its end, and does what makes a change of it: it writes received.attr here, -nc with
+      that, -db, -rm, -cp, -nt and -nf, and then the files in aegis.d/develop.N. It ends at the first of these that isn't done. Who
+      asks is as for -nc and -db.
 ";
 
 // Whether a block is that of the function with this pattern.
