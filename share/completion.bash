@@ -71,7 +71,7 @@ _aegis_options() {
     -New_Change_Undo*) ;;
     -New_Change* | -Develop_* | -Review_* | -Integrate_*) _aegis_names -REAson ;;
     esac
-    for entry in ${line#* }; do
+    for entry in ${line#"${line%% *}"}; do
         entry=${entry#[}
         entry=${entry%]}
         case $entry in -*) _aegis_names "$entry" ;; esac
@@ -140,7 +140,7 @@ _aegis_plain() {
     esac
 }
 
-# The words behind a function, whose line is known.
+# The words after a function, whose line is known.
 _aegis_words() {
     local before=${COMP_WORDS[COMP_CWORD - 1],,} top=''
     _aegis_find_top
@@ -180,7 +180,7 @@ _aegis() {
     esac
 }
 
-# The same behind a short name of profile.sh, as aenc.
+# The same after a short name of profile.sh, as aenc.
 _aegis_short() {
     local word=${COMP_WORDS[COMP_CWORD]} line=''
     COMPREPLY=()
@@ -191,4 +191,4 @@ _aegis_short() {
 
 complete -F _aegis aegis
 complete -F _aegis_short aena aera aend aerd aenrv aerrv aeni aeri aenpr aepa aenc aeca aencu aedb aedbu aeb aede aedeu aerb aerbu \
-    aerpass aerpu aerfail aeib aeibu aeipass aeifail aecp aecpu aenf aenfu aent aentu aerm aermu aet ael aescr aegen aeaud aerep
+    aerpass aerpu aerfail aeib aeibu aeipass aeifail aecp aecpu aenf aenfu aent aentu aerm aermu aet ael aescr aegen aeaud aerep aeds aedr
