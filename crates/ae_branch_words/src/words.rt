@@ -1,12 +1,11 @@
 // What the words of a branch say.
-ghost use Rattle.std.specs.Prelude.{◌≡◌, ◌<◌, map, option_map, position, string_bytes, ◌==◌, false};
+ghost use Rattle.std.specs.Prelude.{◌≡◌, ◌<◌, map, option_map, string_bytes, false};
 ghost use Rattle.ae_base.specs.Numbers.{delta_number};
-ghost use Rattle.ae_words.specs.Items.{behind_dash, name_and_value};
 ghost use Rattle.ae_words.specs.Spelling.{spells};
 ghost use Rattle.ae_branch_words.specs.Said.{IsAnswer, begin_from, begin_said, finish_said, names_branch, option_of, option_said, rest_said, with_no_more};
 
 use ae_base::{Delta, ProjectName};
-use ae_words::{WordsError, matches_option};
+use ae_words::{WordsError, behind_dash, matches_option, split_value};
 use std::alloc::Global;
 
 /// What words say of a branch.
@@ -25,30 +24,6 @@ pub enum Rest {
 pub struct BranchWords {
     pub name: ProjectName,
     pub rest: Rest,
-}
-
-fn behind_dash(text: &[u8]) -> Option<&[u8]>
-    ensures { option_map (λ s. s.now) result ≡ behind_dash text.now }
-{
-    match text {
-        [b'-', b'-', rest @ ..] | [b'-', rest @ ..] => Some(rest),
-        _ => None,
-    }
-}
-
-fn equals_at(text: &[u8]) -> Option<usize>
-    ensures { result ≡ position (λ b. b == 61) text.now }
-{
-    text.iter().position(|b| *b == b'=')
-}
-
-fn split_value(text: &[u8]) -> (&[u8], Option<&[u8]>)
-    ensures { (result.0.now, option_map (λ s. s.now) result.1) ≡ name_and_value text.now }
-{
-    match equals_at(text) {
-        None => (text, None),
-        Some(i) => (&text[..i], Some(&text[i + 1..])),
-    }
 }
 
 // The name of the option that a word is, and its value where `=` stands in the word.

@@ -49,7 +49,8 @@ fn without_dash(text: &[u8]) -> &[u8]
     }
 }
 
-fn behind_dash(text: &[u8]) -> Option<&[u8]>
+/// The text of an option: what stands after the one or two dashes that begin the word. `None` where none does.
+pub fn behind_dash(text: &[u8]) -> Option<&[u8]>
     ensures { option_map (λ s. s.now) result ≡ behind_dash text.now }
 {
     match text {
@@ -64,7 +65,8 @@ fn equals_at(text: &[u8]) -> Option<usize>
     text.iter().position(|b| *b == b'=')
 }
 
-fn split_value(text: &[u8]) -> (&[u8], Option<&[u8]>)
+/// The name of an option, and its value where `=` stands in the text.
+pub fn split_value(text: &[u8]) -> (&[u8], Option<&[u8]>)
     ensures { (result.0.now, option_map (λ s. s.now) result.1) ≡ name_and_value text.now }
 {
     match equals_at(text) {

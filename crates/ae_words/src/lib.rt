@@ -9,6 +9,7 @@ mod spelling;
 mod table;
 
 pub use command::Command;
+pub use items::{behind_dash, split_value};
 pub use numbers::NumberList;
 pub use read::{WordsError, first_function, read_words, words_have_one_answer};
 pub use spelling::matches_option;
