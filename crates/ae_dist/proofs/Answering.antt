@@ -10,7 +10,7 @@ use Rattle.ae_telling.specs.Telling.{IsOfCommand}
 use Rattle.ae_dist.specs.Answers.{Answers, IsAnswered, Says, damaged, done, refused}
 
 -- what isn't done is a command's outcome
-of_command : {R : Refusal → Type 0} {M : List ℕ → Type 0} {X : Type 0} (why : Outcome) → EndsAs ⊥ ⊥ R M X ⊥ why → IsOfCommand why
+pub of_command : {R : Refusal → Type 0} {M : List ℕ → Type 0} {X : Type 0} (why : Outcome) → EndsAs ⊥ ⊥ R M X ⊥ why → IsOfCommand why
 of_command _ (ends.done is) = absurd is
 of_command _ (ends.run_failed is) = absurd is
 of_command _ (ends.refused refusal is) = tt

@@ -19,7 +19,7 @@ cause_is_word cause_is.InternalEnhancement = refl
 cause_is_word cause_is.InternalImprovement = refl
 cause_is_word cause_is.Chain = refl
 
-differs : (k h : List ℕ) → not (bytes_eq k h) ≡ true → k ≢ h
+pub differs : (k h : List ℕ) → not (bytes_eq k h) ≡ true → k ≢ h
 differs k h e same = let yes : bytes_eq k h ≡ true = (bytes_decides k h).1 same in cc
 
 pub attributes_well_formed : (bundle : Bundle) → IsWellFormed (fields (attributes_of bundle))

@@ -12,6 +12,7 @@ use Rattle.ae_vault.specs.Vault.{effective}
 use Rattle.ae_types.specs.declared.change.Change.{Change}
 use Rattle.ae_types.specs.Found.{change_at}
 use Rattle.ae_types.specs.Observation.{Observation}
+use Rattle.ae_types.specs.Trees.{baseline_of}
 use Rattle.ae_exec.specs.Endings.{IsDamagedAt}
 use Rattle.ae_exec.specs.Reading.{AreKept, FirstIsLost}
 use Rattle.ae_exec.specs.Shown.{Shown}
@@ -29,7 +30,7 @@ use Rattle.ae_dist.specs.Sending.{or_refuses, refuses_sending, sent_bundle, sent
 -- ---- one of three
 
 -- what is answered is one thing where each of the three is so of one alone, and they exclude each other
-says_once : {A : Type 0} (S : A → Type 0) (R : Refusal → Type 0) (M : List ℕ → Type 0) → ((a b : A) → S a → S b → a ≡ b) → ((r q : Refusal) → R r → R q → r ≡ q) → ((m n : List ℕ) → M m → M n → m ≡ n)
+pub says_once : {A : Type 0} (S : A → Type 0) (R : Refusal → Type 0) (M : List ℕ → Type 0) → ((a b : A) → S a → S b → a ≡ b) → ((r q : Refusal) → R r → R q → r ≡ q) → ((m n : List ℕ) → M m → M n → m ≡ n)
     → ((a : A) (r : Refusal) → S a → R r → ⊥) → ((a : A) (m : List ℕ) → S a → M m → ⊥) → ((r : Refusal) (m : List ℕ) → R r → M m → ⊥) → (x y : Result A Outcome) → Says S R M x → Says S R M y → x ≡ y
 says_once S R M one_done one_refused one_damaged not_refused not_damaged not_both _ _ (done a is) (done b was) = ap Ok (one_done a b is was)
 says_once S R M one_done one_refused one_damaged not_refused not_damaged not_both _ _ (done a is) (refused r was) = absurd (not_refused a r is was)
@@ -44,15 +45,15 @@ says_once S R M one_done one_refused one_damaged not_refused not_damaged not_bot
 -- ---- what stands
 
 -- one project is shown
-same_project : (wanted : Want) (image : Image) (o p : Observation) → Shown wanted image (Some o) → Shown wanted image (Some p) → o ≡ p
+pub same_project : (wanted : Want) (image : Image) (o p : Observation) → Shown wanted image (Some o) → Shown wanted image (Some p) → o ≡ p
 same_project wanted image o p shown seen = same_Some o p (one wanted image (Some o) (Some p) shown seen)
 
 -- two reasons of what stands are one
-one_reason : (wanted : Want) (image : Image) (why : Option Observation → Option Refusal) (o p : Option Observation) (r q : Refusal) → Shown wanted image o → Shown wanted image p → why o ≡ Some r → why p ≡ Some q → r ≡ q
+pub one_reason : (wanted : Want) (image : Image) (why : Option Observation → Option Refusal) (o p : Option Observation) (r q : Refusal) → Shown wanted image o → Shown wanted image p → why o ≡ Some r → why p ≡ Some q → r ≡ q
 one_reason wanted image why o p r q shown seen is was = same_Some r q (sym is ∙ ap why (one wanted image o p shown seen) ∙ was)
 
 -- none and one are not both there
-no_reason : (wanted : Want) (image : Image) (why : Option Observation → Option Refusal) (o : Observation) (p : Option Observation) (r : Refusal) → Shown wanted image (Some o) → Shown wanted image p → why (Some o) ≡ None → why p ≡ Some r → ⊥
+pub no_reason : (wanted : Want) (image : Image) (why : Option Observation → Option Refusal) (o : Observation) (p : Option Observation) (r : Refusal) → Shown wanted image (Some o) → Shown wanted image p → why (Some o) ≡ None → why p ≡ Some r → ⊥
 no_reason wanted image why o p r shown seen free is = let both : None ≡ Some r = sym free ∙ ap why (one wanted image (Some o) p shown seen) ∙ is in cc
 
 -- ---- sending
@@ -117,7 +118,7 @@ module _ (image : Image) (name : Option (List ℕ)) (bundle : Bundle) where
   plans_once a b s t =
       let same = same_project want.Nothing image s.o t.o s.shown t.shown in
       let number : s.is.number ≡ t.is.number = same_Some s.is.number t.is.number (sym s.is.free ∙ ap free_number same ∙ t.is.free) in
-      s.is.is ∙ (λ i. plan_of (same i) (number i) bundle) ∙ sym t.is.is
+      s.is.is ∙ (λ i. plan_of (baseline_of (same i)) (number i) bundle) ∙ sym t.is.is
 
   -- nothing refuses it
   free_plan : (a : List Act) (s : Plans image name bundle a) → refuses_plan name (Some s.o) ≡ None

@@ -98,7 +98,7 @@ file_same a b same row = λ i. record { path = row.path; action = row.action; us
     go (Some v) = same v
     go None = refl
 
-files_same : (a b : Option Image) → SameBytes a b → (rows : List Row) → map (sent_file a) rows ≡ map (sent_file b) rows
+pub files_same : (a b : Option Image) → SameBytes a b → (rows : List Row) → map (sent_file a) rows ≡ map (sent_file b) rows
 files_same a b same [] = refl
 files_same a b same (row ∷ rows) = λ i. file_same a b same row i ∷ files_same a b same rows i
 

@@ -114,3 +114,8 @@ pub record RefusesPlan (image : Image) (name : Option (List ℕ)) (refusal : Ref
 -- what the files say of planning it
 abbrev pub IsPlanning : Image → Option (List ℕ) → Bundle → Result (List Act) Outcome → Type 0
 IsPlanning image name bundle = Says (Plans image name bundle) (RefusesPlan image name) (IsDamagedAt want.Nothing image)
+
+-- why there is no plan, by what the disk's files show; what they say comes, unless the disk failed or memory ran out
+pub record HasNoPlan (disk_told : Type 0) (image : Image) (name : Option (List ℕ)) (bundle : Bundle) (disk_rose : Type 0) (why : Outcome) : Type 0 where
+  pub caused : EndsAs ⊥ ⊥ (λ (refusal : Refusal). disk_told → RefusesPlan image name refusal) (λ (damaged : List ℕ). disk_told → IsDamagedAt want.Nothing image damaged) disk_rose ⊥ why
+  pub only : disk_told → (said : Result (List Act) Outcome) → IsPlanning image name bundle said → IsAnswered said (Err why)

@@ -1,7 +1,7 @@
 -- How a change is made of a change set: what is done, one after the other.
 use Rattle.std.specs.Prelude.{◌≡◌, ℕ, Bool, false, ◌&&◌, not, if◌then◌else◌, List, [], ◌∷◌, ◌++◌, Option, Some, None, is_some, codes, find}
 use Rattle.std.specs.List.{filter_map}
-use Rattle.std.specs.Option.{option_and_then}
+use Rattle.std.specs.Option.{option_and_then, option_map_or}
 use Rattle.std.specs.Str.{bytes_eq}
 use Rattle.ae_base.specs.Limits.{most_changes}
 use Rattle.ae_base.specs.Words.{cause_word}
@@ -17,7 +17,7 @@ use Rattle.ae_files.specs.InTree.{row_at}
 use Rattle.ae_types.specs.Found.{has_number}
 use Rattle.ae_types.specs.Observation.{Observation}
 use Rattle.ae_types.specs.Phases.{is_remove, is_test}
-use Rattle.ae_types.specs.Trees.{baseline_of}
+use Rattle.ae_types.specs.Trees.{TreeRow, baseline_of}
 use Rattle.ae_words.specs.declared.command.Command.{Command}
 use Rattle.ae_words.specs.declared.table.Function.{Function}
 use Rattle.ae_words.specs.declared.table.Function.TheVariants as function
@@ -81,42 +81,46 @@ begin number = command function.DevelopBegin (Some number) None []
 abbrev pub on_path : Function → ℕ → List ℕ → Command
 on_path function number path = command function (Some number) None (path ∷ [])
 
--- ---- what is done with the files
+-- ---- what is done with the files, where the baseline is this tree
 
--- the baseline has the path
-abbrev pub is_there : Observation → List ℕ → Bool
-is_there o path = is_some (row_at (baseline_of o) path)
+-- the baseline of what stands; none where nothing does
+abbrev pub tree_in : Option Observation → List TreeRow
+tree_in stands = option_map_or baseline_of stands []
 
--- a removed path is removed, where the baseline has it
-abbrev pub removal : Observation → ℕ → BundleFile → Option Act
-removal o number file = if is_remove file.action && is_there o file.path then Some (Run (on_path function.RemoveFile number file.path)) else None
+-- it has the path
+abbrev pub is_there : List TreeRow → List ℕ → Bool
+is_there tree path = is_some (row_at tree path)
 
--- any other is copied where the baseline has it, and else it is a new test or a new file
-abbrev pub adding : Observation → BundleFile → Function
-adding o file =
-    if is_there o file.path then function.CopyFile
+-- a removed path is removed, where it is there
+abbrev pub removal : List TreeRow → ℕ → BundleFile → Option Act
+removal tree number file = if is_remove file.action && is_there tree file.path then Some (Run (on_path function.RemoveFile number file.path)) else None
+
+-- any other is copied where it is there, and else it is a new test or a new file
+abbrev pub adding : List TreeRow → BundleFile → Function
+adding tree file =
+    if is_there tree file.path then function.CopyFile
     else if is_test file.usage && not (bytes_eq file.path (codes "aegis.conf")) then function.NewTest
     else function.NewFile
 
-abbrev pub addition : Observation → ℕ → BundleFile → Option Act
-addition o number file = if is_remove file.action then None else Some (Run (on_path (adding o file) number file.path))
+abbrev pub addition : List TreeRow → ℕ → BundleFile → Option Act
+addition tree number file = if is_remove file.action then None else Some (Run (on_path (adding tree file) number file.path))
 
 -- and its bytes are put into the develop directory
 abbrev pub put : ℕ → BundleFile → Option Act
 put number file = if is_remove file.action then None else Some (Put (Develop number) file.path file.bytes)
 
--- ---- the plan
+-- ---- the plan, where the baseline is this tree
 
 -- all that is done but for the files' bytes
-abbrev pub commands_of : Observation → ℕ → Bundle → List Act
-commands_of o number bundle =
+abbrev pub commands_of : List TreeRow → ℕ → Bundle → List Act
+commands_of tree number bundle =
     Put Here attributes_path (attributes_text bundle) ∷ Run new_change ∷ Run (begin number)
-    ∷ (filter_map (removal o number) bundle.files ++ filter_map (addition o number) bundle.files)
+    ∷ (filter_map (removal tree number) bundle.files ++ filter_map (addition tree number) bundle.files)
 
-abbrev pub plan_of : Observation → ℕ → Bundle → List Act
-plan_of o number bundle =
+abbrev pub plan_of : List TreeRow → ℕ → Bundle → List Act
+plan_of tree number bundle =
     Put Here attributes_path (attributes_text bundle) ∷ Run new_change ∷ Run (begin number)
-    ∷ (filter_map (removal o number) bundle.files ++ (filter_map (addition o number) bundle.files ++ filter_map (put number) bundle.files))
+    ∷ (filter_map (removal tree number) bundle.files ++ (filter_map (addition tree number) bundle.files ++ filter_map (put number) bundle.files))
 
 -- there is no room for one more change
 abbrev pub no_room : Refusal
@@ -134,4 +138,4 @@ pub record IsPlan (o : Observation) (name : Option (List ℕ)) (bundle : Bundle)
   pub number : ℕ
   pub named : refuses_project name (Some o) ≡ None
   pub free : free_number o ≡ Some number
-  pub is : acts ≡ plan_of o number bundle
+  pub is : acts ≡ plan_of (baseline_of o) number bundle

@@ -3,6 +3,7 @@ use Rattle.std.specs.Prelude.{◌≡◌, ◌≤◌, ℕ, true, List, map, length
 use Rattle.std.specs.List.{AllByRecursion, list_all}
 use Rattle.std.specs.Global.{Vec}
 use Rattle.ae_base.specs.Limits.{most_attribute_bytes, most_change_files, most_frozen_bytes}
+use Rattle.ae_base.specs.Names.{IsPath}
 use Rattle.ae_base.specs.Rows.{text_cmp}
 use Rattle.ae_base.specs.declared.want.Want.{Want}
 use Rattle.ae_base.specs.declared.want.Want.TheVariants as want
@@ -15,6 +16,7 @@ use Rattle.ae_types.specs.declared.change.Change.{Change}
 use Rattle.ae_types.specs.Found.{change_at}
 use Rattle.ae_types.specs.Observation.{Observation}
 use Rattle.ae_types.specs.Ordered.{Ascends}
+use Rattle.ae_types.specs.Trees.{baseline_of}
 use Rattle.ae_exec.specs.Endings.{IsDamagedAt}
 use Rattle.ae_exec.specs.Reading.{AreKept, IsInside}
 use Rattle.ae_bundle.specs.declared.bundle.Bundle.{Bundle}
@@ -40,16 +42,20 @@ Opens told wanted image name =
     Answers (λ (o : Observation). told → IsOpened wanted image name o) (λ (refusal : Refusal). told → IsRefusedAt wanted image name refusal)
     (λ (damaged : List ℕ). told → IsDamagedAt wanted image damaged)
 
+-- what these files are called are paths
+abbrev pub ArePaths : List BundleFile → Type 0
+ArePaths files = AllByRecursion (λ (file : BundleFile). IsPath file.path) files
+
 -- the plan of a project, or why there is none
 abbrev pub IsPlanned : Observation → Bundle → Result (List Act) Outcome → Type 0
-IsPlanned o bundle = Tells (λ (acts : List Act). (number : ℕ) × (free_number o ≡ Some number) × (acts ≡ plan_of o number bundle)) (refuses_numbers o)
+IsPlanned o bundle = Tells (λ (acts : List Act). (number : ℕ) × (free_number o ≡ Some number) × (acts ≡ plan_of (baseline_of o) number bundle)) (refuses_numbers o)
 
 -- the acts are the plan of a project that was loaded, whatever the disk tells
 pub record IsSomePlan (bundle : Bundle) (acts : List Act) : Type 0 where
   pub o : Observation
   pub number : ℕ
   pub free : free_number o ≡ Some number
-  pub is : acts ≡ plan_of o number bundle
+  pub is : acts ≡ plan_of (baseline_of o) number bundle
 
 -- ---- a change that can be sent
 

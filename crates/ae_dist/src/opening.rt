@@ -37,7 +37,7 @@ fn taken(loaded: Option<State>, name: Option<&ProjectName>) -> Result<State, Out
 }
 
 /// The project that is there, where it may be named so, with the changes that are wanted; the store is opened as by a command.
-pub(crate) fn open_project<D: Disk>(
+pub fn open_project<D: Disk>(
     alloc: Global,
     disk: &mut D,
     want: Want,

@@ -1,11 +1,13 @@
 // How a change is made of a change set.
-ghost use Rattle.std.specs.Prelude.{◌≡◌, ◌≤◌, ◌++◌, ◌∷◌, [], map, option_copied, IfOk, List, OnOk, Result, find};
+ghost use Rattle.std.specs.Prelude.{◌≡◌, ◌≤◌, All, ◌++◌, ◌∷◌, [], map, option_copied, IfOk, List, OnOk, Result, find};
 ghost use Rattle.std.specs.List.{filter_map, cons_option};
 ghost use Rattle.std.specs.Ordering.{nat_cmp};
 ghost use Rattle.ae_log.specs.Settings.{change_numbers};
 ghost use Rattle.ae_base.specs.declared.outcome.Outcome.{Outcome};
 ghost use Rattle.ae_exec.specs.Endings.{IsDamagedAt};
 ghost use Rattle.ae_exec.specs.Performs.{LeavesDisk};
+ghost use Rattle.ae_bundle.specs.Bundled.{Fits};
+ghost use Rattle.ae_lines.specs.Acts.{MayBeDone};
 ghost use Rattle.ae_lines.specs.declared.act.Act.{Act};
 ghost use Rattle.ae_outside.specs.State.{reads};
 ghost use Rattle.ae_text.specs.Tree.{fields};
@@ -14,8 +16,9 @@ ghost use Rattle.ae_types.specs.Ordered.{Ascends, itself};
 ghost use Rattle.ae_types.specs.Phases.{is_remove};
 ghost use Rattle.ae_vault.specs.Disk.{DiskFailed};
 ghost use Rattle.ae_dist.specs.Answers.{Answers, IsAnswered, IsPlanning, Plans, RefusesPlan};
-ghost use Rattle.ae_dist.specs.Steps.{IsPlanned, IsSomePlan};
-ghost use Rattle.ae_dist.specs.Plan.{adding, addition, attributes_of, attributes_path, attributes_text, begin, command, commands_of, is_there, is_unused, new_change, on_path, plan_of, put, removal};
+ghost use Rattle.ae_dist.specs.Steps.{ArePaths, IsPlanned, IsSomePlan};
+ghost use Rattle.ae_words.specs.Formed.{first_change};
+ghost use Rattle.ae_dist.specs.Plan.{adding, addition, attributes_of, attributes_path, attributes_text, begin, command, commands_of, is_there, is_unused, new_change, on_path, plan_of, put, removal, tree_in};
 
 use crate::ActList;
 use crate::opening::open_project;
@@ -85,8 +88,8 @@ fn attributes_text(alloc: Global, bundle: &Bundle) -> Result<Text, AllocError>
     Ok(Text::of(print_tree(alloc, &tree)?))
 }
 
-// A command that says no more.
-fn command(
+/// A command that says no more.
+pub fn command(
     alloc: Global,
     function: Function,
     change: Option<ChangeNo>,
@@ -127,11 +130,14 @@ fn on_path(
     Ok(Act::Run(command(alloc, function, Some(number), None, paths)))
 }
 
-// Whether the baseline has the path.
-fn is_there(state: &State, path: &Path) -> bool
-    ensures { result ≡ is_there state.now path.now }
+// Whether the baseline has the path; there is none where nothing stands.
+fn is_there(state: Option<&State>, path: &Path) -> bool
+    ensures { result ≡ is_there (tree_in (option_copied state.entry)) path.now }
 {
-    file_in_tree(state, state.project().deltas.len(), path).is_some()
+    match state {
+        Some(state) => file_in_tree(state, state.project().deltas.len(), path).is_some(),
+        None => false,
+    }
 }
 
 fn is_removed(file: &BundleFile) -> bool
@@ -143,11 +149,11 @@ fn is_removed(file: &BundleFile) -> bool
 // A removed path is removed, where the baseline has it.
 fn removal(
     alloc: Global,
-    state: &State,
+    state: Option<&State>,
     number: ChangeNo,
     file: &BundleFile,
 ) -> Result<Option<Act>, AllocError>
-    ensures { IfOk result (λ act. act ≡ removal state.now number file.now) }
+    ensures { IfOk result (λ act. act ≡ removal (tree_in (option_copied state.entry)) number file.now) }
 {
     if !is_removed(file) || !is_there(state, &file.path) {
         return Ok(None);
@@ -156,8 +162,8 @@ fn removal(
 }
 
 // The function that puts a file into the change.
-fn adding(state: &State, file: &BundleFile) -> Function
-    ensures { result ≡ adding state.now file.now }
+fn adding(state: Option<&State>, file: &BundleFile) -> Function
+    ensures { result ≡ adding (tree_in (option_copied state.entry)) file.now }
 {
     if is_there(state, &file.path) {
         Function::CopyFile
@@ -171,11 +177,11 @@ fn adding(state: &State, file: &BundleFile) -> Function
 // Any other is copied where the baseline has it, and else it is a new test or a new file.
 fn addition(
     alloc: Global,
-    state: &State,
+    state: Option<&State>,
     number: ChangeNo,
     file: &BundleFile,
 ) -> Result<Option<Act>, AllocError>
-    ensures { IfOk result (λ act. act ≡ addition state.now number file.now) }
+    ensures { IfOk result (λ act. act ≡ addition (tree_in (option_copied state.entry)) number file.now) }
 {
     if is_removed(file) {
         return Ok(None);
@@ -206,11 +212,11 @@ fn add_act(acts: &mut ActList, act: Option<Act>) -> Result<(), AllocError>
 fn add_removals(
     acts: &mut ActList,
     alloc: Global,
-    state: &State,
+    state: Option<&State>,
     number: ChangeNo,
     files: &[BundleFile],
 ) -> Result<(), AllocError>
-    ensures { OnOk result (acts.new ≡ acts.old ++ filter_map (removal state.now number) files.now) }
+    ensures { OnOk result (acts.new ≡ acts.old ++ filter_map (removal (tree_in (option_copied state.entry)) number) files.now) }
 {
     for file in files {
         let act = removal(alloc, state, number, file)?;
@@ -222,11 +228,11 @@ fn add_removals(
 fn add_additions(
     acts: &mut ActList,
     alloc: Global,
-    state: &State,
+    state: Option<&State>,
     number: ChangeNo,
     files: &[BundleFile],
 ) -> Result<(), AllocError>
-    ensures { OnOk result (acts.new ≡ acts.old ++ filter_map (addition state.now number) files.now) }
+    ensures { OnOk result (acts.new ≡ acts.old ++ filter_map (addition (tree_in (option_copied state.entry)) number) files.now) }
 {
     for file in files {
         let act = addition(alloc, state, number, file)?;
@@ -273,11 +279,11 @@ fn first_acts(alloc: Global, number: ChangeNo, bundle: &Bundle) -> Result<ActLis
 // The acts on the change's files but for their bytes.
 fn commands_for(
     alloc: Global,
-    state: &State,
+    state: Option<&State>,
     number: ChangeNo,
     bundle: &Bundle,
 ) -> Result<ActList, AllocError>
-    ensures { IfOk result (λ acts. acts ≡ commands_of state.now number bundle.now) }
+    ensures { IfOk result (λ acts. acts ≡ commands_of (tree_in (option_copied state.entry)) number bundle.now) }
 {
     let mut acts = first_acts(alloc, number, bundle)?;
     let files = bundle.files.as_slice();
@@ -289,29 +295,49 @@ fn commands_for(
 // The plan for a change of this number.
 fn acts_for(
     alloc: Global,
-    state: &State,
+    state: Option<&State>,
     number: ChangeNo,
     bundle: Bundle,
 ) -> Result<ActList, AllocError>
-    ensures { IfOk result (λ acts. acts ≡ plan_of state.now number bundle) }
+    ensures { IfOk result (λ acts. acts ≡ plan_of (tree_in (option_copied state.entry)) number bundle) }
 {
     let mut acts = commands_for(alloc, state, number, &bundle)?;
     add_puts(&mut acts, number, bundle.files.into_vec())?;
     Ok(acts)
 }
 
-// The plan for the least number that is free.
-fn acts_of(alloc: Global, state: &State, bundle: Bundle) -> Result<ActList, Outcome>
-    ensures { IsPlanned state.now bundle result }
+// The files' paths are paths: the proof knows it of each that is looked at.
+fn note_paths(files: &[BundleFile])
+    ensures { ArePaths files.now }
+{
+    for file in files {
+        let _path = file.path.bytes();
+    }
+}
+
+/// The plan of a change set for this project, for the least number that is free. The bytes of the files are moved into the plan.
+pub fn plan_on(alloc: Global, state: &State, bundle: Bundle) -> Result<ActList, Outcome>
+    ensures planned { IsPlanned state.now bundle result }
+    ensures formed { IfOk result (All MayBeDone) }
 {
     state.note_sound();
+    note_paths(bundle.files.as_slice());
     let Some(number) = free_number(state.numbers()) else {
         return Err(Outcome::Refused(Refusal::Limit(Which::Changes, MOST_CHANGES as u64)));
     };
-    match acts_for(alloc, state, number, bundle) {
+    match acts_for(alloc, Some(state), number, bundle) {
         Ok(acts) => Ok(acts),
         Err(_) => Err(Outcome::Memory),
     }
+}
+
+/// The plan of a change set for a project that has no change and no file yet. The bytes of the files are moved into the plan.
+pub fn first_plan(alloc: Global, bundle: Bundle) -> Result<ActList, AllocError>
+    ensures planned { IfOk result (λ acts. acts ≡ plan_of [] first_change bundle) }
+    ensures formed { IfOk result (All MayBeDone) }
+{
+    note_paths(bundle.files.as_slice());
+    acts_for(alloc, None, ChangeNo::of(10), bundle)
 }
 
 /// The plan of a change set, for the least number that is free. The store is opened as by a command; the bytes of the files are moved
@@ -331,13 +357,14 @@ pub fn plan<D: Disk>(
     // and what they say comes, unless the disk failed or memory ran out.
     ensures only { D.tells → (said : Result (List Act) Outcome) →
         IsPlanning (reads (D.state disk.old)) (option_copied project.entry) bundle said → IsAnswered said result }
-    // Acts that are answered are the plan of some project, whatever the disk tells.
+    // Acts that are answered are the plan of some project, whatever the disk tells, and may be done.
     ensures planned { IfOk result (IsSomePlan bundle) }
+    ensures formed { Fits bundle → IfOk result (All MayBeDone) }
     ensures disk { D.tells → LeavesDisk (D.state disk.old) (D.state disk.new) (Unit {0}) }
     ensures later { D.faults disk.old ≤ D.faults disk.new }
 {
     match open_project(alloc, disk, Want::Nothing, project) {
-        Ok(state) => acts_of(alloc, &state, bundle),
+        Ok(state) => plan_on(alloc, &state, bundle),
         Err(why) => Err(why),
     }
 }

@@ -13,9 +13,9 @@ use ae_base::{Action, ChangeNo, Delta, Path, Usage};
 use ae_types::{Change, ChangeFile, DeltaRow, State, VersionRef, entry_in};
 use std::alloc::{AllocError, Global};
 
-/// A file of the change, with the version that its delta made of it; none where it is removed.
+/// A file that is sent, with the version whose bytes it has; none where it is removed.
 #[derive(Drop)]
-pub(crate) struct Row {
+pub struct Row {
     pub path: Path,
     pub action: Action,
     pub usage: Usage,

@@ -182,8 +182,12 @@ fn push_file<D: Disk>(
     }
 }
 
-// The files of the rows, with their bytes.
-fn files_of<D: Disk>(alloc: Global, disk: &mut D, rows: &[Row]) -> Result<BundleFileList, Outcome>
+/// The files of the rows, with their bytes.
+pub fn read_files<D: Disk>(
+    alloc: Global,
+    disk: &mut D,
+    rows: &[Row],
+) -> Result<BundleFileList, Outcome>
     requires clean { IsCleanDisk D.Disk disk.old }
     requires inside { AllByRecursion (λ (row : Row). IfSome row.version IsInside) rows.now }
     ensures files { IfOk result (λ files. D.tells → AreReadFrom (files_of D.Disk disk.old) rows.now files) }
@@ -226,7 +230,7 @@ fn filled<D: Disk>(alloc: Global, disk: &mut D, head: Head, rows: &[Row]) -> Res
     ensures later { D.faults disk.old ≤ D.faults disk.new }
 {
     note_paths(rows);
-    match files_of(alloc, disk, rows) {
+    match read_files(alloc, disk, rows) {
         Ok(files) => Ok(Bundle {
             brief: head.brief,
             description: head.description,

@@ -58,17 +58,17 @@ module _ (out err : SinkUse) (result : Outcome) (R : Refusal → Type 0) (M : Li
     may_end = done tt;
     how = elim told.how [ inl same ↦ inl same | inr left ↦ inr (left.0, inl left.1) ];
   }
-  answer_ended Y V disk site (answer.stopped why meant is may told quiet) = record {
-    meant = meant;
-    may_end = ends_for meant (meant_ends why meant (fails_of why is) may) (λ none. tt) (λ refusal so. tt) (λ name so. tt) disk site;
-    how = elim told.how [ inl same ↦ inl same | inr left ↦ inr (left.0, inr left.1) ];
+  answer_ended Y V disk site (answer.stopped why is told quiet) = record {
+    meant = told.meant;
+    may_end = ends_for told.meant (meant_ends why told.meant (fails_of why is) told.is_meant) (λ none. tt) (λ refusal so. tt) (λ name so. tt) disk site;
+    how = elim told.is_told.how [ inl same ↦ inl same | inr left ↦ inr (left.0, inr left.1) ];
   }
 
   -- once it is done the answer is a text, and `out` has taken it
   pub done_text : IsAnswerTold answered out err result → result ≡ Done → (text : List ℕ) × (answered ≡ Ok text) × (out.told → out.after ≡ out.before ++ text)
   done_text (answer.done text is told quiet) ended_so = (text, is, λ tells. subst (λ (o : Outcome). IsSaid text o out.before out.after out.rose) ended_so (told.said tells))
-  done_text (answer.stopped why meant is may told quiet) ended_so =
-      absurd (never_done meant (meant_ends why meant (fails_of why is) may) (either_done meant result err.rose told.how ended_so))
+  done_text (answer.stopped why is told quiet) ended_so =
+      absurd (never_done told.meant (meant_ends why told.meant (fails_of why is) told.is_meant) (either_done told.meant result err.rose told.is_told.how ended_so))
 
 -- ---- a report
 

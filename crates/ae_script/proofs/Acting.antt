@@ -9,7 +9,8 @@ use Rattle.ae_lines.specs.declared.line.Line.{Line}
 use Rattle.ae_lines.specs.declared.line.Line.TheVariants.{Do}
 use Rattle.ae_words.specs.declared.command.Command.{Command}
 use Rattle.ae_telling.specs.Telling.{SinkUse, IsSaid, IsTold, sink_use, unless_told}
-use Rattle.ae_script.specs.Acts.{ActsDone, AllDone, MayBeDone, line_of, lines_of_acts}
+use Rattle.ae_lines.specs.Acts.{MayBeDone}
+use Rattle.ae_script.specs.Acts.{ActsDone, AllDone, line_of, lines_of_acts}
 use Rattle.ae_script.specs.Lines.{AllLead, AreDone, Did, Does, LinesEnd, Stand, by_end, by_line, lines_said}
 use Rattle.ae_script.specs.Manner.{is_done, leads_on}
 use Rattle.ae_script.specs.Step.{IsStoppedBy}

@@ -1,11 +1,9 @@
 -- Acts that are done one after another.
-use Rattle.std.specs.Prelude.{◌≡◌, ◌++◌, ℕ, List, [], true, map}
+use Rattle.std.specs.Prelude.{◌≡◌, ◌++◌, ℕ, List, [], map}
 use Rattle.ae_base.specs.declared.outcome.Outcome.{Outcome}
 use Rattle.ae_base.specs.declared.outcome.Outcome.TheVariants.{Done}
 use Rattle.ae_lines.specs.declared.line.Line.{Line}
 use Rattle.ae_lines.specs.declared.line.Line.TheVariants.{Do, Put}
-use Rattle.ae_words.specs.Formed.{IsFormed}
-use Rattle.ae_words.specs.Table.{is_one_command}
 use Rattle.ae_telling.specs.Telling.{SinkUse}
 use Rattle.ae_script.specs.Follows.{FollowLogs}
 use Rattle.ae_script.specs.Lines.{AreDone, Did, LinesEnd, Stand, last_stand, lines_said}
@@ -21,11 +19,6 @@ line_of (act.Put dir path text) = Put dir path text
 
 abbrev pub lines_of_acts : List Act → List Line
 lines_of_acts acts = map line_of acts
-
--- a command that may be performed
-abbrev pub MayBeDone : Act → Type 0
-MayBeDone (act.Run command) = IsFormed command × (is_one_command command.function ≡ true)
-MayBeDone (act.Put dir path text) = Unit {0}
 
 -- after all acts nothing is said
 abbrev pub AllDone : List Line → Outcome → List ℕ → Type 0

@@ -1,8 +1,9 @@
 // Acts, done one after another.
 ghost use Rattle.std.specs.Prelude.{◌≡◌, ◌≤◌, All};
 ghost use Rattle.ae_base.specs.Limits.{last_moment};
+ghost use Rattle.ae_lines.specs.Acts.{MayBeDone};
 ghost use Rattle.ae_telling.specs.Telling.{use_of_sink};
-ghost use Rattle.ae_script.specs.Acts.{ActsDone, MayBeDone, line_of};
+ghost use Rattle.ae_script.specs.Acts.{ActsDone, line_of};
 ghost use Rattle.ae_script.specs.Lines.{Does, did, stand};
 ghost use Rattle.ae_script.specs.Step.{told_by};
 ghost use Rattle.ae_script.specs.Uses.{disks, sites};

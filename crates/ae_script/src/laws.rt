@@ -1,16 +1,19 @@
 // What holds of all lines that are done, of all acts, and of all scripts.
 ghost use Rattle.ae_script.specs.Uses.{sinks, sources, disks, sites};
 ghost use Rattle.ae_script.specs.Ends.{FaultsAreOfTheLastLine, ScriptsAreCaused, ScriptsAreToldFirst, ScriptsEndWhole};
-ghost use Rattle.ae_script.specs.Follows.{LooksFollow};
+ghost use Rattle.ae_script.specs.Follows.{LooksFollow, LooksStay, StaysFollow};
 ghost use Rattle.ae_script.specs.Laws.{ActsAreCaused, AllMeansDone, DoneMeansAll, LinesKeepDisks};
 
 use ae_outside::{Disk, Sink, Site, Source};
 
 /// Laws of lines that are done, whatever the disk holds. They keep the disk: time goes on, it stays settled, and no files but the
-/// store's own are changed. And where the disk is only read before them, they follow the logs that it held before that.
+/// store's own are changed. And where nothing happens to a log before them, as where the disk is only read, they follow the logs that
+/// it held before that.
 pub fn lines_keep_disks<D: Disk, S: Site>()
     ensures kept { LinesKeepDisks (disks D.Disk) (sites S.Site) }
     ensures looked { LooksFollow (disks D.Disk) (sites S.Site) }
+    ensures look { LooksStay (disks D.Disk) (sites S.Site) }
+    ensures stayed { StaysFollow (disks D.Disk) (sites S.Site) }
 {}
 
 /// Laws of acts. One that ends them with a fault has its cause. And those of a plan end with `Done` exactly where each is done, but for

@@ -125,10 +125,10 @@ module _ (d : Disks) (s : Sites) where
 
       by : IsAnswerTold did.told.answer out err result → Caused from disk site input_rose out err result
       by (answered.done text is told quiet) = caused_told _ _ input_rose (out.rose ⊎ err.rose) Done result tt (elim told.how [ inl same ↦ inl same | inr untold ↦ inr (untold.0, inl untold.1) ])
-      by (answered.stopped why meant is how told quiet) =
-          caused_told _ _ input_rose (out.rose ⊎ err.rose) meant result
-          (caused_on disk_rose site_rose ⊥ ⊥ _ _ input_rose (out.rose ⊎ err.rose) (λ rose. rose) (λ rose. rose) (λ none. absurd none) (λ none. absurd none) meant (meant_so why meant how (fails why is)))
-          (elim told.how [ inl same ↦ inl same | inr untold ↦ inr (untold.0, inr untold.1) ])
+      by (answered.stopped why is told quiet) =
+          caused_told _ _ input_rose (out.rose ⊎ err.rose) told.meant result
+          (caused_on disk_rose site_rose ⊥ ⊥ _ _ input_rose (out.rose ⊎ err.rose) (λ rose. rose) (λ rose. rose) (λ none. absurd none) (λ none. absurd none) told.meant (meant_so why told.meant told.is_meant (fails why is)))
+          (elim told.is_told.how [ inl same ↦ inl same | inr untold ↦ inr (untold.0, inr untold.1) ])
 
   asked_caused : (asked : Asked) (from : Stand d s) (disk : d.Disk) (site : s.Site) (input : SourceUse) (out err : SinkUse) (result : Outcome) (manner : Manner) (begun : Stand d s) (done : List (Did d s)) → IsAsked d s asked from disk site input out err result manner begun done
       → IsCaused (HasRisen (d.faults from.disk) (d.faults disk)) (HasRisen (s.faults from.site) (s.faults site)) input.rose (out.rose ⊎ err.rose) result

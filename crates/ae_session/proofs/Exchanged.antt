@@ -11,7 +11,7 @@ use Rattle.ae_exec.specs.Endings as ending
 use Rattle.ae_dist.specs.Receiving.{IsUnread, not_understood, source_fault}
 use Rattle.ae_dist.specs.Receiving as receiving
 use Rattle.ae_reporting.proofs.Told.{Ended}
-use Rattle.ae_telling.specs.Answered.{IsMeant}
+use Rattle.ae_telling.specs.Answered.{IsMeant, IsWhyTold}
 use Rattle.ae_telling.specs.Telling.{SinkUse}
 use Rattle.ae_script.specs.Causes.{IsCaused}
 use Rattle.ae_script.specs.Lines.{Did, Stand, stand}
@@ -22,7 +22,6 @@ use Rattle.ae_script.proofs.Acting.{caused_by_acts}
 use Rattle.ae_script.proofs.Caused.{caused_command, caused_on, caused_told}
 use Rattle.ae_script.proofs.Keeping.{keeps_by, keeps_still, keeps_then, lines_keep}
 use Rattle.ae_session.specs.Called.{ReceiveDone, SendDone, planned, unplanned, unread}
-use Rattle.ae_session.specs.Received.{IsWhyTold}
 use Rattle.ae_session.proofs.Sent.{sent_ended}
 
 -- what was meant with its causes, told to one of the two sinks

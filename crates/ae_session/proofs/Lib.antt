@@ -5,7 +5,6 @@ pub mod CommandNames
 pub mod Counting
 pub mod Exchanged
 pub mod Making
-pub mod PlanFormed
 pub mod Projects
 pub mod Received
 pub mod Repeating

@@ -1,6 +1,6 @@
 -- A change set that is received, or why none is.
-use Rattle.std.specs.Prelude.{◌≡◌, ◌≤◌, ℕ, false, List, [], Option, Result, Ok, Err, IfOk, IfErr}
-use Rattle.std.proofs.Common.{inl, inr, refl, sym, subst, ap, ◌∙◌}
+use Rattle.std.specs.Prelude.{◌≡◌, ◌≤◌, ℕ, All, List, [], Option, Result, Ok, Err, IfOk, IfErr}
+use Rattle.std.proofs.Common.{inl, inr, refl, sym, subst}
 use Rattle.ae_base.specs.declared.outcome.Outcome.{Outcome}
 use Rattle.ae_base.specs.declared.outcome.Outcome.TheVariants.{SourceFault}
 use Rattle.ae_base.specs.declared.refusal.Refusal.{Refusal}
@@ -8,37 +8,33 @@ use Rattle.ae_base.specs.declared.want.Want.TheVariants.{Nothing}
 use Rattle.ae_outside.specs.Causes.{HasRisen}
 use Rattle.ae_outside.specs.Image.{Image}
 use Rattle.ae_outside.specs.State.{reads}
-use Rattle.ae_bundle.specs.Bundled.{Fits}
 use Rattle.ae_bundle.specs.declared.bundle.Bundle.{Bundle}
 use Rattle.ae_exec.specs.Endings.{EndsAs, IsDamagedAt}
 use Rattle.ae_exec.specs.Endings as ending
 use Rattle.ae_exec.specs.Performs.{LeavesDisk}
+use Rattle.ae_lines.specs.Acts.{MayBeDone}
 use Rattle.ae_lines.specs.declared.act.Act.{Act}
 use Rattle.ae_dist.specs.Answers.{Answers, IsAnswered, IsPlanning, Plans, RefusesPlan}
 use Rattle.ae_dist.specs.Receiving.{IsReceived, IsUnread, not_understood, source_fault}
 use Rattle.ae_dist.specs.Receiving as receiving
-use Rattle.ae_dist.specs.Steps.{IsSomePlan}
-use Rattle.ae_telling.specs.Answered.{IsMeant}
-use Rattle.ae_telling.specs.Messages.{command_text}
-use Rattle.ae_telling.specs.Telling.{IsOfCommand, IsTold, SinkUse}
-use Rattle.ae_telling.proofs.Answered.{message_alone}
+use Rattle.ae_telling.specs.Answered.{IsWhyTold}
+use Rattle.ae_telling.specs.Telling.{IsOfCommand, SinkUse}
 use Rattle.ae_script.specs.Acts.{ActsDone}
 use Rattle.ae_script.specs.Lines.{Stand, stand}
 use Rattle.ae_script.specs.Uses.{Disks, Sites, SourceUse}
 use Rattle.ae_script.specs.declared.manner.Manner.TheVariants.{Plan}
 use Rattle.ae_session.specs.Called.{Receives, planned}
 use Rattle.ae_session.specs.Called as called
-use Rattle.ae_session.specs.Received.{HasPlan, IsOfReceiving, IsUnplanned, IsWhyTold, unplanned, unread}
-use Rattle.ae_session.proofs.PlanFormed.{plan_formed}
+use Rattle.ae_session.specs.Received.{HasPlan, IsOfReceiving, IsUnplanned, unplanned, unread}
 
 module _ (disk_told input_told : Type 0) (image : Image) (name : Option (List ℕ)) (before after : List ℕ) (bundle : Bundle) (disk_rose : Type 0) where
   abbrev Planned : Result (List Act) Outcome → Type 0
   Planned result =
       Answers (λ (acts : List Act). disk_told → Plans image name bundle acts) (λ (refusal : Refusal). disk_told → RefusesPlan image name refusal) (λ (damaged : List ℕ). disk_told → IsDamagedAt Nothing image damaged) disk_rose result
 
-  pub has_plan : IsReceived input_told before after bundle → Fits bundle → (result : Result (List Act) Outcome) → Planned result → IfOk result (IsSomePlan bundle) → IfOk result (HasPlan disk_told input_told image name before after)
-  has_plan received fits (Ok acts) plans some = record { bundle = bundle; received = received; plans = plans; may = plan_formed bundle acts fits some }
-  has_plan received fits (Err why) plans some = tt
+  pub has_plan : IsReceived input_told before after bundle → (result : Result (List Act) Outcome) → Planned result → IfOk result (All MayBeDone) → IfOk result (HasPlan disk_told input_told image name before after)
+  has_plan received (Ok acts) plans may = record { bundle = bundle; received = received; plans = plans; may = may }
+  has_plan received (Err why) plans may = tt
 
   pub has_none : (disk_same source_rose : Type 0) → IsReceived input_told before after bundle → (result : Result (List Act) Outcome) → Planned result
       → (disk_told → (said : Result (List Act) Outcome) → IsPlanning image name bundle said → IsAnswered said result)
@@ -71,13 +67,6 @@ of_receiving disk_told input_told image name before after disk_same disk_rose so
 pub of_command : (why : Outcome) → IsOfReceiving why → (why ≡ SourceFault → ⊥) → IsOfCommand why
 of_command why (inl is) other = is
 of_command why (inr is) other = absurd (other is)
-
-pub why_told : (why meant result : Outcome) (reply said : List ℕ) (err : SinkUse) → IsMeant why meant → reply ≡ [] → said ≡ command_text false reply meant → IsTold meant said err result → IsWhyTold why err result
-why_told why meant result reply said err is none written told = record {
-  meant = meant;
-  is_meant = is;
-  is_told = subst (λ (s : List ℕ). IsTold meant s err result) (written ∙ ap (λ (r : List ℕ). command_text false r meant) none ∙ message_alone meant) told;
-}
 
 -- ---- a call that receives
 

@@ -16,6 +16,7 @@ use Rattle.ae_exec.specs.Holding.{HoldsLegal}
 use Rattle.ae_exec.specs.Performs.{Completes, LeavesDisk}
 use Rattle.ae_exec.specs.Said.{is_listing}
 use Rattle.ae_exec.specs.Stands.{StandsForLog}
+use Rattle.ae_telling.specs.Answered.{IsWhyTold}
 use Rattle.ae_telling.specs.Messages.{memory_text}
 use Rattle.ae_telling.specs.Telling.{SinkUse, IsTold, sink_use}
 use Rattle.ae_telling.specs.Sinks.{told_to, silent, TakesNothing}
@@ -25,7 +26,7 @@ use Rattle.ae_reporting.specs.Reports.{Asked as AskedReport}
 use Rattle.ae_reporting.specs.Telling.{IsDoneSo, IsReportTold}
 use Rattle.ae_bundle.specs.declared.bundle.Bundle.{Bundle}
 use Rattle.ae_lines.specs.declared.act.Act.{Act}
-use Rattle.ae_dist.specs.Answers.{Plans}
+use Rattle.ae_dist.specs.Answers.{HasNoPlan, Plans}
 use Rattle.ae_dist.specs.Receiving.{IsReceived, IsUnread, TakesNoMore}
 use Rattle.ae_dist.specs.Telling.{IsSentTold}
 use Rattle.ae_script.specs.Acts.{ActsDone}
@@ -38,7 +39,7 @@ use Rattle.ae_script.specs.Uses.{Disks, Sites, SourceUse, Streams, read_from, so
 use Rattle.ae_script.specs.declared.manner.Manner.{Manner}
 use Rattle.ae_script.specs.declared.manner.Manner.TheVariants.{Plan, Script, Generator}
 use Rattle.ae_script.specs.Ends.{ScriptDone}
-use Rattle.ae_session.specs.Received.{HasNoPlan, HasSent, IsWhyTold}
+use Rattle.ae_session.specs.Received.{HasSent}
 use Rattle.ae_session.specs.Request.{AsksFor, AsksForAudit, AsksForReceiving, AsksForReport, AsksForScript, AsksForSending, AsksForGenerate, BadAt}
 use Rattle.ae_session.specs.Summary.{MakesRuns, SummaryTold, builds}
 

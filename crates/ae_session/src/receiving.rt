@@ -5,17 +5,18 @@ ghost use Rattle.ae_outside.specs.State.{reads};
 ghost use Rattle.ae_vault.specs.Disk.{DiskFailed};
 ghost use Rattle.ae_dist.specs.Receiving.{TakesNoMore};
 ghost use Rattle.ae_exec.specs.Performs.{LeavesDisk};
+ghost use Rattle.ae_telling.specs.Answered.{IsWhyTold};
 ghost use Rattle.ae_telling.specs.Telling.{use_of_sink};
 ghost use Rattle.ae_script.specs.Lines.{stand};
 ghost use Rattle.ae_script.specs.Uses.{use_of_source, disks, sites};
 ghost use Rattle.ae_session.specs.Called.{Receives};
-ghost use Rattle.ae_session.specs.Received.{HasPlan, IsOfReceiving, IsUnplanned, IsWhyTold};
+ghost use Rattle.ae_session.specs.Received.{HasPlan, IsOfReceiving, IsUnplanned};
 
-use ae_base::{Outcome, ProjectName, Text};
+use ae_base::{Outcome, ProjectName};
 use ae_dist::{ActList, plan, receive_bundle};
 use ae_outside::{Disk, Sink, Site, Source};
 use ae_script::{Manner, Standing, do_acts};
-use ae_telling::{tell_input_fault, told_command};
+use ae_telling::{tell_input_fault, tell_why};
 use std::alloc::Global;
 
 // The plan of the change set that the input is, for the project that stands.
@@ -42,17 +43,14 @@ fn read_plan<D: Disk, I: Source>(
 }
 
 // Tells why nothing is done.
-fn tell_why<E: Sink>(alloc: Global, why: Outcome, err: &mut E) -> Outcome
+fn tell_unreceived<E: Sink>(alloc: Global, why: Outcome, err: &mut E) -> Outcome
     requires { IsOfReceiving why }
     ensures told { IsWhyTold why (use_of_sink E.Sink err.old err.new) result }
     ensures later { E.faults err.old ≤ E.faults err.new }
 {
     match why {
         Outcome::SourceFault => tell_input_fault(err),
-        why => {
-            let nothing = Text::of(Vec::new(alloc));
-            told_command(alloc, why, nothing, false).tell_alone(err)
-        }
+        why => tell_why(alloc, why, err),
     }
 }
 
@@ -84,6 +82,6 @@ pub(crate) fn receive<D: Disk, S: Site, I: Source, E: Sink>(
             site,
             err,
         ),
-        Err(why) => tell_why(alloc, why, err),
+        Err(why) => tell_unreceived(alloc, why, err),
     }
 }

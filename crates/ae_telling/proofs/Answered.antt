@@ -1,9 +1,9 @@
 -- An answer that is told by `told_command` is told as it is meant.
-use Rattle.std.proofs.Common.{◌≡◌, ◌⊎◌, ◌∙◌, inl, inr, refl, sym, ap, subst, ℕ, false, List, [], Result, Ok, Err, append-nil}
+use Rattle.std.proofs.Common.{◌≡◌, ◌∙◌, inl, inr, refl, ap, subst, ℕ, false, List, [], Result, Ok, append-nil}
 use Rattle.ae_base.specs.declared.outcome.Outcome.{Outcome}
 use Rattle.ae_base.specs.declared.outcome.Outcome.TheVariants.{Done, RunFailed, Refused, BadWords, BadScript, DiskFault, SiteFault, SinkFault, SourceFault, Damaged, Memory}
 use Rattle.ae_base.specs.Refusals.{message_of}
-use Rattle.ae_telling.specs.Answered.{IsAnswerTold, IsMeant, done, stopped}
+use Rattle.ae_telling.specs.Answered.{IsAnswerTold, IsMeant, IsWhyTold, done}
 use Rattle.ae_telling.specs.Messages.{bad_line_text, bad_words_text, command_text, damaged_text, disk_fault_text, input_fault_text, memory_text, message, site_fault_text}
 use Rattle.ae_telling.specs.Sinks.{TakesNothing}
 use Rattle.ae_telling.specs.Telling.{IsTold, SinkUse}
@@ -22,6 +22,13 @@ message_alone SourceFault = append-nil input_fault_text
 message_alone (Damaged name) = append-nil (damaged_text name)
 message_alone Memory = append-nil memory_text
 
+pub why_told : (why meant result : Outcome) (reply said : List ℕ) (err : SinkUse) → IsMeant why meant → reply ≡ [] → said ≡ command_text false reply meant → IsTold meant said err result → IsWhyTold why err result
+why_told why meant result reply said err is none written told = record {
+  meant = meant;
+  is_meant = is;
+  is_told = subst (λ (s : List ℕ). IsTold meant s err result) (written ∙ ap (λ (r : List ℕ). command_text false r meant) none ∙ message_alone meant) told;
+}
+
 -- nothing else is meant of what is done
 meant_done : (meant : Outcome) → IsMeant Done meant → meant ≡ Done
 meant_done meant (inl is) = is
@@ -32,8 +39,3 @@ module _ (answer : Result (List ℕ) Outcome) (out err : SinkUse) (meant result 
   text_told text is may written told quiet =
       let same = meant_done meant may in
       done text is (subst (λ (s : List ℕ). IsTold Done s out result) (written ∙ ap (command_text false text) same) (subst (λ (o : Outcome). IsTold o said out result) same told)) quiet
-
-  pub message_told : (why : Outcome) (reply : List ℕ) → answer ≡ Err why → IsMeant why meant → reply ≡ [] → said ≡ command_text false reply meant → IsTold meant said err result → TakesNothing out
-      → IsAnswerTold answer out err result
-  message_told why reply is may none written told quiet =
-      stopped why meant is may (subst (λ (s : List ℕ). IsTold meant s err result) (written ∙ ap (λ (r : List ℕ). command_text false r meant) none ∙ message_alone meant) told) quiet

@@ -1,5 +1,6 @@
 use Rattle.std.proofs.Common.{ap, le_refl, refl, subst}
-use Rattle.ae_script.specs.Acts.{MayBeDone, line_of}
+use Rattle.ae_lines.specs.Acts.{MayBeDone}
+use Rattle.ae_script.specs.Acts.{line_of}
 use Rattle.ae_script.specs.Lines.{did, stand}
 use Rattle.ae_script.specs.Step.{told_by}
 use Rattle.ae_script.specs.Uses.{Disks, Sites, disks, sites}

@@ -9,7 +9,7 @@ use Rattle.ae_session.proofs.receiving.read_plan.Goals as goal
 pub returns-in-Ok-clause-plan : goal.returns-in-Ok-clause-plan
 returns-in-Ok-clause-plan g c =
     has_plan g.D.Disk.tells g.I.Source.tells (reads (g.D.Disk.state c.args.disk.now)) (option_copied c.args.project) (g.I.Source.left c.args.input.now) (g.I.Source.left c.receive_bundle.new.input) c.in-Ok.bundle
-    (HasRisen (g.D.Disk.faults c.args.disk.now) (g.D.Disk.faults c.plan.new.disk)) c.in-Ok.ensures.received c.in-Ok.ensures.fits c.plan.result c.plan.ensures.answer c.plan.ensures.planned
+    (HasRisen (g.D.Disk.faults c.args.disk.now) (g.D.Disk.faults c.plan.new.disk)) c.in-Ok.ensures.received c.plan.result c.plan.ensures.answer (c.plan.ensures.formed c.in-Ok.ensures.fits)
 
 pub returns-in-Ok-clause-none : goal.returns-in-Ok-clause-none
 returns-in-Ok-clause-none g c =

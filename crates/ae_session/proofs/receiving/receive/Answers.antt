@@ -1,7 +1,7 @@
 use Rattle.std.proofs.Common.{All, List, refl, subst, sym}
 use Rattle.std.specs.Prelude.{option_copied}
 use Rattle.ae_lines.specs.declared.act.Act.{Act}
-use Rattle.ae_script.specs.Acts.{MayBeDone}
+use Rattle.ae_lines.specs.Acts.{MayBeDone}
 use Rattle.ae_script.specs.Lines.{stand}
 use Rattle.ae_script.specs.Uses.{Disks, Sites, disks, sites}
 use Rattle.ae_session.proofs.Received.{of_receiving, received_by, unreceived_by}
@@ -17,12 +17,12 @@ returns-in-Ok-clause-done g c =
     received_by d s (option_copied c.args.project) (stand d s c.args.standing.who c.args.standing.now c.args.disk.now c.args.site.now) c.do_acts.new.disk c.do_acts.new.site _ _ c.do_acts.result c.read_plan.new.disk _ _ c.in-Ok.ensures.plan c.as_slice.ensures
     c.read_plan.ensures.disk c.read_plan.ensures.disk_faults c.do_acts.ensures.done
 
-pub tell_why-requires : goal.tell_why-requires
-tell_why-requires g c = of_receiving _ _ _ _ _ _ _ _ _ c.in-Err.why c.in-Err.ensures.none
+pub tell_unreceived-requires : goal.tell_unreceived-requires
+tell_unreceived-requires g c = of_receiving _ _ _ _ _ _ _ _ _ c.in-Err.why c.in-Err.ensures.none
 
 pub returns-in-Err-clause-done : goal.returns-in-Err-clause-done
 returns-in-Err-clause-done g c =
     let d : Disks = disks g.D.Disk in
     let s : Sites = sites g.S.Site in
-    unreceived_by d s (option_copied c.args.project) (stand d s c.args.standing.who c.args.standing.now c.args.disk.now c.args.site.now) c.read_plan.new.disk c.args.site.now _ _ c.tell_why.result c.in-Err.why c.in-Err.ensures.none refl
-    c.read_plan.ensures.disk c.read_plan.ensures.disk_faults c.tell_why.ensures.told
+    unreceived_by d s (option_copied c.args.project) (stand d s c.args.standing.who c.args.standing.now c.args.disk.now c.args.site.now) c.read_plan.new.disk c.args.site.now _ _ c.tell_unreceived.result c.in-Err.why c.in-Err.ensures.none refl
+    c.read_plan.ensures.disk c.read_plan.ensures.disk_faults c.tell_unreceived.ensures.told

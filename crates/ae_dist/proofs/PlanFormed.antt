@@ -1,12 +1,14 @@
 -- Each act of a plan may be done.
-use Rattle.std.specs.Prelude.{◌≡◌, ◌<◌, ◌≤◌, ◌+◌, ◌&&◌, ℕ, Bool, true, false, if◌then◌else◌, All, List, [], ◌∷◌, ◌++◌, Option, Some, None, find, nat_le}
-use Rattle.std.specs.List.{AllByRecursion, cons_option, filter_map}
+use Rattle.std.specs.Prelude.{◌≡◌, ◌<◌, ◌≤◌, ◌+◌, ◌&&◌, ℕ, Bool, true, false, if◌then◌else◌, All, List, [], ◌∷◌, ◌++◌, Option, Some, None, Result, Ok, Err, IfOk, find, nat_le}
+use Rattle.std.specs.List.{cons_option, filter_map}
 use Rattle.std.proofs.Common.{zero, suc, refl, sym, subst, ◌∙◌, arith}
 use Rattle.std.proofs.lemmas.Bool.{and_from, le-leb}
 use Rattle.std.proofs.lemmas.List.Elements.{All-append, All-cons, All-nil}
 use Rattle.std.proofs.lemmas.Option.{same_Some}
-use Rattle.ae_base.specs.Names.{is_path}
+use Rattle.ae_base.specs.Names.{is_path, IsPath}
+use Rattle.ae_base.specs.declared.outcome.Outcome.{Outcome}
 use Rattle.ae_types.specs.Observation.{Observation}
+use Rattle.ae_types.specs.Trees.{TreeRow, baseline_of}
 use Rattle.ae_types.specs.Phases.{is_remove, is_test}
 use Rattle.ae_log.specs.Settings.{upward}
 use Rattle.ae_words.specs.Formed.{IsFormed, are_plain, has, is_change_number, is_no_config}
@@ -17,16 +19,15 @@ use Rattle.ae_words.specs.declared.table.Function.{Function}
 use Rattle.ae_words.specs.declared.table.Function.TheVariants as function
 use Rattle.ae_words.specs.declared.table.Setting.{Setting}
 use Rattle.ae_words.specs.declared.table.Setting.TheVariants as setting
-use Rattle.ae_bundle.specs.Bundled.{Fits, FileFits}
 use Rattle.ae_bundle.specs.declared.bundle.Bundle.{Bundle}
 use Rattle.ae_bundle.specs.declared.bundle.BundleFile.{BundleFile}
+use Rattle.ae_lines.specs.Acts.{MayBeDone}
 use Rattle.ae_lines.specs.declared.act.Act.{Act}
 use Rattle.ae_lines.specs.declared.act.Act.TheVariants.{Put, Run}
 use Rattle.ae_outside.specs.declared.dir.Dir.TheVariants.{Develop, Here}
-use Rattle.ae_dist.specs.Plan.{adding, addition, attributes_path, attributes_text, begin, free_number, is_there, is_unused, new_change, on_path, put, removal}
-use Rattle.ae_dist.specs.Steps.{IsSomePlan}
+use Rattle.ae_dist.specs.Plan.{adding, addition, attributes_path, attributes_text, begin, free_number, is_there, is_unused, new_change, on_path, plan_of, put, removal}
+use Rattle.ae_dist.specs.Steps.{ArePaths, IsPlanned}
 use Rattle.ae_dist.proofs.Upward.{all-numbers}
-use Rattle.ae_script.specs.Acts.{MayBeDone}
 
 -- ---- the number
 
@@ -151,25 +152,25 @@ module _ (number : ℕ) (fits : is_change_number number ≡ true) where
   adds false true false path good is = files path good
   adds false false other path good is = files path good
 
-  module _ (o : Observation) where
-    removal_may : (file : BundleFile) → FileFits file → (act : Act) → removal o number file ≡ Some act → MayBeDone act
-    removal_may file fits_file act is =
-        subst MayBeDone (some_if (is_remove file.action && is_there o file.path) (Run (on_path function.RemoveFile number file.path)) act is).1 (removes file.path fits_file.is_path)
+  module _ (tree : List TreeRow) where
+    removal_may : (file : BundleFile) → IsPath file.path → (act : Act) → removal tree number file ≡ Some act → MayBeDone act
+    removal_may file is_path_of act is =
+        subst MayBeDone (some_if (is_remove file.action && is_there tree file.path) (Run (on_path function.RemoveFile number file.path)) act is).1 (removes file.path is_path_of)
 
-    addition_may : (file : BundleFile) → FileFits file → (act : Act) → addition o number file ≡ Some act → MayBeDone act
-    addition_may file fits_file act is =
-        let made : Some (Run (on_path (adding o file) number file.path)) ≡ Some act = (none_if (is_remove file.action) (Some (Run (on_path (adding o file) number file.path))) act is).1 in
-        subst MayBeDone (same_Some (Run (on_path (adding o file) number file.path)) act made) (adds (is_there o file.path) (is_test file.usage) (is_no_config file.path) file.path fits_file.is_path refl)
+    addition_may : (file : BundleFile) → IsPath file.path → (act : Act) → addition tree number file ≡ Some act → MayBeDone act
+    addition_may file is_path_of act is =
+        let made : Some (Run (on_path (adding tree file) number file.path)) ≡ Some act = (none_if (is_remove file.action) (Some (Run (on_path (adding tree file) number file.path))) act is).1 in
+        subst MayBeDone (same_Some (Run (on_path (adding tree file) number file.path)) act made) (adds (is_there tree file.path) (is_test file.usage) (is_no_config file.path) file.path is_path_of refl)
 
-  put_may : (file : BundleFile) → FileFits file → (act : Act) → put number file ≡ Some act → MayBeDone act
-  put_may file fits_file act is =
+  put_may : (file : BundleFile) → IsPath file.path → (act : Act) → put number file ≡ Some act → MayBeDone act
+  put_may file is_path_of act is =
       let made : Some (Put (Develop number) file.path file.bytes) ≡ Some act = (none_if (is_remove file.action) (Some (Put (Develop number) file.path file.bytes)) act is).1 in
       subst MayBeDone (same_Some (Put (Develop number) file.path file.bytes) act made) tt
 
 -- ---- all acts
 
-module _ (f : BundleFile → Option Act) (may : (file : BundleFile) → FileFits file → (act : Act) → f file ≡ Some act → MayBeDone act) where
-  each_may : (bundled : List BundleFile) → AllByRecursion FileFits bundled → All MayBeDone (filter_map f bundled)
+module _ (f : BundleFile → Option Act) (may : (file : BundleFile) → IsPath file.path → (act : Act) → f file ≡ Some act → MayBeDone act) where
+  each_may : (bundled : List BundleFile) → ArePaths bundled → All MayBeDone (filter_map f bundled)
   each_may [] fit = All-nil MayBeDone
   each_may (file ∷ bundled) fit = go (each_may bundled fit.1) (f file) refl
     where
@@ -177,19 +178,26 @@ module _ (f : BundleFile → Option Act) (may : (file : BundleFile) → FileFits
       go rest (Some act) is = All-cons MayBeDone act (filter_map f bundled) (may file fit.0 act is) rest
       go rest None is = rest
 
-pub plan_formed : (bundle : Bundle) (acts : List Act) → Fits bundle → IsSomePlan bundle acts → All MayBeDone acts
-plan_formed bundle acts fits plan =
-    let number = number_fits plan.o plan.number plan.free in
-    let of_file = fits.limits.files in
-    let removals : List Act = filter_map (removal plan.o plan.number) bundle.files in
-    let additions : List Act = filter_map (addition plan.o plan.number) bundle.files in
-    let puts : List Act = filter_map (put plan.number) bundle.files in
-    let begins : MayBeDone (Run (begin plan.number)) = (begin_formed plan.number number, refl) in
+-- so is each of a plan for a number of a change
+pub plan_formed : (tree : List TreeRow) (number : ℕ) (bundle : Bundle) → is_change_number number ≡ true → ArePaths bundle.files → All MayBeDone (plan_of tree number bundle)
+plan_formed tree number bundle good of_file =
+    let removals : List Act = filter_map (removal tree number) bundle.files in
+    let additions : List Act = filter_map (addition tree number) bundle.files in
+    let puts : List Act = filter_map (put number) bundle.files in
+    let begins : MayBeDone (Run (begin number)) = (begin_formed number good, refl) in
     let makes : MayBeDone (Run new_change) = (new_change_formed, refl) in
-    subst (All MayBeDone) (sym plan.is)
-    (All-cons MayBeDone (Put Here attributes_path (attributes_text bundle)) (Run new_change ∷ Run (begin plan.number) ∷ (removals ++ (additions ++ puts))) tt
-    (All-cons MayBeDone (Run new_change) (Run (begin plan.number) ∷ (removals ++ (additions ++ puts))) makes
-    (All-cons MayBeDone (Run (begin plan.number)) (removals ++ (additions ++ puts)) begins
-    (All-append MayBeDone removals (additions ++ puts) (each_may (removal plan.o plan.number) (removal_may plan.number number plan.o) bundle.files of_file)
-    (All-append MayBeDone additions puts (each_may (addition plan.o plan.number) (addition_may plan.number number plan.o) bundle.files of_file)
-    (each_may (put plan.number) (put_may plan.number number) bundle.files of_file))))))
+    All-cons MayBeDone (Put Here attributes_path (attributes_text bundle)) (Run new_change ∷ Run (begin number) ∷ (removals ++ (additions ++ puts))) tt
+    (All-cons MayBeDone (Run new_change) (Run (begin number) ∷ (removals ++ (additions ++ puts))) makes
+    (All-cons MayBeDone (Run (begin number)) (removals ++ (additions ++ puts)) begins
+    (All-append MayBeDone removals (additions ++ puts) (each_may (removal tree number) (removal_may number good tree) bundle.files of_file)
+    (All-append MayBeDone additions puts (each_may (addition tree number) (addition_may number good tree) bundle.files of_file)
+    (each_may (put number) (put_may number good) bundle.files of_file)))))
+
+-- and of one that is answered
+pub answer_formed : (o : Observation) (bundle : Bundle) (result : Result (List Act) Outcome) → IsPlanned o bundle result → ArePaths bundle.files → IfOk result (All MayBeDone)
+answer_formed o bundle (Ok acts) is paths = subst (All MayBeDone) (sym is.2) (plan_formed (baseline_of o) is.0 bundle (number_fits o is.0 is.1) paths)
+answer_formed o bundle (Err why) is paths = tt
+
+pub first_formed : {E : Type 0} (bundle : Bundle) (result : Result (List Act) E) → IfOk result (λ acts. acts ≡ plan_of [] 10 bundle) → ArePaths bundle.files → IfOk result (All MayBeDone)
+first_formed bundle (Ok acts) is paths = subst (All MayBeDone) (sym is) (plan_formed [] 10 bundle refl paths)
+first_formed bundle (Err why) is paths = tt

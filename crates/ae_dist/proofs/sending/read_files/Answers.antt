@@ -12,7 +12,7 @@ use Rattle.ae_dist.specs.declared.rows.Row.{Row}
 use Rattle.ae_dist.specs.Sending.{sent_file, versions_of}
 use Rattle.ae_dist.specs.Steps.{AreReadFrom, file_key, row_key}
 use Rattle.ae_dist.proofs.VersionsRead.{each_at, lost_among, read_next, sized_next}
-use Rattle.ae_dist.proofs.sending.files_of.Goals as goal
+use Rattle.ae_dist.proofs.sending.read_files.Goals as goal
 
 pub push_file-requires-clause-inside : goal.push_file-requires-clause-inside
 push_file-requires-clause-inside g c = each_at (λ (row : Row). IfSome row.version IsInside) c.args.rows.now c.loop-row.row-index c.row-item.result c.loop-row-test.true c.row-item.is c.requires.inside
