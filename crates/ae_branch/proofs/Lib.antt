@@ -1,0 +1,16 @@
+pub mod BeginsOnce
+pub mod Begun
+pub mod Beside
+pub mod BranchAttributes
+pub mod Brought
+pub mod Called
+pub mod CarriedRows
+pub mod Finish
+pub mod OpeningFormed
+pub mod OriginRead
+pub mod SizesSummed
+pub mod SourceGood
+pub mod Stepping
+pub mod Steps
+pub mod Taking
+pub mod Told

@@ -1,0 +1,13 @@
+use Rattle.std.proofs.Common.{◌≡◌, ℕ, List, ◌++◌, eqb, Bor}
+use Rattle.std.proofs.lemmas.Bool.Decides.{Decides-eqb}
+use Rattle.std.proofs.lemmas.Slice.Eq.{strip_suffix_is}
+use Rattle.ae_bundle.proofs.Turns.{match_none, match_some}
+use Rattle.ae_branch.proofs.origin.text_before.Goals as goal
+
+pub returns-clause-some : goal.returns-clause-some
+returns-clause-some c = match_some ((rest : List ℕ) → c.args.text.now ≡ rest ++ c.args.end.now → ⊥) (λ (x : Bor (List ℕ)). c.args.text.now ≡ x.now ++ c.args.end.now) c.strip_suffix.result
+    (strip_suffix_is {A = ℕ} {E = eqb} Decides-eqb c.args.text.now c.args.end.now c.strip_suffix.result c.strip_suffix.ensures.cases)
+
+pub returns-clause-none : goal.returns-clause-none
+returns-clause-none c = match_none ((rest : List ℕ) → c.args.text.now ≡ rest ++ c.args.end.now → ⊥) (λ (x : Bor (List ℕ)). c.args.text.now ≡ x.now ++ c.args.end.now) c.strip_suffix.result
+    (strip_suffix_is {A = ℕ} {E = eqb} Decides-eqb c.args.text.now c.args.end.now c.strip_suffix.result c.strip_suffix.ensures.cases)

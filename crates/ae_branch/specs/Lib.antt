@@ -1,0 +1,9 @@
+pub mod Begin
+pub mod Beginning
+pub mod Branch
+pub mod Carried
+pub mod Carrying
+pub mod Finish
+pub mod Opening
+pub mod Origin
+pub mod Steps
