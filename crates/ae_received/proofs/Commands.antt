@@ -42,7 +42,7 @@ by-answer : (log : Log) (called : Called) (answer : Verdict) → answer_after lo
 by-answer log called (Accept events) is done = record { events = events; is = is; follows = ap (log_after log) is }
 by-answer log called (Refuse refusal) is done = absurd (cc done)
 
-was-accepted : (log next : Log) (called : Called) (outcome : Outcome) (said : List ℕ) → CommandEnds log called outcome next said → outcome ≡ Done → WasAccepted log next called
+pub was-accepted : (log next : Log) (called : Called) (outcome : Outcome) (said : List ℕ) → CommandEnds log called outcome next said → outcome ≡ Done → WasAccepted log next called
 was-accepted log _ called _ _ answered done = by-answer log called (answer_after log called) refl done
 was-accepted log _ called _ _ disk_fault done = absurd (cc done)
 was-accepted log _ called _ _ site_fault done = absurd (cc done)

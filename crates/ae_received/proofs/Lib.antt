@@ -1,6 +1,5 @@
 pub mod Acts
 pub mod Begins
-pub mod Called
 pub mod Commands
 pub mod Described
 pub mod Directories

@@ -19,17 +19,19 @@ use Rattle.ae_script.specs.Steps.{LineDone, Point, Runs, point, stop}
 use Rattle.ae_script.specs.Uses.{Disks, Sites, Streams, written_from}
 use Rattle.ae_script.specs.declared.manner.Manner.TheVariants.{Plan}
 use Rattle.ae_script.proofs.Acting.{done_means_all}
+use Rattle.ae_types.specs.Trees.{baseline_of}
 use Rattle.ae_types.specs.Observation.{Observation}
 use Rattle.ae_types.specs.Part.{part}
 use Rattle.ae_received.specs.Laws.{ArePlan, ReceivedAreAsSent}
 use Rattle.ae_received.specs.Received.{HasReceived}
 use Rattle.ae_received.proofs.Acts.{ActsRun, acts-run}
+use Rattle.ae_received.proofs.Sent.{files-fit}
 use Rattle.ae_received.proofs.Whole.{all-received}
 
 -- the plan over what stands without its changes is the same
-same-plan : (seen stood : Observation) (number : ℕ) (bundle : Bundle) → (seen ≡ part Nothing stood) ⊎ (seen ≡ stood) → plan_of seen number bundle ≡ plan_of stood number bundle
-same-plan seen stood number bundle (inl is) = ap (λ (o : Observation). plan_of o number bundle) is
-same-plan seen stood number bundle (inr is) = ap (λ (o : Observation). plan_of o number bundle) is
+same-plan : (seen stood : Observation) (number : ℕ) (bundle : Bundle) → (seen ≡ part Nothing stood) ⊎ (seen ≡ stood) → plan_of (baseline_of seen) number bundle ≡ plan_of (baseline_of stood) number bundle
+same-plan seen stood number bundle (inl is) = ap (λ (o : Observation). plan_of (baseline_of o) number bundle) is
+same-plan seen stood number bundle (inr is) = ap (λ (o : Observation). plan_of (baseline_of o) number bundle) is
 
 same-number : (seen stood : Observation) → (seen ≡ part Nothing stood) ⊎ (seen ≡ stood) → free_number seen ≡ free_number stood
 same-number seen stood (inl is) = ap free_number is
@@ -56,24 +58,41 @@ module _ (d : Disks) (s : Sites) where
   site-stops from log (one ∷ done) [] are = absurd are
   site-stops from log (one ∷ done) (step ∷ steps) are = ap (λ (p : Point). (stop p steps).site) are.0.to ∙ site-stops one.to step.to.log done steps are.1
 
-  module _ (o : Streams) (stood : Observation) (number : ℕ) (bundle : Bundle) (acts : List Act) (plan : ArePlan stood number bundle acts) where
-    -- Acts that begin at one stand, where the disk was only read since another, and are steps from the log that it held there.
-    pub logged-as-sent : (from begun to : Stand d s) → begun ≡ record from { disk = begun.disk } → (old new : o.Stream) (result : Outcome) (done : ActsDone d s Plan acts begun to (written_from o old new) result) → result ≡ Done
-        → s.told → (held : List Log) (log : Log) → Legal log → observation log ≡ Some stood → (logged : IsLogged d s Plan from done.done to.disk held log)
-        → HasReceived stood (version_bytes log) bundle number from.who logged.holds.read ((s.state to.site).trees (Develop number))
-    logged-as-sent from begun to same old new result done is shown held log legal stands logged =
+  module _ (o : Streams) (acts : List Act) where
+    -- All acts were done, each a step from where the one before it led; the log of the last is read, and the directories are as it left them.
+    pub record AllRan (start : Point) (steps : List LineDone) (read : Log) (site : SiteState) : Type 0 where
+      pub runs : ActsRun start acts steps
+      pub reads : read ≡ (stop start steps).log
+      pub leaves : (stop start steps).site ≡ site
+
+    -- So it is with acts that begin at one stand, where nothing but the disk changed since another, and are steps from the log that it held there.
+    pub all-ran : (from begun to : Stand d s) → begun ≡ record from { disk = begun.disk } → (old new : o.Stream) (result : Outcome) (done : ActsDone d s Plan acts begun to (written_from o old new) result) → result ≡ Done
+        → s.told → (held : List Log) (log : Log) (logged : IsLogged d s Plan from done.done to.disk held log) → AllRan (point from.who from.now log (s.state from.site)) logged.steps logged.holds.read (s.state to.site)
+    all-ran from begun to same old new result done is shown held log logged =
         let all = done_means_all d s o acts begun to old new result done is in
         let start = point from.who from.now log (s.state from.site) in
         let start_is : point begun.who begun.now log (s.state begun.site) ≡ start = ap (λ (at : Stand d s). point at.who at.now log (s.state at.site)) same in
         let runs : ActsRun start acts logged.steps =
         subst (λ (p : Point). ActsRun p acts logged.steps) start_is
         (acts-run d s shown acts begun log done.done logged.steps all.0 all.1 done.runs logged.are (subst (λ (p : Point). Runs Plan p logged.steps) (sym start_is) logged.runs)) in
-        let has = all-received stood number bundle plan.fits (sym (same-number plan.seen stood plan.sees) ∙ plan.free) start logged.steps stands legal
-        (subst (λ (items : List Act). ActsRun start items logged.steps) (plan.are ∙ same-plan plan.seen stood number bundle plan.sees) runs) in
-        let site : (stop start logged.steps).site ≡ s.state to.site =
-        ap (λ (p : Point). (stop p logged.steps).site) (sym start_is) ∙ site-stops begun log done.done logged.steps logged.are ∙ ap (λ (p : Stand d s). s.state p.site) done.leads in
-        subst (λ (l : Log). HasReceived stood (version_bytes log) bundle number from.who l ((s.state to.site).trees (Develop number))) (sym (reads-last logged.reads (none-failed start acts logged.steps runs)))
-        (subst (λ (state : SiteState). HasReceived stood (version_bytes log) bundle number from.who (stop start logged.steps).log (state.trees (Develop number))) site has)
+        record {
+          runs = runs;
+          reads = reads-last logged.reads (none-failed start acts logged.steps runs);
+          leaves = ap (λ (p : Point). (stop p logged.steps).site) (sym start_is) ∙ site-stops begun log done.done logged.steps logged.are ∙ ap (λ (p : Stand d s). s.state p.site) done.leads;
+        }
+
+  module _ (o : Streams) (stood : Observation) (number : ℕ) (bundle : Bundle) (acts : List Act) (plan : ArePlan stood number bundle acts) where
+    -- what they make of the log that was held is the change as it was sent
+    pub logged-as-sent : (from begun to : Stand d s) → begun ≡ record from { disk = begun.disk } → (old new : o.Stream) (result : Outcome) (done : ActsDone d s Plan acts begun to (written_from o old new) result) → result ≡ Done
+        → s.told → (held : List Log) (log : Log) → Legal log → observation log ≡ Some stood → (logged : IsLogged d s Plan from done.done to.disk held log)
+        → HasReceived stood (version_bytes log) bundle number from.who logged.holds.read ((s.state to.site).trees (Develop number))
+    logged-as-sent from begun to same old new result done is shown held log legal stands logged =
+        let start = point from.who from.now log (s.state from.site) in
+        let ran = all-ran o acts from begun to same old new result done is shown held log logged in
+        let has = all-received stood number bundle (files-fit bundle plan.fits) (sym (same-number plan.seen stood plan.sees) ∙ plan.free) start logged.steps stands legal
+        (subst (λ (items : List Act). ActsRun start items logged.steps) (plan.are ∙ same-plan plan.seen stood number bundle plan.sees) ran.runs) in
+        subst (λ (l : Log). HasReceived stood (version_bytes log) bundle number from.who l ((s.state to.site).trees (Develop number))) (sym ran.reads)
+        (subst (λ (state : SiteState). HasReceived stood (version_bytes log) bundle number from.who (stop start logged.steps).log (state.trees (Develop number))) ran.leaves has)
 
   pub received-as-sent : (o : Streams) → ReceivedAreAsSent d s o
   received-as-sent o stood number bundle acts plan from to old new result done is seen shown held log holds stands =

@@ -1,13 +1,16 @@
 -- Each file of a change set: the acts that come of it in each of the three passes of a plan, and what they do.
-use Rattle.std.proofs.Common.{◌≡◌, ℕ, refl, sym, ap, subst, List, Option, Some, None, Bool, true, false, cond, not, ◌&&◌, codes}
+use Rattle.std.proofs.Common.{◌≡◌, ℕ, refl, sym, ap, subst, List, [], ◌∷◌, Option, Some, None, Bool, true, false, cond, not, ◌&&◌, codes}
 use Rattle.std.specs.Prelude.{is_some}
+use Rattle.std.specs.List.{AllByRecursion}
 use Rattle.std.specs.Option.{option_or}
 use Rattle.std.specs.Str.{bytes_eq}
 use Rattle.std.proofs.lemmas.Option.{same_Some}
+use Rattle.ae_base.specs.Rows.{text_cmp}
 use Rattle.ae_base.specs.declared.words.Action.TheVariants.{Create, Modify, Remove}
 use Rattle.ae_base.specs.declared.words.Usage.{Usage}
 use Rattle.ae_base.specs.declared.words.Usage.TheVariants.{Config, Source, Test}
-use Rattle.ae_bundle.specs.Bundled.{FileFits, is_config}
+use Rattle.ae_bundle.specs.Bundled.{FileFits, Fits, bundle_path, is_config}
+use Rattle.ae_bundle.specs.declared.bundle.Bundle.{Bundle}
 use Rattle.ae_bundle.specs.declared.bundle.BundleFile.{BundleFile}
 use Rattle.ae_dist.specs.Plan.{on_path}
 use Rattle.ae_files.specs.InTree.{row_at}
@@ -19,6 +22,7 @@ use Rattle.ae_script.specs.Steps.{LineDone, Point}
 use Rattle.ae_types.specs.declared.change.ChangeAttributes.{ChangeAttributes}
 use Rattle.ae_types.specs.declared.change.ChangeFile.{ChangeFile}
 use Rattle.ae_types.specs.Observation.{Observation}
+use Rattle.ae_types.specs.Ordered.{Ascends}
 use Rattle.ae_types.specs.Phases.{is_remove, is_test}
 use Rattle.ae_types.specs.Trees.{TreeRow, baseline_of}
 use Rattle.ae_types.proofs.Ordered.{none-some}
@@ -39,6 +43,25 @@ received-is o file = go (row_at (baseline_of o) file.path) refl
   where
     go : (v : Option TreeRow) → row_at (baseline_of o) file.path ≡ v → received_by file (is_remove file.action) (row_at (baseline_of o) file.path) ≡ edit_received o file
     go v is = refl
+
+-- ---- files that can be received
+
+-- aegis.conf has the usage of its own, and no other file has it
+abbrev pub HasItsUsage : BundleFile → Type 0
+HasItsUsage file = is_config file.usage ≡ bytes_eq file.path (codes "aegis.conf")
+
+-- their paths ascend, and each has such a usage
+pub record FilesFit (files : List BundleFile) : Type 0 where
+  pub ascend : Ascends text_cmp bundle_path files
+  pub usages : AllByRecursion HasItsUsage files
+
+usages-fit : (files : List BundleFile) → AllByRecursion FileFits files → AllByRecursion HasItsUsage files
+usages-fit [] fit = tt
+usages-fit (file ∷ files) fit = (fit.0.config, usages-fit files fit.1)
+
+-- those of a change set that has a text are such files
+pub files-fit : (bundle : Bundle) → Fits bundle → FilesFit bundle.files
+files-fit bundle fits = record { ascend = fits.limits.ascend; usages = usages-fit bundle.files fits.limits.files }
 
 -- ---- the rows and the files that each pass makes
 
@@ -116,10 +139,10 @@ module _ (stood : Observation) (number : ℕ) (who : List ℕ) (attributes : Cha
   new-leads Source true fits is_path is = absurd (cc fits)
   new-leads Test true fits is_path is = absurd (cc fits)
 
-  pub addition-leads : FileFits file → (removes : Bool) (there : Option TreeRow) → row_at (baseline_of stood) file.path ≡ there → addition_by number file removes there ≡ Some item → Leads (row_added file removes there) None
+  pub addition-leads : HasItsUsage file → (removes : Bool) (there : Option TreeRow) → row_at (baseline_of stood) file.path ≡ there → addition_by number file removes there ≡ Some item → Leads (row_added file removes there) None
   addition-leads fits true there found is = none-some item is
   addition-leads fits false (Some row) found is = copied-leads stood number who attributes from files s step file.path row found (runs (Run (on_path function.CopyFile number file.path)) is)
-  addition-leads fits false None found is = new-leads file.usage (bytes_eq file.path (codes "aegis.conf")) fits.config refl is
+  addition-leads fits false None found is = new-leads file.usage (bytes_eq file.path (codes "aegis.conf")) fits refl is
 
   pub put-leads-there : (removes : Bool) → put_by_removes number file removes ≡ Some item → Leads None (file_put file removes)
   put-leads-there true is = none-some item is

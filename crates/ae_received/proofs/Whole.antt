@@ -7,7 +7,7 @@ use Rattle.std.specs.Str.{bytes_eq}
 use Rattle.std.proofs.lemmas.Option.{same_Some}
 use Rattle.ae_base.specs.Rows.{text_cmp}
 use Rattle.ae_base.specs.declared.words.Action.TheVariants.{Create, Modify, Remove}
-use Rattle.ae_bundle.specs.Bundled.{FileFits, Fits, bundle_path}
+use Rattle.ae_bundle.specs.Bundled.{bundle_path}
 use Rattle.ae_bundle.specs.declared.bundle.Bundle.{Bundle}
 use Rattle.ae_bundle.specs.declared.bundle.BundleFile.{BundleFile}
 use Rattle.ae_dist.specs.Plan.{addition, free_number, plan_of, put, removal}
@@ -34,7 +34,7 @@ use Rattle.ae_received.proofs.Acts.{ActsRun, RunsAct, led_to}
 use Rattle.ae_received.proofs.Begins.{begins}
 use Rattle.ae_received.proofs.FileActs.{directory_at, stands_at}
 use Rattle.ae_received.proofs.Passes.{Passed, passes}
-use Rattle.ae_received.proofs.Sent.{addition-leads, addition_by, file_put, file_removed, none-added, none-put, none-removed, put-leads-there, put_by_removes, received-is, received_by, removal-leads, removal_by, row_added, row_removed, rows-together}
+use Rattle.ae_received.proofs.Sent.{FilesFit, HasItsUsage, addition-leads, addition_by, file_put, file_removed, none-added, none-put, none-removed, put-leads-there, put_by_removes, received-is, received_by, removal-leads, removal_by, row_added, row_removed, rows-together}
 
 -- ---- lists of edits
 
@@ -72,10 +72,10 @@ received-path file false None made is = ap edit_path (sym (same_Some (edit file.
 
 -- the acts of each
 abbrev removals : Observation → ℕ → Bundle → List Act
-removals stood number bundle = filter_map (removal stood number) bundle.files
+removals stood number bundle = filter_map (removal (baseline_of stood) number) bundle.files
 
 abbrev additions : Observation → ℕ → Bundle → List Act
-additions stood number bundle = filter_map (addition stood number) bundle.files
+additions stood number bundle = filter_map (addition (baseline_of stood) number) bundle.files
 
 abbrev puts : ℕ → Bundle → List Act
 puts number bundle = filter_map (put number) bundle.files
@@ -85,7 +85,7 @@ no-more : (from : Point) (steps : List LineDone) → ActsRun from [] steps → s
 no-more from [] runs = refl
 no-more from (step ∷ steps) runs = absurd runs
 
-module _ (stood : Observation) (number : ℕ) (bundle : Bundle) (fits : Fits bundle) (bytes : ℕ → List ℕ) (who : List ℕ) (attributes : ChangeAttributes) where
+module _ (stood : Observation) (number : ℕ) (bundle : Bundle) (fits : FilesFit bundle.files) (bytes : ℕ → List ℕ) (who : List ℕ) (attributes : ChangeAttributes) where
   abbrev there : BundleFile → Option TreeRow
   there file = row_at (baseline_of stood) file.path
 
@@ -116,31 +116,31 @@ module _ (stood : Observation) (number : ℕ) (bundle : Bundle) (fits : Fits bun
   abbrev no_file : BundleFile → Option (Option (List ℕ))
   no_file file = None
 
-  removals-pass : (from : Point) (files : List ChangeFile) → Stands from files → (rest : List Act) (steps : List LineDone) → ActsRun from (removals stood number bundle ++ rest) steps → Passes (removal stood number) removed_row removed_file from files rest steps
+  removals-pass : (from : Point) (files : List ChangeFile) → Stands from files → (rest : List Act) (steps : List LineDone) → ActsRun from (removals stood number bundle ++ rest) steps → Passes (removal (baseline_of stood) number) removed_row removed_file from files rest steps
   removals-pass =
-      passes led_to RunsAct (directory_at number) Stands bundle_path (removal stood number) removed_row removed_file FileFits
+      passes led_to RunsAct (directory_at number) Stands bundle_path (removal (baseline_of stood) number) removed_row removed_file HasItsUsage
       (λ file none. none-removed number file (removes file) (there file) none)
       (λ file good from files s item is step run. removal-leads stood number who attributes file from files s item step run (removes file) (there file) refl is)
-      bundle.files fits.limits.ascend fits.limits.files
+      bundle.files fits.ascend fits.usages
 
-  additions-pass : (from : Point) (files : List ChangeFile) → Stands from files → (rest : List Act) (steps : List LineDone) → ActsRun from (additions stood number bundle ++ rest) steps → Passes (addition stood number) added_row no_file from files rest steps
+  additions-pass : (from : Point) (files : List ChangeFile) → Stands from files → (rest : List Act) (steps : List LineDone) → ActsRun from (additions stood number bundle ++ rest) steps → Passes (addition (baseline_of stood) number) added_row no_file from files rest steps
   additions-pass =
-      passes led_to RunsAct (directory_at number) Stands bundle_path (addition stood number) added_row no_file FileFits
+      passes led_to RunsAct (directory_at number) Stands bundle_path (addition (baseline_of stood) number) added_row no_file HasItsUsage
       (λ file none. (none-added number file (removes file) (there file) none, refl))
       (λ file good from files s item is step run. addition-leads stood number who attributes file from files s item step run good (removes file) (there file) refl is)
-      bundle.files fits.limits.ascend fits.limits.files
+      bundle.files fits.ascend fits.usages
 
   puts-pass : (from : Point) (files : List ChangeFile) → Stands from files → (rest : List Act) (steps : List LineDone) → ActsRun from (puts number bundle ++ rest) steps → Passes (put number) no_row put_file from files rest steps
   puts-pass =
-      passes led_to RunsAct (directory_at number) Stands bundle_path (put number) no_row put_file FileFits
+      passes led_to RunsAct (directory_at number) Stands bundle_path (put number) no_row put_file HasItsUsage
       (λ file none. (refl, none-put number file (removes file) none))
       (λ file good from files s item is step run. put-leads-there stood number who attributes file from files s item step run (removes file) is)
-      bundle.files fits.limits.ascend fits.limits.files
+      bundle.files fits.ascend fits.usages
 
   -- ---- what they make together
 
   module _ (from : Point) (rest more : List Act) (steps : List LineDone) (filled : (q : List ℕ) → directory_at number from q ≡ file_below stood bytes q)
-      (one : Passes (removal stood number) removed_row removed_file from [] rest steps) (two : Passes (addition stood number) added_row no_file one.to one.next more one.left)
+      (one : Passes (removal (baseline_of stood) number) removed_row removed_file from [] rest steps) (two : Passes (addition (baseline_of stood) number) added_row no_file one.to one.next more one.left)
       (three : Passes (put number) no_row put_file two.to two.next [] two.left) where
     found-received : (q : List ℕ) → edit_at three.next q ≡ option_and_then (edit_received stood) (sent_at bundle q)
     found-received q =
@@ -154,8 +154,8 @@ module _ (stood : Observation) (number : ℕ) (bundle : Bundle) (fits : Fits bun
     edits-are =
         ascending-is by_text edit_path (map edit_of three.next) (edits_received stood bundle)
         (edits-ascend three.next (three.ascend (two.ascend (one.ascend tt))))
-        (rows-ascend by_text bundle_path edit_path (edit_received stood) own bundle.files fits.limits.ascend)
-        (λ q. find-edits q three.next ∙ found-received q ∙ sym (at-rows by_text bundle_path edit_path (edit_received stood) own q bundle.files fits.limits.ascend))
+        (rows-ascend by_text bundle_path edit_path (edit_received stood) own bundle.files fits.ascend)
+        (λ q. find-edits q three.next ∙ found-received q ∙ sym (at-rows by_text bundle_path edit_path (edit_received stood) own q bundle.files fits.ascend))
       where
         own : (file : BundleFile) (made : Edit) → edit_received stood file ≡ Some made → edit_path made ≡ bundle_path file
         own file made is = received-path file (removes file) (there file) made (received-is stood file ∙ is)
@@ -168,7 +168,7 @@ module _ (stood : Observation) (number : ℕ) (bundle : Bundle) (fits : Fits bun
         subst (λ (r : Bool). IfSome (file_put file r) (λ bytes. directory_at number three.to file.path ≡ bytes)) kept there_now
     lies file is true gone v found =
         three.quiet file.path (ap (option_and_then (put number)) is ∙ ap (λ (r : Bool). put_by_removes number file r) gone)
-        ∙ two.quiet file.path (ap (option_and_then (addition stood number)) is ∙ ap (λ (r : Bool). addition_by number file r (there file)) gone)
+        ∙ two.quiet file.path (ap (option_and_then (addition (baseline_of stood) number)) is ∙ ap (λ (r : Bool). addition_by number file r (there file)) gone)
         ∙ taken v found
       where
         taken : (v : Option TreeRow) → there file ≡ v → directory_at number one.to file.path ≡ None
@@ -178,17 +178,17 @@ module _ (stood : Observation) (number : ℕ) (bundle : Bundle) (fits : Fits bun
             subst (λ (w : Option TreeRow). IfSome (file_removed true w) (λ bytes. directory_at number one.to file.path ≡ bytes)) found
             (subst (λ (r : Bool). IfSome (file_removed r (there file)) (λ bytes. directory_at number one.to file.path ≡ bytes)) gone there_now)
         taken None found =
-            one.quiet file.path (ap (option_and_then (removal stood number)) is ∙ ap (λ (r : Bool). removal_by number file r (there file)) gone ∙ ap (λ (w : Option TreeRow). removal_by number file true w) found)
+            one.quiet file.path (ap (option_and_then (removal (baseline_of stood) number)) is ∙ ap (λ (r : Bool). removal_by number file r (there file)) gone ∙ ap (λ (w : Option TreeRow). removal_by number file true w) found)
             ∙ filled file.path ∙ ap (option_map (λ (row : TreeRow). bytes row.version.number)) found
 
     files-lie : AllByRecursion (LiesThere (directory_at number three.to)) bundle.files
-    files-lie = all-by-members (LiesThere (directory_at number three.to)) bundle.files (λ file member. lies file (in-found by_text bundle_path bundle.files fits.limits.ascend file member) (removes file) refl (there file) refl)
+    files-lie = all-by-members (LiesThere (directory_at number three.to)) bundle.files (λ file member. lies file (in-found by_text bundle_path bundle.files fits.ascend file member) (removes file) refl (there file) refl)
 
     -- and at every other path
     others-lie : (q : List ℕ) → sent_at bundle q ≡ None → directory_at number three.to q ≡ file_below stood bytes q
     others-lie q none =
-        three.quiet q (ap (option_and_then (put number)) none) ∙ two.quiet q (ap (option_and_then (addition stood number)) none)
-        ∙ one.quiet q (ap (option_and_then (removal stood number)) none) ∙ filled q
+        three.quiet q (ap (option_and_then (put number)) none) ∙ two.quiet q (ap (option_and_then (addition (baseline_of stood) number)) none)
+        ∙ one.quiet q (ap (option_and_then (removal (baseline_of stood) number)) none) ∙ filled q
 
     -- the steps stop where the last of them led
     stops : stop from steps ≡ three.to
@@ -227,7 +227,7 @@ module _ (stood : Observation) (number : ℕ) (bundle : Bundle) (fits : Fits bun
 
 -- ---- the plan
 
-pub all-received : (stood : Observation) (number : ℕ) (bundle : Bundle) → Fits bundle → free_number stood ≡ Some number → (from : Point) (steps : List LineDone) → observation from.log ≡ Some stood → Legal from.log → ActsRun from (plan_of stood number bundle) steps
+pub all-received : (stood : Observation) (number : ℕ) (bundle : Bundle) → FilesFit bundle.files → free_number stood ≡ Some number → (from : Point) (steps : List LineDone) → observation from.log ≡ Some stood → Legal from.log → ActsRun from (plan_of (baseline_of stood) number bundle) steps
     → HasReceived stood (version_bytes from.log) bundle number from.who (stop from steps).log (directory_at number (stop from steps))
 all-received stood number bundle fits free from steps stands legal runs =
     let begun = begins stood number bundle from (removals stood number bundle ++ (additions stood number bundle ++ puts number bundle)) steps stands legal free runs in

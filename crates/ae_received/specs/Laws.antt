@@ -18,6 +18,7 @@ use Rattle.ae_script.specs.Uses.{Disks, Sites, Streams, written_from}
 use Rattle.ae_script.specs.declared.manner.Manner.TheVariants.{Plan}
 use Rattle.ae_types.specs.Observation.{Observation}
 use Rattle.ae_types.specs.Part.{part}
+use Rattle.ae_types.specs.Trees.{baseline_of}
 use Rattle.ae_received.specs.Received.{HasReceived}
 
 -- The acts are the plan of a change set that has a text, for the least free number; it was made over what stood, or over that without
@@ -27,7 +28,7 @@ pub record ArePlan (stood : Observation) (number : ℕ) (bundle : Bundle) (acts 
   pub seen : Observation
   pub sees : (seen ≡ part Nothing stood) ⊎ (seen ≡ stood)
   pub free : free_number seen ≡ Some number
-  pub are : acts ≡ plan_of seen number bundle
+  pub are : acts ≡ plan_of (baseline_of seen) number bundle
 
 module _ (d : Disks) (s : Sites) (o : Streams) where
   -- Where the acts of a plan end with Done, on a disk that held legal logs and read one after which this stood: the log that the disk

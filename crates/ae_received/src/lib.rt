@@ -3,4 +3,4 @@
 
 mod laws;
 
-pub use laws::{calls_receive_as_sent, received_changes_are_as_sent};
+pub use laws::received_changes_are_as_sent;

@@ -1,4 +1,4 @@
--- What is so of every call of the program that receives.
+-- What holds of every call of the program that receives.
 use Rattle.std.specs.Prelude.{◌≡◌, ℕ, List, Option, Some}
 use Rattle.ae_base.specs.declared.outcome.Outcome.TheVariants.{Done}
 use Rattle.ae_bundle.specs.Bundled.{Bundled}

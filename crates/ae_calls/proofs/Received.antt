@@ -12,6 +12,7 @@ use Rattle.ae_dist.specs.Receiving as receiving
 use Rattle.ae_exec.specs.Endings.{EndsAs}
 use Rattle.ae_exec.specs.Endings as ending
 use Rattle.ae_exec.specs.Holding.{HoldsLegal}
+use Rattle.ae_exec.specs.Shown.{Shown}
 use Rattle.ae_exec.proofs.Shown.{log-shown}
 use Rattle.ae_exec.proofs.Stores.{one}
 use Rattle.ae_lines.specs.declared.act.Act.{Act}
@@ -27,9 +28,8 @@ use Rattle.ae_script.specs.declared.manner.Manner.TheVariants.{Plan}
 use Rattle.ae_script.proofs.Telling.{meant_done}
 use Rattle.ae_session.specs.Called.{Asked, CallDone, IsAsked, ReceiveDone, planned, unplanned, unread}
 use Rattle.ae_session.specs.Called as asking
-use Rattle.ae_session.specs.Received.{IsWhyTold}
 use Rattle.ae_session.specs.Request.{AsksForReceiving}
-use Rattle.ae_telling.specs.Answered.{IsMeant}
+use Rattle.ae_telling.specs.Answered.{IsMeant, IsWhyTold}
 use Rattle.ae_telling.specs.Telling.{SinkUse}
 use Rattle.ae_types.specs.Observation.{Observation}
 use Rattle.ae_types.specs.Part.{part, part_of}
@@ -39,7 +39,7 @@ use Rattle.ae_words.specs.declared.command.Command.{Command}
 use Rattle.ae_words.specs.declared.table.Function.{Function}
 use Rattle.ae_words.specs.declared.table.Function.TheVariants as function
 use Rattle.ae_words.proofs.FirstBad.{one_command}
-use Rattle.ae_received.specs.Calls.{CallsReceiveAsSent, WasReceived}
+use Rattle.ae_calls.specs.Received.{CallsReceiveAsSent, WasReceived}
 use Rattle.ae_received.specs.Laws.{ArePlan}
 use Rattle.ae_received.proofs.Received.{logged-as-sent}
 
@@ -59,7 +59,7 @@ failed-not-done R M X _ (ending.disk_fault rose) is = cc
 failed-not-done R M X _ (ending.site_fault none) is = none
 failed-not-done R M X _ ending.memory is = cc
 
-why-not-done : (why : Outcome) (err : SinkUse) → (why ≡ Done → ⊥) → IsWhyTold why err Done → ⊥
+pub why-not-done : (why : Outcome) (err : SinkUse) → (why ≡ Done → ⊥) → IsWhyTold why err Done → ⊥
 why-not-done why err never told = go told.is_meant (meant_done told.meant Done err.rose refl told.is_told.how)
   where
     go : IsMeant why told.meant → told.meant ≡ Done → ⊥
@@ -80,15 +80,15 @@ module _ (words : List (List ℕ)) (a b : Command) (is_a : IsCommand words a) (i
 
 -- ---- what stood
 
--- a plan that was made over what the files show of no change is one over what stands after the log that they stand for
-plan-of-log : (d : Disks) (disk : d.Disk) (held : List Log) (log : Log) (name : Option (List ℕ)) (bundle : Bundle) (acts : List Act) → HoldsLegal (d.state disk) held log → (plans : Plans (reads (d.state disk)) name bundle acts)
-    → (stood : Observation) × (observation log ≡ Some stood) × (plans.o ≡ part Nothing stood)
-plan-of-log d disk held log name bundle acts holds plans =
-    by (observation log) refl (one Nothing (reads (d.state disk)) (Some plans.o) (part_of Nothing (observation log)) plans.shown (log-shown Nothing (reads (d.state disk)) log holds.holds.stands).shown)
+-- what a disk shows of no change is of what stands after the log that it held
+pub shown-of-log : (d : Disks) (disk : d.Disk) (held : List Log) (log : Log) (o : Observation) → HoldsLegal (d.state disk) held log → Shown Nothing (reads (d.state disk)) (Some o)
+    → (stood : Observation) × (observation log ≡ Some stood) × (o ≡ part Nothing stood)
+shown-of-log d disk held log o holds shown =
+    by (observation log) refl (one Nothing (reads (d.state disk)) (Some o) (part_of Nothing (observation log)) shown (log-shown Nothing (reads (d.state disk)) log holds.holds.stands).shown)
   where
-    by : (x : Option Observation) → observation log ≡ x → Some plans.o ≡ part_of Nothing x → (stood : Observation) × (observation log ≡ Some stood) × (plans.o ≡ part Nothing stood)
-    by (Some stood) stands same = (stood, stands, same_Some plans.o (part Nothing stood) same)
-    by None stands same = absurd (let none : Some plans.o ≡ None = same in cc)
+    by : (x : Option Observation) → observation log ≡ x → Some o ≡ part_of Nothing x → (stood : Observation) × (observation log ≡ Some stood) × (o ≡ part Nothing stood)
+    by (Some stood) stands same = (stood, stands, same_Some o (part Nothing stood) same)
+    by None stands same = absurd (let none : Some o ≡ None = same in cc)
 
 module _ (d : Disks) (s : Sites) (i o e : Streams) (from : Stand d s) (disk : d.Disk) (site : s.Site) (input input_new : i.Stream) (out out_new : o.Stream) (err err_new : e.Stream) (seen : d.told) (shown : s.told) (told : i.told) (held : List Log) (log : Log)
     (holds : HoldsLegal (d.state from.disk) held log) where
@@ -100,7 +100,7 @@ module _ (d : Disks) (s : Sites) (i o e : Streams) (from : Stand d s) (disk : d.
   planned-as-sent name bundle begun acts received look plans did logged =
       let text = received.text told in
       let made = plans seen in
-      let stood = plan-of-log d from.disk held log name bundle acts holds made in
+      let stood = shown-of-log d from.disk held log made.o holds made.shown in
       let plan : ArePlan stood.0 made.is.number bundle acts = record { fits = text.0; seen = made.o; sees = inl stood.2; free = made.is.free; are = made.is.is } in
       record {
         bundle = bundle;

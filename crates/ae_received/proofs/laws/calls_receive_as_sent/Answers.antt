@@ -1,5 +1,0 @@
-use Rattle.ae_received.proofs.Called.{calls-receive}
-use Rattle.ae_received.proofs.laws.calls_receive_as_sent.Goals as goal
-
-pub returns : goal.returns
-returns g c = calls-receive _ _ _ _ _
