@@ -1,3 +1,4 @@
 pub mod Help
 pub mod Modes
 pub mod Runs
+pub mod Top

@@ -3,6 +3,7 @@ ghost use Rattle.std.specs.Prelude.{⊤};
 ghost use Rattle.ae_outside.specs.Causes.{Counted, HasCause};
 ghost use Rattle.ae_outside.specs.Untold.{untold_disk};
 
+use crate::home::Home;
 use crate::store::{Access, Store};
 use crate::trouble::{Faults, Trouble};
 use ae_outside::{Disk, Failed, ReadError};
@@ -22,9 +23,9 @@ pub struct RealDisk<'a, R> {
 
 impl<'a, R: Files<File = File> + Alloc + Clock + Clone + Drop + Eprint> RealDisk<'a, R> {
     /// A disk that hasn't looked for the store yet.
-    pub fn new(rt: &'a R, alloc: Global, access: Access) -> RealDisk<'a, R> {
+    pub fn new(rt: &'a R, alloc: Global, home: Home<'a>, access: Access) -> RealDisk<'a, R> {
         RealDisk {
-            store: Store::new(rt, alloc, access),
+            store: Store::new(rt, alloc, home, access),
             faults: Faults::none(),
         }
     }

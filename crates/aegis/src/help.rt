@@ -76,6 +76,12 @@ Listings, scripts, made-up projects, an audit, reports, and change sets:
   -Distribution_Send -Change N   writes a completed change to standard output, for another project
   -Distribution_Receive   makes a change of what was sent, which standard input has
 
+Branches:
+
+    aegis -BRanch NAME -BEGin N    begins a branch from delta N: a project of its own, in aegis.d/branch.NAME
+    aegis -BRanch NAME -FUNCTION   does a command in the branch, with its other words
+    aegis -BRanch NAME -FINish     makes a change of the project of what the branch did after its first delta
+
 The listings:
 
   Administrators

@@ -1,10 +1,12 @@
 //! The program: the real directories, files and streams, and what is done with them.
 #![tactic(auto)]
 
+mod calling;
 mod descriptors;
 mod disk;
 mod help;
 mod help_of;
+mod home;
 mod installed;
 mod kept;
 mod lock;
@@ -18,10 +20,12 @@ mod trouble;
 mod who;
 
 use ae_base::Outcome;
-use ae_session::aegis;
+use ae_branch_words::branch_words;
 use ae_words::{Function, first_function};
+use calling::top;
 use disk::RealDisk;
 use help::Question;
+use home::Home;
 use site::RealSite;
 use std::io;
 use std::io::{ErrorKind, IsTerminal, Write};
@@ -65,7 +69,7 @@ fn tell(rt: &impl Eprint, device: &str, trouble: Option<&Trouble>) {
     }
 }
 
-// What a command of these words does with the store: an audit only reads it.
+// What a command of these words does with its store: an audit only reads it.
 fn access(rt: &HostRuntime, words: &[String]) -> Access {
     if first_function(words) == Some(Function::Audit) {
         Access::Reading
@@ -74,18 +78,22 @@ fn access(rt: &HostRuntime, words: &[String]) -> Access {
     }
 }
 
-// Does what the words ask for, with the real devices.
-fn work(rt: &HostRuntime, words: &[String], who: &str) -> Outcome {
-    let mut disk = RealDisk::new(rt, rt.alloc(), access(rt, words));
-    let mut site = RealSite::new(rt, rt.alloc());
+// Does what the words ask for, with the real devices: those of the project, and those of this branch of it.
+fn work_at(rt: &HostRuntime, words: &[String], who: &str, branch: Home, access: Access) -> Outcome {
+    let mut trunk = RealDisk::new(rt, rt.alloc(), Home::Trunk, access);
+    let mut trunk_site = RealSite::new(rt, rt.alloc(), Home::Trunk);
+    let mut disk = RealDisk::new(rt, rt.alloc(), branch, access);
+    let mut site = RealSite::new(rt, rt.alloc(), branch);
     let mut input = Reading::new(rt.stdin());
     let mut output = Writing::new(rt.stdout());
     let mut errors = Writing::new(rt.stderr());
-    let outcome = aegis(
+    let outcome = top(
         rt.alloc(),
         words,
         who,
         who::moment(rt),
+        &mut trunk,
+        &mut trunk_site,
         &mut disk,
         &mut site,
         &mut input,
@@ -93,13 +101,26 @@ fn work(rt: &HostRuntime, words: &[String], who: &str) -> Outcome {
         &mut errors,
     );
     if who::is_traced(rt) {
+        tell(rt, "disk", trunk.trouble());
         tell(rt, "disk", disk.trouble());
+        tell(rt, "directory", trunk_site.trouble());
         tell(rt, "directory", site.trouble());
         tell(rt, "input", input.trouble());
         tell(rt, "output", output.trouble());
         tell(rt, "error", errors.trouble());
     }
     outcome
+}
+
+// Does what the words ask for.
+fn work(rt: &HostRuntime, words: &[String], who: &str) -> Outcome {
+    match (branch_words(rt.alloc(), words), words) {
+        (Ok(Some(said)), [_, _, command @ ..]) => {
+            let access = access(rt, command);
+            work_at(rt, words, who, Home::Branch(&said.name), access)
+        }
+        _ => work_at(rt, words, who, Home::Nowhere, access(rt, words)),
+    }
 }
 
 fn main(rt: HostRuntime) -> ExitCode {

@@ -106,8 +106,8 @@ pub fn has_name(files: &impl Files, file: &File, place: &str) -> io::Result<bool
     }
 }
 
-/// Makes a folder. One that is there stays as it is. Making it follows no link.
-pub fn make_folder(files: &impl Files<File = File>, place: &str) -> io::Result<()> {
+// Makes a folder. One that is there stays as it is. Making it follows no link.
+fn make_folder(files: &impl Files<File = File>, place: &str) -> io::Result<()> {
     match fs::create_dir(files, place) {
         Ok(()) => share_folder(files, place)?,
         Err(e) if e.kind() == ErrorKind::AlreadyExists => {}
@@ -163,4 +163,15 @@ pub fn sync_folder(files: &impl Files<File = File>, place: &str) -> io::Result<(
         Err(e) if e.kind() == ErrorKind::InvalidInput => Ok(()),
         synced => synced,
     }
+}
+
+/// Makes the entries of a folder, and of those around it up to the current one, outlast a stop.
+pub fn sync_folders(files: &impl Files<File = File>, place: &str) -> io::Result<()> {
+    sync_folder(files, ".")?;
+    for end in 1..place.len() {
+        if let Some(folder) = folder_on_the_way(place, end) {
+            sync_folder(files, folder)?;
+        }
+    }
+    sync_folder(files, place)
 }

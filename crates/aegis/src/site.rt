@@ -5,6 +5,7 @@ ghost use Rattle.ae_outside.specs.Site.{IsAtMost};
 ghost use Rattle.ae_outside.specs.Untold.{untold_site};
 ghost use Rattle.aegis.specs.Runs.{HasNoEnd, IsExitOf, IsShell};
 
+use crate::home::Home;
 use crate::kept::{keep_file, keep_folder, put_away};
 use crate::modes::share_file;
 use crate::places::{
@@ -27,28 +28,30 @@ use std::{fs, io};
 // How a file begins that the system hands to the program that it names.
 const PROGRAM: &[u8] = b"#!";
 
-/// Directories below `aegis.d`, and the current folder. It tells nothing of what they hold.
+/// Directories in the project's folder, and the current folder. It tells nothing of what they hold.
 #[derive(Drop)]
 pub struct RealSite<'a, R> {
     rt: &'a R,
     alloc: Global,
+    home: Home<'a>,
     faults: Faults,
 }
 
-fn folder_of(alloc: Global, dir: &Dir) -> Result<String, AllocError> {
+// The folder of a directory of the project in this one.
+fn folder_in(alloc: Global, home: &str, dir: &Dir) -> Result<String, AllocError> {
     match dir {
         Dir::Here => String::from_str(alloc, "."),
         Dir::Develop(change) => {
             let number = change.number();
-            format!(in alloc; "aegis.d/develop.{number}")
+            format!(in alloc; "{home}/develop.{number}")
         }
         Dir::Integrate(delta) => {
             let number = delta.number();
-            format!(in alloc; "aegis.d/integrate.{number}")
+            format!(in alloc; "{home}/integrate.{number}")
         }
         Dir::Base(change) => {
             let number = change.number();
-            format!(in alloc; "aegis.d/base.{number}")
+            format!(in alloc; "{home}/base.{number}")
         }
     }
 }
@@ -94,13 +97,19 @@ fn shell_for(alloc: Global, folder: &str, command: &str) -> Result<Command, Allo
 }
 
 impl<'a, R: Files<File = File> + Alloc + Clock + Clone + Drop + Processes> RealSite<'a, R> {
-    /// The directories of the project in the current folder.
-    pub fn new(rt: &'a R, alloc: Global) -> RealSite<'a, R> {
+    /// The directories of this project.
+    pub fn new(rt: &'a R, alloc: Global, home: Home<'a>) -> RealSite<'a, R> {
         RealSite {
             rt,
             alloc,
+            home,
             faults: Faults::none(),
         }
+    }
+
+    fn folder_of(&self, dir: &Dir) -> io::Result<String> {
+        let home = self.home.folder(self.alloc)?;
+        Ok(folder_in(self.alloc, home.as_str(), dir)?)
     }
 
     /// Why the last call failed that did.
@@ -110,7 +119,7 @@ impl<'a, R: Files<File = File> + Alloc + Clock + Clone + Drop + Processes> RealS
 
     // Where a call fails: at a directory, or at a file of it.
     fn place_of_fault(&self, dir: &Dir, path: Option<&Path>) -> Option<String> {
-        let folder = folder_of(self.alloc, dir).ok()?;
+        let folder = self.folder_of(dir).ok()?;
         match path {
             Some(path) => place_in(self.alloc, folder.as_str(), path).ok(),
             None => Some(folder),
@@ -149,7 +158,7 @@ impl<'a, R: Files<File = File> + Alloc + Clock + Clone + Drop + Processes> RealS
     fn try_read(&self, alloc: Global, dir: &Dir, path: &Path, limit: usize) -> io::Result<Content>
         ensures limit { IfOk result (IsAtMost limit) }
     {
-        let folder = folder_of(alloc, dir)?;
+        let folder = self.folder_of(dir)?;
         let place = place_in(alloc, folder.as_str(), path)?;
         let Found::File(size) = look(self.rt, place.as_str())? else {
             return Ok(Content::Absent);
@@ -171,7 +180,7 @@ impl<'a, R: Files<File = File> + Alloc + Clock + Clone + Drop + Processes> RealS
         if *dir == Dir::Here && is_own(path) {
             return Err(refused());
         }
-        let folder = folder_of(self.alloc, dir)?;
+        let folder = self.folder_of(dir)?;
         let place = place_in(self.alloc, folder.as_str(), path)?;
         make_folders_to(self.rt, place.as_str())?;
         if let Some(size) = size_in_folder(self.rt, place.as_str())? {
@@ -227,7 +236,7 @@ impl<'a, R: Files<File = File> + Alloc + Clock + Clone + Drop + Processes> RealS
         if is_here && is_own(path) {
             return Err(refused());
         }
-        let folder = folder_of(self.alloc, dir)?;
+        let folder = self.folder_of(dir)?;
         let place = place_in(self.alloc, folder.as_str(), path)?;
         match look(self.rt, place.as_str())? {
             Found::File(size) => self.take_away(dir, folder.as_str(), place.as_str(), size)?,
@@ -254,7 +263,7 @@ impl<'a, R: Files<File = File> + Alloc + Clock + Clone + Drop + Processes> RealS
         if *dir == Dir::Here {
             return Err(refused());
         }
-        let folder = folder_of(self.alloc, dir)?;
+        let folder = self.folder_of(dir)?;
         match look(self.rt, folder.as_str())? {
             Found::Folder => self.empty(dir, folder.as_str())?,
             Found::Absent => {}
@@ -265,7 +274,7 @@ impl<'a, R: Files<File = File> + Alloc + Clock + Clone + Drop + Processes> RealS
 
     // The log is a help for who reads it: where a heading can't be written, the run is made all the same.
     fn try_run(&self, dir: &Dir, command: &str) -> io::Result<Exit> {
-        let folder = folder_of(self.alloc, dir)?;
+        let folder = self.folder_of(dir)?;
         make_folders(self.rt, folder.as_str())?;
         let mut log = run_log::open_log(self.rt, self.alloc, folder.as_str())?;
         run_log::begin(self.rt, self.alloc, &mut log, folder.as_str(), command).ok();

@@ -1,23 +1,19 @@
-// The files of the store, below `aegis.d/store`.
+// The files of a store, which lie in the folder `store` of its project's own.
 ghost use Rattle.std.specs.Prelude.{◌≤◌, length, IfOk};
 
+use crate::home::Home;
 use crate::lock::{Patience, take_lock};
 use crate::modes::{share_file, share_folder};
 use crate::places::{
-    Found, has_name, is_empty_folder, look, make_folder, refused, size_of_file, sync_folder,
+    Found, has_name, is_empty_folder, look, make_folders, refused, size_of_file, sync_folder,
+    sync_folders,
 };
-use std::alloc::{AllocError, Global};
+use std::alloc::Global;
 use std::fs::{File, OpenOptions};
 use std::io::ErrorKind;
 use std::os::unix::fs::FileExt;
 use std::rt::{Clock, Files};
 use std::{fs, io};
-
-const ROOT: &str = "aegis.d";
-
-const STORE: &str = "aegis.d/store";
-
-const LOCK: &str = "aegis.d/lock";
 
 /// What a command does with the store.
 #[derive(Clone, Copy, Debug, PartialEq, Eq)]
@@ -41,41 +37,70 @@ enum Standing {
     Open,
 }
 
-/// The store in the current folder. Where there is none it reads as empty, and the first write makes it. No file of it
-/// is touched before the lock is held, unless it is only read: then each write fails.
+// The file that was read last, which is still open.
+#[derive(Drop)]
+struct LastRead {
+    name: String,
+    file: File,
+}
+
+/// The store of a project. Where there is none it reads as empty, and the first write makes it. No file of it is touched before
+/// the lock is held, unless it is only read: then each write fails.
 #[derive(Drop)]
 pub struct Store<'a, R> {
     rt: &'a R,
     alloc: Global,
+    home: Home<'a>,
     access: Access,
     standing: Standing,
     // Whether the names of its files outlast a stop.
     has_stable_names: bool,
+    last_read: Option<LastRead>,
 }
 
 impl<'a, R: Files<File = File> + Alloc + Clock + Clone + Drop + Eprint> Store<'a, R> {
     /// A store that hasn't been looked for yet.
-    pub fn new(rt: &'a R, alloc: Global, access: Access) -> Store<'a, R> {
+    pub fn new(rt: &'a R, alloc: Global, home: Home<'a>, access: Access) -> Store<'a, R> {
         Store {
             rt,
             alloc,
+            home,
             access,
             standing: Standing::Unknown,
             has_stable_names: false,
+            last_read: None,
         }
     }
 
-    // Makes the store's own name, and that of the folder around it, outlast a stop.
+    // Where this stands in the project's folder.
+    fn in_home(&self, name: &str) -> io::Result<String> {
+        let home = self.home.folder(self.alloc)?;
+        Ok(format!(in self.alloc; "{home}/{name}")?)
+    }
+
+    // Where the file of that name stands.
+    fn place(&self, name: &str) -> io::Result<String> {
+        let home = self.home.folder(self.alloc)?;
+        Ok(format!(in self.alloc; "{home}/store/{name}")?)
+    }
+
+    // Makes the store's own name, and those of the folders around it, outlast a stop.
     fn sync_above(&self) -> io::Result<()> {
-        sync_folder(self.rt, ".")?;
-        sync_folder(self.rt, ROOT)
+        let home = self.home.folder(self.alloc)?;
+        sync_folders(self.rt, home.as_str())
+    }
+
+    // Takes the lock.
+    fn take(&self, patience: Patience) -> io::Result<File> {
+        let lock = self.in_home("lock")?;
+        take_lock(self.rt, lock.as_str(), patience)
     }
 
     // Takes the lock of a store that is there. Who made it may have been stopped before its name was stable, but then it
     // holds no file.
-    fn hold(&self, patience: Patience) -> io::Result<Standing> {
-        let lock = take_lock(self.rt, LOCK, patience)?;
-        if is_empty_folder(self.rt, STORE)? {
+    fn hold(&self, patience: Patience, store: &str) -> io::Result<Standing> {
+        let lock = self.take(patience)?;
+        if is_empty_folder(self.rt, store)? {
             self.sync_above()?;
         }
         Ok(Standing::Held(lock))
@@ -83,10 +108,11 @@ impl<'a, R: Files<File = File> + Alloc + Clock + Clone + Drop + Eprint> Store<'a
 
     // Looks for the store. Where it is there the lock is taken, unless it is only read.
     fn find(&mut self) -> io::Result<bool> {
-        match look(self.rt, STORE)? {
+        let store = self.in_home("store")?;
+        match look(self.rt, store.as_str())? {
             Found::Folder => {
                 self.standing = match self.access {
-                    Access::Alone(patience) => self.hold(patience)?,
+                    Access::Alone(patience) => self.hold(patience, store.as_str())?,
                     Access::Reading => Standing::Open,
                 };
                 Ok(true)
@@ -122,10 +148,12 @@ impl<'a, R: Files<File = File> + Alloc + Clock + Clone + Drop + Eprint> Store<'a
         if self.is_there()? {
             return Ok(());
         }
-        make_folder(self.rt, ROOT)?;
-        let lock = take_lock(self.rt, LOCK, patience)?;
-        fs::create_dir(self.rt, STORE)?;
-        share_folder(self.rt, STORE)?;
+        let home = self.home.folder(self.alloc)?;
+        make_folders(self.rt, home.as_str())?;
+        let lock = self.take(patience)?;
+        let store = self.in_home("store")?;
+        fs::create_dir(self.rt, store.as_str())?;
+        share_folder(self.rt, store.as_str())?;
         self.sync_above()?;
         self.standing = Standing::Held(lock);
         Ok(())
@@ -135,16 +163,13 @@ impl<'a, R: Files<File = File> + Alloc + Clock + Clone + Drop + Eprint> Store<'a
     // nothing more may be written.
     fn keep_lock(&self) -> io::Result<()> {
         self.patience()?;
+        let place = self.in_home("lock")?;
         match &self.standing {
-            Standing::Held(lock) if !has_name(self.rt, lock, LOCK)? => {
+            Standing::Held(lock) if !has_name(self.rt, lock, place.as_str())? => {
                 Err(io::Error::from(ErrorKind::NotFound))
             }
             _ => Ok(()),
         }
-    }
-
-    fn place(&self, name: &str) -> Result<String, AllocError> {
-        format!(in self.alloc; "{STORE}/{name}")
     }
 
     // Whether a call that fails now fails as it asks for the lock.
@@ -161,9 +186,9 @@ impl<'a, R: Files<File = File> + Alloc + Clock + Clone + Drop + Eprint> Store<'a
     }
 
     /// Where a call for this file fails: at the lock, as long as that isn't held, and then at the file.
-    pub fn place_of_fault(&self, name: &str) -> Result<String, AllocError> {
+    pub fn place_of_fault(&self, name: &str) -> io::Result<String> {
         if self.asks_for_lock() {
-            String::from_str(self.alloc, LOCK)
+            self.in_home("lock")
         } else {
             self.place(name)
         }
@@ -183,21 +208,34 @@ impl<'a, R: Files<File = File> + Alloc + Clock + Clone + Drop + Eprint> Store<'a
         Ok(self.found(name)?.unwrap_or(0))
     }
 
+    // Has a file open for reading, where it is there and holds something. It is looked for once, unless another is read meanwhile.
+    fn open_to_read(&mut self, name: &str) -> io::Result<()> {
+        if matches!(&self.last_read, Some(last) if last.name.as_str() == name) {
+            return Ok(());
+        }
+        self.last_read = None;
+        if self.size(name)? > 0 {
+            let file = File::open(self.rt, self.place(name)?)?;
+            let name = String::from_str(self.alloc, name)?;
+            self.last_read = Some(LastRead { name, file });
+        }
+        Ok(())
+    }
+
     /// The bytes of a file from `at` on, at most `len`.
     pub fn read_at(&mut self, alloc: Global, name: &str, at: u64, len: usize) -> io::Result<Vec<u8>>
         ensures { IfOk result (λ bytes. length bytes.items ≤ len) }
     {
-        let size = self.size(name)?;
-        let there = size.saturating_sub(at).min(len as u64) as usize;
+        self.open_to_read(name)?;
         let mut bytes = Vec::new(alloc);
-        if there == 0 {
+        let Some(last) = &self.last_read else {
             return Ok(bytes);
-        }
-        let place = self.place(name)?;
-        let file = File::open(self.rt, place)?;
+        };
+        let size = last.file.metadata()?.len();
+        let there = size.saturating_sub(at).min(len as u64) as usize;
         bytes.try_reserve_exact(there)?;
         bytes.resize(there, 0)?;
-        file.read_exact_at(bytes.as_mut_slice(), at)?;
+        last.file.read_exact_at(bytes.as_mut_slice(), at)?;
         Ok(bytes)
     }
 
@@ -242,7 +280,8 @@ impl<'a, R: Files<File = File> + Alloc + Clock + Clone + Drop + Eprint> Store<'a
             File::open(self.rt, place)?.sync_all()?;
         }
         if !self.has_stable_names {
-            sync_folder(self.rt, STORE)?;
+            let store = self.in_home("store")?;
+            sync_folder(self.rt, store.as_str())?;
             self.has_stable_names = true;
         }
         Ok(())
