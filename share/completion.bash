@@ -91,8 +91,8 @@ _aegis_find_change() {
         esac
     done
     case $PWD/ in
-    */aegis.d/develop.[0-9]*)
-        change=${PWD#*/aegis.d/develop.}
+    *"/$home"/develop.[0-9]*)
+        change=${PWD#*"/$home"/develop.}
         change=${change%%/*}
         ;;
     esac
@@ -110,19 +110,29 @@ _aegis_find_top() {
     while [ -n "$top" ] && [ ! -d "$top/aegis.d/store" ]; do top=${top%/*}; done
 }
 
-# The numbers of the project's changes.
+# The names of the project's branches.
+_aegis_branches() {
+    local top='' folder
+    _aegis_find_top
+    for folder in "$top"/aegis.d/branch.*/store; do
+        folder=${folder%/store}
+        [ "${folder##*/branch.}" = '*' ] || printf '%s\n' "${folder##*/branch.}"
+    done
+}
+
+# The numbers of the project's changes, in its folder `home`.
 _aegis_changes() {
-    sed -n 's/^changes = \[\(.*\)\];$/\1/p' "$top/aegis.d/store/project" 2>/dev/null | tr -d ',' | tr ' ' '\n'
+    sed -n 's/^changes = \[\(.*\)\];$/\1/p' "$top/$home/store/project" 2>/dev/null | tr -d ',' | tr ' ' '\n'
 }
 
 # The paths of the files that a state file lists, of those rows that go on so.
 _aegis_rows() {
-    sed -n 's/^files = //p' "$top/aegis.d/store/$1" 2>/dev/null | grep -o -e "path = \"[^\"]*\"; $2" | sed 's/^path = "//; s/".*//'
+    sed -n 's/^files = //p' "$top/$home/store/$1" 2>/dev/null | grep -o -e "path = \"[^\"]*\"; $2" | sed 's/^path = "//; s/".*//'
 }
 
 # The files in the directory of a change.
 _aegis_files() {
-    (cd "$top/aegis.d/develop.$1" 2>/dev/null && find . -type f ! -path ./aegis.log | sed 's/^\.\///')
+    (cd "$top/$home/develop.$1" 2>/dev/null && find . -type f ! -path ./aegis.log | sed 's/^\.\///')
 }
 
 # The plain words that a function's line asks for.
@@ -161,17 +171,33 @@ _aegis_words() {
     esac
 }
 
+# Takes the words that name a branch away, where the function stands after them.
+_aegis_take_branch() {
+    case ${COMP_WORDS[1],,} in -br | --br | -branch | --branch) ;; *) return ;; esac
+    [ "$COMP_CWORD" -gt 2 ] || return
+    home=aegis.d/branch.${COMP_WORDS[2]}
+    COMP_WORDS=("${COMP_WORDS[0]}" "${COMP_WORDS[@]:3}")
+    COMP_CWORD=$((COMP_CWORD - 2))
+}
+
 _aegis() {
-    local word=${COMP_WORDS[COMP_CWORD]} line=''
+    local word=${COMP_WORDS[COMP_CWORD]} line='' home=aegis.d
     COMPREPLY=()
     _aegis_read
+    _aegis_take_branch
     if [ "$COMP_CWORD" = 1 ]; then
         _aegis_names "${_aegis_functions[@]}"
-        _aegis_offer --help
-        _aegis_offer --version
+        if [ "$home" = aegis.d ]; then
+            _aegis_names -BRanch
+            _aegis_offer --help
+            _aegis_offer --version
+        else
+            _aegis_names -BEGin -FINish
+        fi
         return
     fi
     case ${COMP_WORDS[1],,} in
+    -br | --br | -branch | --branch) _aegis_offer_all < <(_aegis_branches) ;;
     --help) [ "$COMP_CWORD" != 2 ] || _aegis_names "${_aegis_functions[@]}" ;;
     *)
         _aegis_line_of "${COMP_WORDS[1]}"
@@ -182,8 +208,14 @@ _aegis() {
 
 # The same after a short name of profile.sh, as aenc.
 _aegis_short() {
-    local word=${COMP_WORDS[COMP_CWORD]} line=''
+    local word=${COMP_WORDS[COMP_CWORD]} line='' home=aegis.d
     COMPREPLY=()
+    case $PWD/ in
+    */aegis.d/branch.*)
+        home=${PWD#*/aegis.d/}
+        home=aegis.d/${home%%/*}
+        ;;
+    esac
     _aegis_read
     _aegis_line_of "-${COMP_WORDS[0]#ae}"
     [ -z "$line" ] || _aegis_words

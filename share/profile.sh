@@ -6,7 +6,7 @@
 # little more than the program:
 #
 # - They find the project from a folder below it, and the change from its develop directory: in aegis.d/develop.10, `aeb` is
-#   `aegis -b -c 10` in the project's folder.
+#   `aegis -b -c 10` in the project's folder. In aegis.d/branch.b1 and below it they are of that branch: `aegis -br b1 -b -c 10`.
 # - There, paths are relative to where you stand. Elsewhere a path that begins with aegis.d/develop.N/ is taken without that.
 # - Where a build or a test fails, the end of its log is shown; where a fault came, what aewhy finds.
 # - A listing that has waited in vain for another command is made from a copy of the project's records.
@@ -27,34 +27,42 @@ _ae_top() {
 # A path, as one who stands at the place $2 of the develop directory means it.
 _ae_path() {
     case $1 in
-    aegis.d/develop.[0-9]*/*)
-        _ae_rest=${1#aegis.d/develop.}
+    aegis.d/develop.[0-9]*/* | aegis.d/branch.*/develop.[0-9]*/*)
+        _ae_rest=${1#aegis.d/branch.*/}
+        _ae_rest=${_ae_rest#*develop.}
         printf '%s\n' "${_ae_rest#*/}"
         ;;
     *) printf '%s\n' "${2:+$2/}${1#./}" ;;
     esac
 }
 
-# A listing, from a copy of the records: that of a run that goes on holds the lock, and changes none of them.
+# A listing, from a copy of the records in $home: that of a run that goes on holds the lock, and changes none of them.
 _ae_list() (
     copy=$(mktemp -d) || exit 3
     trap 'rm -rf "$copy"' EXIT
-    mkdir -p "$copy/aegis.d/store" || exit 3
-    for file in aegis.d/store/*; do
-        [ "$file" = aegis.d/store/pack ] || cp "$file" "$copy/aegis.d/store" || exit 3
+    mkdir -p "$copy/$home/store" || exit 3
+    for file in "$home"/store/*; do
+        [ "$file" = "$home/store/pack" ] || cp "$file" "$copy/$home/store" || exit 3
     done
     cd "$copy" && aegis "$@"
 )
 
 # Runs a function, in the project that is around: its short name, its words in the help, and the words that are given.
 _ae() (
-    name=$1 wants=$2 here=$PWD change='' below='' is_given='' before=''
+    name=$1 wants=$2 here=$PWD home=aegis.d branch='' change='' below='' is_given='' before=''
     shift 2
     case $name in npr | gen) aegis "-$name" "$@"; exit ;; esac
     top=$(_ae_top)
     case $here/ in
-    "$top"/aegis.d/develop.[0-9]*)
-        change=${here#"$top"/aegis.d/develop.}
+    "$top"/aegis.d/branch.*)
+        branch=${here#"$top"/aegis.d/branch.}
+        branch=${branch%%/*}
+        home=aegis.d/branch.$branch
+        ;;
+    esac
+    case $here/ in
+    "$top/$home"/develop.[0-9]*)
+        change=${here#"$top/$home"/develop.}
         below=${change#"${change%%/*}"}
         below=${below#/}
         change=${change%%/*}
@@ -90,17 +98,17 @@ _ae() (
     begun=$(mktemp) || exit 3
     trap 'rm -f "$begun"' EXIT
     if [ "$name" = l ]; then
-        AEGIS_WAIT=${AEGIS_WAIT-1} aegis -l "$@" 2>"$begun"
+        AEGIS_WAIT=${AEGIS_WAIT-1} aegis ${branch:+-br "$branch"} -l "$@" 2>"$begun"
         status=$?
-        if [ "$status" = 3 ] && ! flock -n aegis.d/lock true 2>/dev/null && _ae_list -l "$@"; then exit 0; fi
+        if [ "$status" = 3 ] && ! flock -n "$home/lock" true 2>/dev/null && _ae_list ${branch:+-br "$branch"} -l "$@"; then exit 0; fi
         cat "$begun" >&2
     else
-        aegis "-$name" "$@"
+        aegis ${branch:+-br "$branch"} "-$name" "$@"
         status=$?
     fi
     case $name$status in
     b1 | t1)
-        find aegis.d -maxdepth 2 -name aegis.log -newer "$begun" | head -n 1 | while read -r log; do
+        find "$home" -maxdepth 2 -name aegis.log -newer "$begun" | head -n 1 | while read -r log; do
             echo "== the end of $log:"
             tail -n 20 "$log"
         done >&2

@@ -38,13 +38,20 @@ def project_text(paths, changes, form):
     )
 
 
-def content(number):
-    return f"version {number}\n".encode().ljust(LENGTH, b".")
+def units(length):
+    """How many units of `pack` a version of that length takes."""
+    return (length + UNIT - 1) // UNIT
 
 
-def file_row(path, number, delta, digest):
-    at = (number - 1) * LENGTH // UNIT
-    version = f'version = {{ number = {number}; at = {at}; length = {LENGTH}; digest = "{digest}"; }};'
+def content(number, length=LENGTH):
+    """The bytes of a version: a line with its number and dots, or dots alone where that line doesn't fit."""
+    line = f"version {number}\n".encode()
+    return (line if len(line) <= length else b"").ljust(length, b".")
+
+
+def file_row(path, number, delta, length, digest):
+    at = (number - 1) * units(length)
+    version = f'version = {{ number = {number}; at = {at}; length = {length}; digest = "{digest}"; }};'
     return f'{{ path = "{path}"; edit = 1; past = [{{ delta = {delta}; usage = source; {version} }}]; }}'
 
 
@@ -65,16 +72,16 @@ def change_text(number, paths, form, digest):
     )
 
 
-def write_store(folder, paths, changes, form=2):
-    """Writes the store in this format of the state files."""
+def write_store(folder, paths, changes, form=2, length=LENGTH):
+    """Writes the store in this format of the state files; each file has so many bytes."""
     names = [f"source/part{n // 100:03}/file{n:05}.c" for n in range(paths)]
     each = [names[d * paths // changes : (d + 1) * paths // changes] for d in range(changes)]
     rows, tree, trees = [], hashlib.sha256(), []
     for delta, mine in enumerate(each, 1):
         for path in mine:
-            digest = hashlib.sha256(content(len(rows) + 1)).hexdigest()
-            rows.append(file_row(path, len(rows) + 1, delta, digest))
-            tree.update(f"{path} {LENGTH} {digest}\n".encode())
+            digest = hashlib.sha256(content(len(rows) + 1, length)).hexdigest()
+            rows.append(file_row(path, len(rows) + 1, delta, length, digest))
+            tree.update(f"{path} {length} {digest}\n".encode())
         trees.append(tree.hexdigest())
     texts = {"project": project_text(paths, changes, form), "files": f"files = {listed(rows)};\nlocks = [];\n"}
     for delta, (mine, digest) in enumerate(zip(each, trees), 1):
@@ -84,4 +91,4 @@ def write_store(folder, paths, changes, form=2):
         with open(os.path.join(folder, name), "w") as file:
             file.write(text)
     with open(os.path.join(folder, "pack"), "wb") as pack:
-        pack.writelines(content(number) for number in range(1, paths + 1))
+        pack.writelines(content(number, length).ljust(units(length) * UNIT, b"\0") for number in range(1, paths + 1))

@@ -72,9 +72,9 @@ class Story(Session):
         handed = b"" if name == "-" else self.data[f"data/{name}"]
         self.command(first, words_of(cell(words)), handed, int(status), cell(said), cell(told))
 
-    def compare(self, store):
+    def compare(self, store, home="aegis.d"):
         """The state files are these, but for moments, where a file isn't the same: then each is that of the stories, or one of this run."""
-        found = read_tree(os.path.join(self.top, "aegis.d", "store"), ("gate", "body"))
+        found = read_tree(os.path.join(self.top, home, "store"), ("gate", "body"))
         for name, wanted in sorted(self.of_folder(f"stores/{store}").items()):
             if found.get(name) == wanted:
                 continue
@@ -86,6 +86,11 @@ class Story(Session):
         for name in sorted(found.keys() - self.of_folder(f"stores/{store}").keys()):
             if found[name]:
                 self.complain(f"{name} isn't wanted")
+
+    def compare_branches(self, store):
+        """Compares the store of each branch of which the story has files."""
+        for name in sorted({path.split("/")[1] for path in self.data if path.startswith(f"stores/{store}.branch.")}):
+            self.compare(name, os.path.join("aegis.d", name.removeprefix(f"{store}.")))
 
     def compare_files(self, expected):
         """Each file of a directory is as the story has it, by its SHA-256. What stood before the story isn't there."""
@@ -111,6 +116,7 @@ def run_stories(program, names):
                 if line and not line.startswith("#"):
                     story.step(line)
             story.compare("after")
+            story.compare_branches("after")
             story.compare_files(data["folders"].decode())
             done, wrong = done + story.done, wrong + story.wrong
     return done, wrong
