@@ -123,7 +123,7 @@ more_stops : (js : Items) (after : List ℕ) → stops after ≡ true → stops 
 more_stops no_items after stop = stop
 more_stops (item j js) after stop = refl
 
-field_row : (k v rest : List ℕ) → field_text k v ++ rest ≡ k ++ 32 ∷ 61 ∷ 32 ∷ (v ++ 59 ∷ rest)
+pub field_row : (k v rest : List ℕ) → field_text k v ++ rest ≡ k ++ 32 ∷ 61 ∷ 32 ∷ (v ++ 59 ∷ rest)
 field_row k v rest = append_assoc k (32 ∷ 61 ∷ 32 ∷ (v ++ 59 ∷ [])) rest ∙ ap (λ (xs : List ℕ). k ++ 32 ∷ 61 ∷ 32 ∷ xs) (append_assoc v (59 ∷ []) rest)
 
 -- the name and the `=` of a field, in front of its value

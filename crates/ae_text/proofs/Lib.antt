@@ -16,4 +16,5 @@ pub mod EveryText
 pub mod GoodWords
 pub mod Again
 pub mod Deep
-mod Printed
+pub mod Printed
+pub mod Plain

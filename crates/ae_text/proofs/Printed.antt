@@ -1,10 +1,10 @@
 -- What a printer has put, where the rest is still to come.
-use Rattle.std.proofs.Common.{◌≡◌, ℕ, ◌+◌, ◌<◌, List, [], ◌∷◌, ◌++◌, length, drop, get_or, ap, sym, subst, ◌∙◌, append_assoc, Result, Ok, Err, OnOk, rules, if◌then◌else◌}
+use Rattle.std.proofs.Common.{◌≡◌, ℕ, ◌+◌, ◌<◌, List, [], ◌∷◌, ◌++◌, length, drop, get_or, map, ap, sym, subst, ◌∙◌, append_assoc, Result, Ok, Err, OnOk, rules, if◌then◌else◌}
 use Rattle.std.specs.Result.{is_ok}
 use Rattle.std.proofs.lemmas.List.{at_drop_more}
 use Rattle.ae_text.specs.Tree.{Node, Items, item, Members, member}
 use Rattle.ae_text.specs.Tree as node_is
-use Rattle.ae_text.specs.View.{node, named_node, items_seen, members_seen, node_step, field_step, members_step, items_step}
+use Rattle.ae_text.specs.View.{node, named_node, items_of, items_seen, members_seen, node_step, field_step, members_step, items_step}
 use Rattle.ae_text.specs.Canonical.{value_text, items_text, field_text, spaced_fields_text, fields_text}
 use Rattle.ae_text.specs.Printing.{FitsTypes, ItemsFitTypes, MembersFitTypes}
 use Rattle.ae_text.specs.declared.tree.Field.{Field}
@@ -20,10 +20,11 @@ two_more : (out one two rest between after : List ℕ) → between ≡ out ++ on
 two_more out one two rest between after first second =
     ap (λ (l : List ℕ). l ++ rest) (second ∙ ap (λ (l : List ℕ). l ++ two) first) ∙ (append_assoc (out ++ one) two rest ∙ append_assoc out one (two ++ rest))
 
--- the next value of a list
-next_item : (trees : List Tree) (i : ℕ) (tree : Tree) → tree ≡ get_or trees i tree → i < length trees
-    → items_seen (drop i trees) ≡ item (node tree) (items_seen (drop (i + 1) trees))
-next_item trees i tree is less = at_drop_more items_seen trees i tree less ∙ ap (λ (t : Tree). item (node t) (items_seen (drop (i + 1) trees))) (sym is)
+-- the next value of a list, of what the rows are spelled as
+next_item : {A : Type 0} (spelled : A → Node) (rows : List A) (i : ℕ) (row : A) → row ≡ get_or rows i row → i < length rows
+    → items_of (map spelled (drop i rows)) ≡ item (spelled row) (items_of (map spelled (drop (i + 1) rows)))
+next_item {A} spelled rows i row is less =
+    at_drop_more (λ (xs : List A). items_of (map spelled xs)) rows i row less ∙ ap (λ (x : A). item (spelled x) (items_of (map spelled (drop (i + 1) rows)))) (sym is)
 
 -- a field is its name and its value
 named : (field : Field) → named_node field ≡ (field.name, node field.value)
@@ -37,16 +38,16 @@ next_member fields i field is less =
     at_drop_more members_seen fields i field less ∙ ap (λ (m : List ℕ × Node). member m.0 m.1 (members_seen (drop (i + 1) fields))) one
 
 -- a value put in a list
-pub put_item : (trees : List Tree) (i : ℕ) (tree : Tree) → tree ≡ get_or trees i tree → i < length trees
-    → (before out between after whole : List ℕ) → between ≡ out ++ before → after ≡ between ++ value_text (node tree)
-    → out ++ items_text before (items_seen (drop i trees)) ≡ whole → after ++ items_text (44 ∷ 32 ∷ []) (items_seen (drop (i + 1) trees)) ≡ whole
-put_item trees i tree is less before out between after whole first second so_far =
-    two_more out before (value_text (node tree)) (items_text (44 ∷ 32 ∷ []) (items_seen (drop (i + 1) trees))) between after first second
-    ∙ (ap (λ (js : Items). out ++ items_text before js) (sym (next_item trees i tree is less)) ∙ so_far)
+pub put_item : {A : Type 0} (spelled : A → Node) (rows : List A) (i : ℕ) (row : A) → row ≡ get_or rows i row → i < length rows
+    → (before out between after whole : List ℕ) → between ≡ out ++ before → after ≡ between ++ value_text (spelled row)
+    → out ++ items_text before (items_of (map spelled (drop i rows))) ≡ whole → after ++ items_text (44 ∷ 32 ∷ []) (items_of (map spelled (drop (i + 1) rows))) ≡ whole
+put_item spelled rows i row is less before out between after whole first second so_far =
+    two_more out before (value_text (spelled row)) (items_text (44 ∷ 32 ∷ []) (items_of (map spelled (drop (i + 1) rows)))) between after first second
+    ∙ (ap (λ (js : Items). out ++ items_text before js) (sym (next_item spelled rows i row is less)) ∙ so_far)
 
-pub item_fits : (trees : List Tree) (i : ℕ) (tree : Tree) → tree ≡ get_or trees i tree → i < length trees → FitsTypes (node tree)
-    → ItemsFitTypes (items_seen (drop (i + 1) trees)) → ItemsFitTypes (items_seen (drop i trees))
-item_fits trees i tree is less one rest = subst (λ (js : Items). ItemsFitTypes js) (sym (next_item trees i tree is less)) (one, rest)
+pub item_fits : {A : Type 0} (spelled : A → Node) (rows : List A) (i : ℕ) (row : A) → row ≡ get_or rows i row → i < length rows → FitsTypes (spelled row)
+    → ItemsFitTypes (items_of (map spelled (drop (i + 1) rows))) → ItemsFitTypes (items_of (map spelled (drop i rows)))
+item_fits spelled rows i row is less one rest = subst (λ (js : Items). ItemsFitTypes js) (sym (next_item spelled rows i row is less)) (one, rest)
 
 -- a field put in a structure
 pub put_spaced : (fields : List Field) (i : ℕ) (field : Field) → field ≡ get_or fields i field → i < length fields

@@ -1,6 +1,7 @@
 // The canonical text of a tree.
-ghost use Rattle.std.specs.Prelude.{◌≡◌, ◌<◌, ◌^◌, ◌++◌, [], ℕ, List, OnOk, IfOk};
+ghost use Rattle.std.specs.Prelude.{◌≡◌, ◌<◌, ◌^◌, ◌++◌, ◌∷◌, [], ℕ, List, OnOk, IfOk, IsTrue, flat_map};
 ghost use Rattle.std.specs.Fmt.{decimal};
+ghost use Rattle.ae_base.specs.Bytes.{AreBytes};
 ghost use Rattle.ae_text.specs.View.{node, items_seen, members_seen};
 ghost use Rattle.ae_text.specs.Canonical.{piece, quoted, value_text, items_text, field_text, spaced_fields_text, fields_text, text};
 ghost use Rattle.ae_text.specs.WellFormed.{IsWellFormed};
@@ -24,18 +25,70 @@ fn put_piece(out: &mut Vec<u8>, b: u8) -> Result<(), AllocError>
     }
 }
 
-fn put_string(out: &mut Vec<u8>, s: &[u8]) -> Result<(), AllocError>
-    ensures { OnOk result (out.new.items ≡ out.old.items ++ quoted s.now) }
+// Whether the byte stands for itself in a string.
+#[tactic(auto, using(crate::proofs::Plain::plain_piece))]
+fn is_plain(b: u8) -> bool
+    ensures { IsTrue result → piece b ≡ b ∷ [] }
 {
-    out.push(b'"')?;
+    32 <= b && b <= 126 && b != b'"' && b != b'\\'
+}
+
+// Whether each byte does.
+fn are_plain(s: &[u8]) -> bool
+    ensures { IsTrue result → flat_map piece s.now ≡ s.now }
+{
+    for b in s {
+        if !is_plain(*b) {
+            return false;
+        }
+    }
+    true
+}
+
+// Each byte as it stands in a string.
+fn put_pieces(out: &mut Vec<u8>, s: &[u8]) -> Result<(), AllocError>
+    ensures { OnOk result (out.new.items ≡ out.old.items ++ flat_map piece s.now) }
+{
     for b in s {
         put_piece(out, *b)?;
     }
+    Ok(())
+}
+
+// What stands between the two `"`: at once where no byte needs an escape.
+fn put_inside(out: &mut Vec<u8>, s: &[u8]) -> Result<(), AllocError>
+    ensures { OnOk result (out.new.items ≡ out.old.items ++ flat_map piece s.now) }
+{
+    if are_plain(s) {
+        out.extend_from_slice(s)
+    } else {
+        put_pieces(out, s)
+    }
+}
+
+// The items of a slice of bytes are bytes.
+fn note_bytes(bytes: &[u8])
+    ensures { AreBytes bytes.now }
+{}
+
+/// Puts the string of these bytes after what stands there.
+pub fn put_string(out: &mut Vec<u8>, s: &[u8]) -> Result<(), AllocError>
+    // Between two `"`, with escapes.
+    ensures text { OnOk result (out.new.items ≡ out.old.items ++ quoted s.now) }
+    // They are bytes.
+    ensures bytes { AreBytes s.now }
+{
+    note_bytes(s);
+    out.push(b'"')?;
+    put_inside(out, s)?;
     out.extend_from_slice(b"\"")
 }
 
-fn put_number(out: &mut Vec<u8>, n: u64) -> Result<(), AllocError>
+/// Puts the number after what stands there.
+pub fn put_number(out: &mut Vec<u8>, n: u64) -> Result<(), AllocError>
+    // By its decimal digits.
     ensures text { OnOk result (out.new.items ≡ out.old.items ++ decimal n) }
+    // It fits 64 bits.
     ensures fits { n < 2 ^ 64 }
 {
     let mut buffer = itoa::Buffer::new();

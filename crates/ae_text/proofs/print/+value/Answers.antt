@@ -1,6 +1,7 @@
 use Rattle.std.proofs.Common.{ℕ, List, ◌++◌, ◌∙◌, ap, sym}
 use Rattle.ae_base.proofs.Results.{on_ok_of_err}
 use Rattle.ae_text.specs.Tree.{Node}
+use Rattle.ae_text.specs.View.{node}
 use Rattle.ae_text.specs.Canonical.{value_text}
 use Rattle.ae_text.proofs.Printed.{put_item, item_fits, put_spaced, member_fits, three_put, four_put, where_put, seen_list, seen_fields}
 use Rattle.ae_text.proofs.print.+value.Goals as goal
@@ -9,9 +10,9 @@ pub put_items-loop-tree-preserved : goal.put_items-loop-tree-preserved
 put_items-loop-tree-preserved n c =
     let loop = c.loop-tree in
     let tree = c.tree-item in (
-      put_item c.args.trees.now loop.tree-index tree.result tree.is c.loop-tree-test.true loop.before.now loop.out.items _ _ _
+      put_item node c.args.trees.now loop.tree-index tree.result tree.is c.loop-tree-test.true loop.before.now loop.out.items _ _ _
           c.in_ok-extend_from_slice.ensures.items c.in_ok-put_value.ensures.text loop.invariant.0,
-      λ rest. loop.invariant.1 (item_fits c.args.trees.now loop.tree-index tree.result tree.is c.loop-tree-test.true c.in_ok-put_value.ensures.types rest),
+      λ rest. loop.invariant.1 (item_fits node c.args.trees.now loop.tree-index tree.result tree.is c.loop-tree-test.true c.in_ok-put_value.ensures.types rest),
     )
 
 pub put_spaced_fields-loop-field-preserved : goal.put_spaced_fields-loop-field-preserved
