@@ -8,3 +8,4 @@ pub mod Options
 mod FieldsFit
 mod Decided
 pub mod Every
+pub mod Put

@@ -1,9 +1,12 @@
 -- The state files' values as their fields, one after another.
 use Rattle.std.specs.Prelude.{ℕ, List, Bool, Option}
+use Rattle.ae_base.specs.declared.words.Action.{Action}
 use Rattle.ae_base.specs.declared.words.Cause.{Cause}
 use Rattle.ae_base.specs.declared.words.Phase.{Phase}
 use Rattle.ae_base.specs.declared.words.Ground.{Ground}
 use Rattle.ae_base.specs.declared.words.Kind.{Kind}
+use Rattle.ae_base.specs.declared.words.Usage.{Usage}
+use Rattle.ae_base.specs.declared.words.What.{What}
 use Rattle.ae_types.specs.declared.project.EndAction.{EndAction}
 use Rattle.ae_types.specs.declared.project.DeltaRow.{DeltaRow}
 use Rattle.ae_types.specs.declared.project.Attributes.{Attributes}
@@ -85,6 +88,21 @@ project_shape p = let project = p.0 in let attributes = project.attributes in
 
 abbrev pub version_from : Then ℕ (Then ℕ (Then ℕ (Then (List ℕ) End))) → VersionRef
 version_from f = record { number = f.first; at = f.rest.first; length = f.rest.rest.first; digest = f.rest.rest.rest.first }
+
+abbrev pub delta_from : Then ℕ (Then ℕ (Then ℕ (Then (List ℕ) End))) → DeltaRow
+delta_from f = record { delta = f.first; change = f.rest.first; when = f.rest.rest.first; who = f.rest.rest.rest.first }
+
+abbrev pub file_version_from : Then ℕ (Then Usage (Then (Option VersionRef) End)) → FileVersion
+file_version_from f = record { delta = f.first; usage = f.rest.first; version = f.rest.rest.first }
+
+abbrev pub lock_from : Then (List ℕ) (Then ℕ End) → Lock
+lock_from f = record { path = f.first; change = f.rest.first }
+
+abbrev pub change_file_from : Then (List ℕ) (Then Action (Then Usage (Then ℕ (Then (Option VersionRef) End)))) → ChangeFile
+change_file_from f = record { path = f.first; action = f.rest.first; usage = f.rest.rest.first; origin = f.rest.rest.rest.first; frozen = f.rest.rest.rest.rest.first }
+
+abbrev pub history_from : Then What (Then (List ℕ) (Then ℕ (Then (List ℕ) End))) → HistoryRow
+history_from f = record { what = f.first; who = f.rest.first; when = f.rest.rest.first; why = f.rest.rest.rest.first }
 
 abbrev pub row_from : Then (List ℕ) (Then ℕ (Then (List FileVersion) End)) → FileRow
 row_from f = record { path = f.first; past = f.rest.rest.first }

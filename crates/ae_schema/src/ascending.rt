@@ -4,6 +4,7 @@ ghost use Rattle.std.specs.Ordering.{is_lt};
 ghost use Rattle.std.specs.declared.cmp.Ordering.{Ordering};
 ghost use Rattle.ae_types.specs.Ordered.{ascends};
 
+use crate::canonical::Cursor;
 use crate::value::Decode;
 use ae_text::Tree;
 use ae_types::Rows;
@@ -65,7 +66,8 @@ fn in_order<T: Keyed>(rows: Rows<T>) -> Option<Ascending<T>>
 impl<T: Keyed> Ascending<T> {
     /// The rows, in their order.
     pub(crate) fn into_rows(self) -> Rows<T>
-        ensures { result ≡ self }
+        ensures same { result ≡ self }
+        ensures ascend { ascends T.order T.key result ≡ true }
     {
         self.rows
     }
@@ -82,6 +84,13 @@ impl<T: Keyed> Decode for Ascending<T> {
 
     fn of_tree(alloc: Global, tree: &Tree) -> Result<Option<Ascending<T>>, AllocError> {
         match Rows::<T>::of_tree(alloc, tree)? {
+            Some(rows) => Ok(in_order(rows)),
+            None => Ok(None),
+        }
+    }
+
+    fn guess(alloc: Global, text: &mut Cursor) -> Result<Option<Ascending<T>>, AllocError> {
+        match Rows::<T>::guess(alloc, text)? {
             Some(rows) => Ok(in_order(rows)),
             None => Ok(None),
         }

@@ -1,23 +1,22 @@
 // The file of a change.
-ghost use Rattle.std.specs.Prelude.{◌≡◌, ℕ, Err, IfOk, OnOk, map, ◌++◌};
+ghost use Rattle.std.specs.Prelude.{◌≡◌, ℕ, Err, IfOk, OnOk, IsTrue, IfSome, map, ◌++◌};
 ghost use Rattle.ae_text.specs.Canonical.{fields_text};
-ghost use Rattle.ae_text.specs.View.{members_of, named_node};
+ghost use Rattle.ae_text.specs.View.{members_of};
 ghost use Rattle.ae_types.specs.declared.change.Change.{Change};
 ghost use Rattle.ae_schema.specs.Records.{IsTextOf, IsBadLine, IsAnswer, IsRefusal};
 ghost use Rattle.ae_schema.specs.Files.{subject_fields, exemption_fields, people_fields, row_fields, change_fields};
-ghost use Rattle.ae_schema.specs.Fits.{IsChangeNo, HoldsPeople, HoldsRows, HoldsChange, FitsChange};
+ghost use Rattle.ae_schema.specs.Fits.{IsChangeNo, HoldsPeople, HoldsRows, HoldsChange, FitsChange, ChangeAscends};
+ghost use Rattle.ae_schema.specs.Put.{ArePut, lines};
 ghost use Rattle.ae_schema.specs.Shapes.{settings_from, change_from};
 
 use crate::ascending::Ascending;
 use crate::fields::{End, Then};
 use crate::format::{FormatOne, FormatTwo, FormatType};
 use crate::history::History;
-use crate::record::read_record;
-use crate::structure::structure_of;
-use crate::value::{put_both, put_field};
+use crate::record::{guess_record, read_record};
+use crate::value::{put_line, put_lines};
 use crate::{Format, SchemaError};
 use ae_base::{Cause, ChangeNo, Phase, Text, User};
-use ae_text::{Field, print_tree};
 use ae_types::{Change, ChangeAttributes, ChangeFile, Evidence};
 use std::alloc::{AllocError, Global};
 
@@ -71,7 +70,8 @@ fn attributes_of<F: FormatType>(
 }
 
 fn change_of<F: FormatType>(fields: ChangeFields<F>) -> Change
-    ensures { result ≡ change_from fields }
+    ensures value { result ≡ change_from fields }
+    ensures ascend { ChangeAscends result }
 {
     let Then {
         first: number,
@@ -151,6 +151,46 @@ fn read_as<F: FormatType>(alloc: Global, bytes: &[u8]) -> Result<Change, SchemaE
     }
 }
 
+// Whether the bytes are what is printed of this change.
+fn are_printed(alloc: Global, change: &Change, bytes: &[u8]) -> Result<bool, AllocError>
+    ensures text { IfOk result (λ same. IsTrue same → IsTextOf bytes.now (change_fields Format.Two change.now)) }
+    ensures fits { IfOk result (λ same. HoldsChange Format.Two change.now) }
+{
+    let text = print_change(alloc, change)?;
+    Ok(text.as_slice() == bytes)
+}
+
+// The change that is printed as these bytes.
+fn read_printed(alloc: Global, bytes: &[u8]) -> Result<Option<Change>, AllocError>
+    ensures found { IfOk result (λ read. IfSome read (λ c. IsTextOf bytes.now (change_fields Format.Two c))) }
+    ensures fits { IfOk result (λ read. IfSome read (FitsChange Format.Two)) }
+{
+    let Some(fields) = guess_record::<ChangeFields<FormatTwo>>(alloc, &FIELD_NAMES, bytes)? else {
+        return Ok(None);
+    };
+    let change = change_of(fields);
+    if are_printed(alloc, &change, bytes)? {
+        Ok(Some(change))
+    } else {
+        Ok(None)
+    }
+}
+
+// The change of which the bytes are a text in the second format.
+fn read_second(alloc: Global, bytes: &[u8]) -> Result<Change, SchemaError>
+    ensures found { IfOk result (λ c. IsTextOf bytes.now (change_fields Format.Two c)) }
+    ensures fits { IfOk result (FitsChange Format.Two) }
+    ensures only { (c : Change) → FitsChange Format.Two c → IsTextOf bytes.now (change_fields Format.Two c) → IsAnswer c result }
+    ensures field { (line : ℕ) → result ≡ Err (SchemaError.Field line) → IsBadLine (FitsChange Format.Two) (change_fields Format.Two) bytes.now line }
+    ensures only_field { (line : ℕ) → IsBadLine (FitsChange Format.Two) (change_fields Format.Two) bytes.now line → IsRefusal line result }
+{
+    match read_printed(alloc, bytes) {
+        Ok(Some(change)) => Ok(change),
+        Ok(None) => read_as::<FormatTwo>(alloc, bytes),
+        Err(_) => Err(SchemaError::Memory),
+    }
+}
+
 /// The change of which the bytes are a text in this format. By the first each reason is empty.
 pub fn read_change_in(alloc: Global, format: Format, bytes: &[u8]) -> Result<Change, SchemaError>
     // The bytes are a text of the fields of what is read.
@@ -166,7 +206,7 @@ pub fn read_change_in(alloc: Global, format: Format, bytes: &[u8]) -> Result<Cha
 {
     match format {
         Format::One => read_as::<FormatOne>(alloc, bytes),
-        Format::Two => read_as::<FormatTwo>(alloc, bytes),
+        Format::Two => read_second(alloc, bytes),
     }
 }
 
@@ -183,7 +223,7 @@ pub fn read_change(alloc: Global, bytes: &[u8]) -> Result<Change, SchemaError>
     // Where a token or field can't stand, that line comes.
     ensures only_field { (line : ℕ) → IsBadLine (FitsChange Format.Two) (change_fields Format.Two) bytes.now line → IsRefusal line result }
 {
-    read_as::<FormatTwo>(alloc, bytes)
+    read_second(alloc, bytes)
 }
 
 /// The change, each of its reasons empty, of which the bytes are a text in the first format.
@@ -203,21 +243,19 @@ pub fn read_change_1(alloc: Global, bytes: &[u8]) -> Result<Change, SchemaError>
 }
 
 // What the change is about.
-fn put_subject(fields: &mut Vec<Field>, alloc: Global, change: &Change) -> Result<(), AllocError>
-    ensures fields { OnOk result (map named_node fields.new.items ≡ map named_node fields.old.items ++ subject_fields change.now) }
+fn put_subject(out: &mut Vec<u8>, change: &Change) -> Result<(), AllocError>
+    ensures put { OnOk result (ArePut lines out.old.items out.new.items (subject_fields change.now)) }
     ensures fits { OnOk result (IsChangeNo change.now.number) }
 {
-    put_both(
-        fields,
-        alloc,
+    put_lines(
+        out,
         b"number",
         &change.number,
         b"brief_description",
         &change.attributes.brief,
     )?;
-    put_both(
-        fields,
-        alloc,
+    put_lines(
+        out,
         b"description",
         &change.attributes.description,
         b"cause",
@@ -227,24 +265,18 @@ fn put_subject(fields: &mut Vec<Field>, alloc: Global, change: &Change) -> Resul
 }
 
 // Which tests it needn't pass.
-fn put_exemptions(
-    fields: &mut Vec<Field>,
-    alloc: Global,
-    settings: &ChangeAttributes,
-) -> Result<(), AllocError>
-    ensures { OnOk result (map named_node fields.new.items ≡ map named_node fields.old.items ++ exemption_fields settings.now) }
+fn put_exemptions(out: &mut Vec<u8>, settings: &ChangeAttributes) -> Result<(), AllocError>
+    ensures { OnOk result (ArePut lines out.old.items out.new.items (exemption_fields settings.now)) }
 {
-    put_both(
-        fields,
-        alloc,
+    put_lines(
+        out,
         b"test_exempt",
         &settings.test_exempt,
         b"test_baseline_exempt",
         &settings.test_baseline_exempt,
     )?;
-    put_field(
-        fields,
-        alloc,
+    put_line(
+        out,
         b"regression_test_exempt",
         &settings.regression_test_exempt,
     )?;
@@ -252,58 +284,48 @@ fn put_exemptions(
 }
 
 // Where it stands, and who works at it.
-fn put_people(fields: &mut Vec<Field>, alloc: Global, change: &Change) -> Result<(), AllocError>
-    ensures fields { OnOk result (map named_node fields.new.items ≡ map named_node fields.old.items ++ people_fields change.now) }
+fn put_people(out: &mut Vec<u8>, change: &Change) -> Result<(), AllocError>
+    ensures put { OnOk result (ArePut lines out.old.items out.new.items (people_fields change.now)) }
     ensures fits { OnOk result (HoldsPeople change.now) }
 {
-    put_both(
-        fields,
-        alloc,
+    put_lines(
+        out,
         b"phase",
         &change.phase,
         b"developer",
         &change.developer,
     )?;
-    put_both(
-        fields,
-        alloc,
+    put_lines(
+        out,
         b"reviewing",
         &change.reviewing,
         b"reviewer",
         &change.reviewer,
     )?;
-    put_field(fields, alloc, b"integrator", &change.integrator)?;
+    put_line(out, b"integrator", &change.integrator)?;
     Ok(())
 }
 
 // Its files, its runs and its history.
-fn put_rows(fields: &mut Vec<Field>, alloc: Global, change: &Change) -> Result<(), AllocError>
-    ensures fields { OnOk result (map named_node fields.new.items ≡ map named_node fields.old.items ++ row_fields Format.Two change.now) }
+fn put_rows(out: &mut Vec<u8>, change: &Change) -> Result<(), AllocError>
+    ensures put { OnOk result (ArePut lines out.old.items out.new.items (row_fields Format.Two change.now)) }
     ensures fits { OnOk result (HoldsRows Format.Two change.now) }
 {
-    put_both(
-        fields,
-        alloc,
-        b"files",
-        &change.files,
-        b"evidence",
-        &change.evidence,
-    )?;
-    put_field(fields, alloc, b"history", &change.history)?;
+    put_lines(out, b"files", &change.files, b"evidence", &change.evidence)?;
+    put_line(out, b"history", &change.history)?;
     Ok(())
 }
 
-// The fields of the change's file.
-fn fields_of(alloc: Global, change: &Change) -> Result<Vec<Field>, AllocError>
-    ensures fields { IfOk result (λ fields. map named_node fields.items ≡ change_fields Format.Two change.now) }
+// The lines of the change's file.
+fn put_change(out: &mut Vec<u8>, change: &Change) -> Result<(), AllocError>
+    ensures put { OnOk result (ArePut lines out.old.items out.new.items (change_fields Format.Two change.now)) }
     ensures fits { OnOk result (HoldsChange Format.Two change.now) }
 {
-    let mut fields = Vec::new(alloc);
-    put_subject(&mut fields, alloc, change)?;
-    put_exemptions(&mut fields, alloc, &change.attributes)?;
-    put_people(&mut fields, alloc, change)?;
-    put_rows(&mut fields, alloc, change)?;
-    Ok(fields)
+    put_subject(out, change)?;
+    put_exemptions(out, &change.attributes)?;
+    put_people(out, change)?;
+    put_rows(out, change)?;
+    Ok(())
 }
 
 /// The text of a change's file in the second format.
@@ -315,6 +337,7 @@ pub fn print_change(alloc: Global, change: &Change) -> Result<Vec<u8>, AllocErro
     // What is printed keeps what its types can hold.
     ensures fits { OnOk result (HoldsChange Format.Two change.now) }
 {
-    let fields = fields_of(alloc, change)?;
-    print_tree(alloc, &structure_of(fields))
+    let mut out = Vec::new(alloc);
+    put_change(&mut out, change)?;
+    Ok(out)
 }

@@ -4,6 +4,7 @@ ghost use Rattle.ae_text.specs.Tree.{Node};
 ghost use Rattle.ae_text.specs.View.{fields_seen, named_node};
 ghost use Rattle.ae_schema.specs.Records.{named, BadAt, BadFirst, IsWithin, stop_behind};
 
+use crate::canonical::Cursor;
 use crate::value::Decode;
 use ae_text::Field;
 use std::alloc::{AllocError, Global};
@@ -35,6 +36,15 @@ pub(crate) trait Fields: Drop {
         ensures only { (x : Self) → Fits x → named (map (λ s. s.now) names.now) (values x) ≡ fields_seen fields.now → IfOk result (λ y. y ≡ x) }
         ensures bad { IfErr result (BadAt Fits (λ x. named (map (λ s. s.now) names.now) (values x)) (fields_seen fields.now)) };
 
+    /// Passes over the fields of these names in canonical form, each ended by these bytes. As `Decode::guess` it promises
+    /// nothing.
+    fn guess(
+        alloc: Global,
+        names: &[&[u8]],
+        end: &[u8],
+        text: &mut Cursor,
+    ) -> Result<Option<Self>, AllocError>;
+
     ghost some_values: { (x : Self) × Fits x };
 }
 
@@ -65,6 +75,15 @@ impl Fields for End {
         }
     }
 
+    fn guess(
+        _alloc: Global,
+        _names: &[&[u8]],
+        _end: &[u8],
+        _text: &mut Cursor,
+    ) -> Result<Option<End>, AllocError> {
+        Ok(Some(End))
+    }
+
     ghost some_values = { (record {}, tt) };
 }
 
@@ -82,6 +101,22 @@ fn read_first<A: Decode>(alloc: Global, name: &[u8], field: &Field) -> Result<A,
         Ok(Some(x)) => Ok(x),
         Ok(None) => Err(Stop::Bad(0)),
         Err(_) => Err(Stop::Memory),
+    }
+}
+
+// Passes over a field of this name, ended by these bytes.
+fn guess_first<A: Decode>(
+    alloc: Global,
+    name: &[u8],
+    end: &[u8],
+    text: &mut Cursor,
+) -> Result<Option<A>, AllocError> {
+    if !text.skip(name) || !text.skip(b" = ") {
+        return Ok(None);
+    }
+    match A::guess(alloc, text)? {
+        Some(value) if text.skip(end) => Ok(Some(value)),
+        _ => Ok(None),
     }
 }
 
@@ -120,6 +155,24 @@ impl<A: Decode, B: Fields> Fields for Then<A, B> {
         match B::read(alloc, names, fields) {
             Ok(rest) => Ok(Then { first, rest }),
             Err(stop) => Err(behind(stop, fields)),
+        }
+    }
+
+    fn guess(
+        alloc: Global,
+        names: &[&[u8]],
+        end: &[u8],
+        text: &mut Cursor,
+    ) -> Result<Option<Then<A, B>>, AllocError> {
+        let [name, names @ ..] = names else {
+            return Ok(None);
+        };
+        let Some(first) = guess_first::<A>(alloc, name, end, text)? else {
+            return Ok(None);
+        };
+        match B::guess(alloc, names, end, text)? {
+            Some(rest) => Ok(Some(Then { first, rest })),
+            None => Ok(None),
         }
     }
 

@@ -5,6 +5,7 @@ ghost use Rattle.ae_text.specs.View.{fields_seen, named_node, node};
 ghost use Rattle.ae_schema.specs.Formats.{format_number, format_field, HasNoFormat, IsOfFormat};
 ghost use Rattle.ae_schema.specs.Records.{IsAnswer, IsRefusal, Named};
 
+use crate::project::read_printed;
 use crate::record::{fields_of, line_at, read_text};
 use crate::{Format, SchemaError};
 use ae_text::{Field, Tree};
@@ -44,6 +45,23 @@ fn format_of(fields: &[Field]) -> Option<Format>
     }
 }
 
+// The number of the format that any text tells.
+fn read_any_text(alloc: Global, bytes: &[u8]) -> Result<u64, SchemaError>
+    ensures found { IfOk result (λ number. (format : Format) × (number ≡ format_number format) × IsOfFormat format bytes.now) }
+    ensures only { (format : Format) → IsOfFormat format bytes.now → IsAnswer (format_number format) result }
+    ensures field { (line : ℕ) → result ≡ Err (SchemaError.Field line) → HasNoFormat bytes.now line }
+    ensures only_field { (line : ℕ) → HasNoFormat bytes.now line → IsRefusal line result }
+{
+    let parsed = match read_text(alloc, bytes) {
+        Ok(parsed) => parsed,
+        Err(error) => return Err(error),
+    };
+    match format_of(fields_of(&parsed)) {
+        Some(format) => Ok(format.number()),
+        None => Err(SchemaError::Field(line_at(bytes, parsed.lines.lines(), 0))),
+    }
+}
+
 /// The number of the format of which the bytes, a text of `project`, say that they are: 1 or 2.
 pub fn read_format(alloc: Global, bytes: &[u8]) -> Result<u64, SchemaError>
     // The bytes are a text whose first field tells the format of this number.
@@ -55,12 +73,9 @@ pub fn read_format(alloc: Global, bytes: &[u8]) -> Result<u64, SchemaError>
     // Where there is such a line, it comes.
     ensures only_field { (line : ℕ) → HasNoFormat bytes.now line → IsRefusal line result }
 {
-    let parsed = match read_text(alloc, bytes) {
-        Ok(parsed) => parsed,
-        Err(error) => return Err(error),
-    };
-    match format_of(fields_of(&parsed)) {
-        Some(format) => Ok(format.number()),
-        None => Err(SchemaError::Field(line_at(bytes, parsed.lines.lines(), 0))),
+    match read_printed(alloc, bytes) {
+        Ok(Some(_)) => Ok(Format::Two.number()),
+        Ok(None) => read_any_text(alloc, bytes),
+        Err(_) => Err(SchemaError::Memory),
     }
 }

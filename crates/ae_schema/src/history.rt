@@ -4,20 +4,44 @@ ghost use Rattle.ae_text.specs.View.{node};
 ghost use Rattle.ae_types.specs.declared.change.HistoryRow.{HistoryRow};
 ghost use Rattle.ae_schema.specs.Fits.{FitsHistory};
 ghost use Rattle.ae_schema.specs.Spelled.{history_row};
+ghost use Rattle.ae_schema.specs.Shapes.{history_from};
 
 use crate::Format;
+use crate::canonical::Cursor;
 use crate::fields::{End, Then};
 use crate::format::FormatType;
+use crate::lists::guess_rows;
 use crate::parts::list_in;
-use crate::structure::{read_structure, structure_of};
-use crate::value::{Decode, Encode, put_both};
+use crate::structure::{guess_structure, read_structure};
+use crate::value::{Decode, Encode, Row, put_both, put_structure};
 use ae_base::{Text, User, What};
 use ae_text::Tree;
 use ae_types::{HistoryList, HistoryRow};
 use std::alloc::{AllocError, Global};
 use std::marker::{Model, PhantomData};
 
+// The names of its fields in the second format.
+const HISTORY_NAMES: [&[u8]; 4] = [b"what", b"who", b"when", b"why"];
+
 type HistoryFields = Then<What, Then<User, Then<u64, Then<Text, End>>>>;
+
+fn history_of(fields: HistoryFields) -> HistoryRow
+    ensures { result ≡ history_from fields }
+{
+    let Then { first: what, rest } = fields;
+    let Then { first: who, rest } = rest;
+    let Then { first: when, rest } = rest;
+    let Then {
+        first: why,
+        rest: End,
+    } = rest;
+    HistoryRow {
+        what,
+        who,
+        when,
+        why,
+    }
+}
 
 // As rows are written, in the second format.
 impl Decode for HistoryRow {
@@ -31,23 +55,15 @@ impl Decode for HistoryRow {
     ghost Fits = { FitsHistory Two };
 
     fn of_tree(alloc: Global, tree: &Tree) -> Result<Option<HistoryRow>, AllocError> {
-        let names: &[&[u8]] = &[b"what", b"who", b"when", b"why"];
-        match read_structure::<HistoryFields>(alloc, names, tree)? {
-            Some(fields) => {
-                let Then { first: what, rest } = fields;
-                let Then { first: who, rest } = rest;
-                let Then { first: when, rest } = rest;
-                let Then {
-                    first: why,
-                    rest: End,
-                } = rest;
-                Ok(Some(HistoryRow {
-                    what,
-                    who,
-                    when,
-                    why,
-                }))
-            }
+        match read_structure::<HistoryFields>(alloc, &HISTORY_NAMES, tree)? {
+            Some(fields) => Ok(Some(history_of(fields))),
+            None => Ok(None),
+        }
+    }
+
+    fn guess(alloc: Global, text: &mut Cursor) -> Result<Option<HistoryRow>, AllocError> {
+        match guess_structure::<HistoryFields>(alloc, &HISTORY_NAMES, text)? {
+            Some(fields) => Ok(Some(history_of(fields))),
             None => Ok(None),
         }
     }
@@ -56,11 +72,16 @@ impl Decode for HistoryRow {
 }
 
 impl Encode for HistoryRow {
-    fn to_tree(&self, alloc: Global) -> Result<Tree, AllocError> {
-        let mut fields = Vec::new(alloc);
-        put_both(&mut fields, alloc, b"what", &self.what, b"who", &self.who)?;
-        put_both(&mut fields, alloc, b"when", &self.when, b"why", &self.why)?;
-        Ok(structure_of(fields))
+    fn put(&self, out: &mut Vec<u8>) -> Result<(), AllocError> {
+        put_structure(out, self)
+    }
+}
+
+impl Row for HistoryRow {
+    fn put_fields(&self, out: &mut Vec<u8>) -> Result<(), AllocError> {
+        put_both(out, b"what", &self.what, b"who", &self.who)?;
+        put_both(out, b"when", &self.when, b"why", &self.why)?;
+        Ok(())
     }
 }
 
@@ -163,6 +184,20 @@ impl<F: FormatType> Decode for History<F> {
             return Ok(None);
         };
         match rows_in(alloc, F::value(), trees)? {
+            Some(rows) => Ok(Some(History {
+                rows: HistoryList::of(rows),
+                of: PhantomData,
+            })),
+            None => Ok(None),
+        }
+    }
+
+    // What is printed is of the second format alone.
+    fn guess(alloc: Global, text: &mut Cursor) -> Result<Option<History<F>>, AllocError> {
+        if let Format::One = F::value() {
+            return Ok(None);
+        }
+        match guess_rows::<HistoryRow>(alloc, text)? {
             Some(rows) => Ok(Some(History {
                 rows: HistoryList::of(rows),
                 of: PhantomData,

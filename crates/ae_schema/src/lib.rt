@@ -2,6 +2,7 @@
 #![tactic(auto)]
 
 mod ascending;
+mod canonical;
 mod change;
 mod change_rows;
 mod error;

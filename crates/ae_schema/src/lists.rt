@@ -1,12 +1,16 @@
 // How lists of rows are spelled, and the users of a role.
 ghost use Rattle.std.specs.Prelude.{◌≡◌, ◌++◌, ◌∷◌, [], List, IfOk, IfSome, IsSomeAnd, OnOk, All, map};
-ghost use Rattle.ae_text.specs.View.{node, named_node};
+ghost use Rattle.ae_text.specs.View.{node, items_of};
+ghost use Rattle.ae_text.specs.Canonical.{value_text, items_text};
+ghost use Rattle.ae_text.specs.Printing.{FitsTypes, ItemsFitTypes};
 ghost use Rattle.ae_schema.specs.Spelled.{list_of};
+ghost use Rattle.ae_schema.specs.Put.{ArePut, lines};
 
+use crate::canonical::Cursor;
 use crate::parts::list_in;
 use crate::value::{Decode, Encode};
 use ae_base::{User, UserList};
-use ae_text::{Field, Tree, TreeList};
+use ae_text::Tree;
 use ae_types::{Rows, UserSet};
 use std::alloc::{AllocError, Global};
 
@@ -25,41 +29,72 @@ fn read_rows<T: Decode>(alloc: Global, trees: &[Tree]) -> Result<Option<Vec<T>>,
     Ok(Some(rows))
 }
 
-// The trees of the rows.
-fn row_trees<T: Encode>(alloc: Global, rows: &[T]) -> Result<Vec<Tree>, AllocError>
-    ensures trees { IfOk result (λ trees. map node trees.items ≡ map T.spelled rows.now) }
-    ensures fits { OnOk result (All T.Fits rows.now) }
-{
-    let mut trees = Vec::new(alloc);
-    for row in rows {
-        trees.push(row.to_tree(alloc)?)?;
-    }
-    Ok(trees)
-}
-
-// The field of this name and list.
-fn list_field<T: Encode>(alloc: Global, name: &[u8], rows: &[T]) -> Result<Field, AllocError>
-    ensures field { IfOk result (λ field. named_node field ≡ (name.now, list_of T.spelled rows.now)) }
-    ensures fits { OnOk result (All T.Fits rows.now) }
-{
-    Field::of(
-        alloc,
-        name,
-        Tree::List(TreeList::of(row_trees(alloc, rows)?)),
-    )
-}
-
-/// Puts the field of this name and list after those that stand there.
-pub(crate) fn put_list<T: Encode>(
-    fields: &mut Vec<Field>,
+/// Passes over a list of rows in canonical form.
+pub(crate) fn guess_rows<T: Decode>(
     alloc: Global,
+    text: &mut Cursor,
+) -> Result<Option<Vec<T>>, AllocError> {
+    let mut rows = Vec::new(alloc);
+    if text.skip(b"[]") {
+        return Ok(Some(rows));
+    }
+    let mut before: &[u8] = b"[";
+    for _ in 0..text.len() {
+        if !text.skip(before) {
+            return Ok(None);
+        }
+        match T::guess(alloc, text)? {
+            Some(row) => rows.push(row)?,
+            None => return Ok(None),
+        }
+        if text.skip(b"]") {
+            return Ok(Some(rows));
+        }
+        before = b", ";
+    }
+    Ok(None)
+}
+
+// Puts the rows, each but the first after `, `.
+fn put_rows<T: Encode>(out: &mut Vec<u8>, rows: &[T]) -> Result<(), AllocError>
+    ensures text { OnOk result (out.new.items ≡ out.old.items ++ items_text [] (items_of (map T.spelled rows.now))) }
+    ensures types { OnOk result (ItemsFitTypes (items_of (map T.spelled rows.now))) }
+    ensures fits { OnOk result (All T.Fits rows.now) }
+{
+    let mut before: &[u8] = b"";
+    for row in rows {
+        out.extend_from_slice(before)?;
+        row.put(out)?;
+        before = b", ";
+    }
+    Ok(())
+}
+
+/// Puts the list of the rows after what stands there.
+pub(crate) fn put_list<T: Encode>(out: &mut Vec<u8>, rows: &[T]) -> Result<(), AllocError>
+    ensures text { OnOk result (out.new.items ≡ out.old.items ++ value_text (list_of T.spelled rows.now)) }
+    ensures types { OnOk result (FitsTypes (list_of T.spelled rows.now)) }
+    ensures fits { OnOk result (All T.Fits rows.now) }
+{
+    out.push(b'[')?;
+    put_rows(out, rows)?;
+    out.push(b']')?;
+    Ok(())
+}
+
+/// Puts a line of a file: the name and the list of the rows.
+pub(crate) fn put_list_line<T: Encode>(
+    out: &mut Vec<u8>,
     name: &[u8],
     rows: &[T],
 ) -> Result<(), AllocError>
-    ensures fields { OnOk result (map named_node fields.new.items ≡ map named_node fields.old.items ++ (name.now, list_of T.spelled rows.now) ∷ []) }
+    ensures put { OnOk result (ArePut lines out.old.items out.new.items ((name.now, list_of T.spelled rows.now) ∷ [])) }
     ensures fits { OnOk result (All T.Fits rows.now) }
 {
-    fields.push(list_field(alloc, name, rows)?)?;
+    out.extend_from_slice(name)?;
+    out.extend_from_slice(b" = ")?;
+    put_list(out, rows)?;
+    out.extend_from_slice(b";\n")?;
     Ok(())
 }
 
@@ -82,12 +117,19 @@ impl<T: Decode> Decode for Rows<T> {
         }
     }
 
+    fn guess(alloc: Global, text: &mut Cursor) -> Result<Option<Rows<T>>, AllocError> {
+        match guess_rows::<T>(alloc, text)? {
+            Some(rows) => Ok(Some(Rows::of(rows))),
+            None => Ok(None),
+        }
+    }
+
     ghost some_value = { ([], Prim.search rules) };
 }
 
 impl<T: Encode> Encode for Rows<T> {
-    fn to_tree(&self, alloc: Global) -> Result<Tree, AllocError> {
-        Ok(Tree::List(TreeList::of(row_trees(alloc, self.as_slice())?)))
+    fn put(&self, out: &mut Vec<u8>) -> Result<(), AllocError> {
+        put_list(out, self.as_slice())
     }
 }
 
@@ -111,11 +153,18 @@ impl Decode for UserSet {
         }
     }
 
+    fn guess(alloc: Global, text: &mut Cursor) -> Result<Option<UserSet>, AllocError> {
+        match guess_rows::<User>(alloc, text)? {
+            Some(users) => UserSet::from_users(alloc, UserList::of(users)),
+            None => Ok(None),
+        }
+    }
+
     ghost some_value = { some_users };
 }
 
 impl Encode for UserSet {
-    fn to_tree(&self, alloc: Global) -> Result<Tree, AllocError> {
-        Ok(Tree::List(TreeList::of(row_trees(alloc, self.users())?)))
+    fn put(&self, out: &mut Vec<u8>) -> Result<(), AllocError> {
+        put_list(out, self.users())
     }
 }

@@ -3,11 +3,12 @@ ghost use Rattle.std.specs.Prelude.{◌≡◌, ◌↔◌, [], IsTrue};
 ghost use Rattle.ae_text.specs.Tree.{str};
 ghost use Rattle.ae_text.specs.View.{node};
 
+use crate::canonical::Cursor;
 use crate::parts::string_in;
-use crate::value::{Decode, Encode};
+use crate::value::{Decode, Encode, guess_optional};
 use ae_base::limits::MOST_DELTAS;
 use ae_base::{ChangeNo, Delta, Path, ProjectName, User};
-use ae_text::Tree;
+use ae_text::{Tree, put_number, put_string};
 use std::alloc::{AllocError, Global};
 
 impl Decode for Path {
@@ -26,12 +27,19 @@ impl Decode for Path {
         }
     }
 
+    fn guess(alloc: Global, text: &mut Cursor) -> Result<Option<Path>, AllocError> {
+        match text.name() {
+            Some(name) => Path::read(alloc, name),
+            None => Ok(None),
+        }
+    }
+
     ghost some_value = { (codes "a", refl) };
 }
 
 impl Encode for Path {
-    fn to_tree(&self, alloc: Global) -> Result<Tree, AllocError> {
-        Tree::string(alloc, self.bytes())
+    fn put(&self, out: &mut Vec<u8>) -> Result<(), AllocError> {
+        put_string(out, self.bytes())
     }
 }
 
@@ -51,12 +59,19 @@ impl Decode for User {
         }
     }
 
+    fn guess(alloc: Global, text: &mut Cursor) -> Result<Option<User>, AllocError> {
+        match text.name() {
+            Some(name) => User::read(alloc, name),
+            None => Ok(None),
+        }
+    }
+
     ghost some_value = { (codes "a", refl) };
 }
 
 impl Encode for User {
-    fn to_tree(&self, alloc: Global) -> Result<Tree, AllocError> {
-        Tree::string(alloc, self.bytes())
+    fn put(&self, out: &mut Vec<u8>) -> Result<(), AllocError> {
+        put_string(out, self.bytes())
     }
 }
 
@@ -76,12 +91,19 @@ impl Decode for ProjectName {
         }
     }
 
+    fn guess(alloc: Global, text: &mut Cursor) -> Result<Option<ProjectName>, AllocError> {
+        match text.name() {
+            Some(name) => ProjectName::read(alloc, name),
+            None => Ok(None),
+        }
+    }
+
     ghost some_value = { (codes "a", refl) };
 }
 
 impl Encode for ProjectName {
-    fn to_tree(&self, alloc: Global) -> Result<Tree, AllocError> {
-        Tree::string(alloc, self.bytes())
+    fn put(&self, out: &mut Vec<u8>) -> Result<(), AllocError> {
+        put_string(out, self.bytes())
     }
 }
 
@@ -113,14 +135,18 @@ impl Decode for Option<Path> {
         }
     }
 
+    fn guess(alloc: Global, text: &mut Cursor) -> Result<Option<Option<Path>>, AllocError> {
+        guess_optional(alloc, b"\"\"", text)
+    }
+
     ghost some_value = { (None, tt) };
 }
 
 impl Encode for Option<Path> {
-    fn to_tree(&self, alloc: Global) -> Result<Tree, AllocError> {
+    fn put(&self, out: &mut Vec<u8>) -> Result<(), AllocError> {
         match self {
-            Some(path) => path.to_tree(alloc),
-            None => Tree::string(alloc, b""),
+            Some(path) => path.put(out),
+            None => put_string(out, b""),
         }
     }
 }
@@ -144,14 +170,18 @@ impl Decode for Option<User> {
         }
     }
 
+    fn guess(alloc: Global, text: &mut Cursor) -> Result<Option<Option<User>>, AllocError> {
+        guess_optional(alloc, b"\"\"", text)
+    }
+
     ghost some_value = { (None, tt) };
 }
 
 impl Encode for Option<User> {
-    fn to_tree(&self, alloc: Global) -> Result<Tree, AllocError> {
+    fn put(&self, out: &mut Vec<u8>) -> Result<(), AllocError> {
         match self {
-            Some(user) => user.to_tree(alloc),
-            None => Tree::string(alloc, b""),
+            Some(user) => user.put(out),
+            None => put_string(out, b""),
         }
     }
 }
@@ -172,12 +202,16 @@ impl Decode for ChangeNo {
         }
     }
 
+    fn guess(_alloc: Global, text: &mut Cursor) -> Result<Option<ChangeNo>, AllocError> {
+        Ok(ChangeNo::read(text.word()))
+    }
+
     ghost some_value = { (10, Prim.search rules) };
 }
 
 impl Encode for ChangeNo {
-    fn to_tree(&self, _alloc: Global) -> Result<Tree, AllocError> {
-        Ok(Tree::Number(u64::from(self.number())))
+    fn put(&self, out: &mut Vec<u8>) -> Result<(), AllocError> {
+        put_number(out, u64::from(self.number()))
     }
 }
 
@@ -197,11 +231,15 @@ impl Decode for Delta {
         }
     }
 
+    fn guess(_alloc: Global, text: &mut Cursor) -> Result<Option<Delta>, AllocError> {
+        Ok(Delta::read(text.word()))
+    }
+
     ghost some_value = { (0, Prim.search rules) };
 }
 
 impl Encode for Delta {
-    fn to_tree(&self, _alloc: Global) -> Result<Tree, AllocError> {
-        Ok(Tree::Number(u64::from(self.number())))
+    fn put(&self, out: &mut Vec<u8>) -> Result<(), AllocError> {
+        put_number(out, u64::from(self.number()))
     }
 }

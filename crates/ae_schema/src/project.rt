@@ -1,24 +1,26 @@
 // The file of the project: its settings, the users of its roles, its changes and its deltas.
-ghost use Rattle.std.specs.Prelude.{◌≡◌, ℕ, List, Err, IfOk, OnOk, map, ◌++◌};
+ghost use Rattle.std.specs.Prelude.{◌≡◌, ℕ, List, Err, IfOk, OnOk, IsTrue, IfSome, map, ◌++◌};
 ghost use Rattle.ae_text.specs.Canonical.{fields_text};
-ghost use Rattle.ae_text.specs.View.{members_of, named_node};
+ghost use Rattle.ae_text.specs.View.{members_of};
 ghost use Rattle.ae_types.specs.declared.project.Project.{Project};
 ghost use Rattle.ae_schema.specs.Records.{IsTextOf, IsBadLine, IsAnswer, IsRefusal};
 ghost use Rattle.ae_schema.specs.Files.{identity_fields, permission_fields, default_fields, role_fields, counted_fields, project_fields};
-ghost use Rattle.ae_schema.specs.Fits.{HoldsRoles, HoldsCounted, HoldsProject, FitsProject};
+ghost use Rattle.ae_schema.specs.Fits.{HoldsRoles, HoldsCounted, HoldsProject, ProjectAscends, FitsProject};
 ghost use Rattle.ae_base.specs.Names.{IsProjectName};
-ghost use Rattle.ae_schema.specs.Shapes.{attributes_from, project_from};
+ghost use Rattle.ae_schema.specs.Put.{ArePut, lines};
+ghost use Rattle.ae_schema.specs.Shapes.{attributes_from, project_from, delta_from};
 
 use crate::ascending::Ascending;
+use crate::canonical::Cursor;
 use crate::fields::{End, Then};
 use crate::format::{FormatOne, FormatTwo, FormatType};
-use crate::lists::put_list;
-use crate::record::read_record;
-use crate::structure::{read_structure, structure_of};
-use crate::value::{Decode, Encode, put_both, put_field};
+use crate::lists::put_list_line;
+use crate::record::{guess_record, read_record};
+use crate::structure::{guess_structure, read_structure};
+use crate::value::{Decode, Encode, Row, put_both, put_line, put_lines, put_structure};
 use crate::{Format, SchemaError};
 use ae_base::{ChangeNo, Delta, ProjectName, Text, User};
-use ae_text::{Field, Tree, print_tree};
+use ae_text::Tree;
 use ae_types::{Attributes, DeltaList, DeltaRow, EndAction, NumberList, Project, UserSet};
 use std::alloc::{AllocError, Global};
 use std::marker::{Model, PhantomData};
@@ -52,6 +54,13 @@ impl<F: FormatType> Decode for FormatNumber<F> {
         }
     }
 
+    fn guess(_alloc: Global, text: &mut Cursor) -> Result<Option<FormatNumber<F>>, AllocError> {
+        match text.number() {
+            Some(n) if n == F::value().number() => Ok(Some(FormatNumber { of: PhantomData })),
+            _ => Ok(None),
+        }
+    }
+
     ghost some_value = { (tt, tt) };
 }
 
@@ -74,16 +83,48 @@ impl Decode for Packed {
         }
     }
 
+    fn guess(_alloc: Global, text: &mut Cursor) -> Result<Option<Packed>, AllocError> {
+        if text.skip(b"packed") {
+            Ok(Some(Packed))
+        } else {
+            Ok(None)
+        }
+    }
+
     ghost some_value = { (record {}, tt) };
 }
 
 impl Encode for Packed {
-    fn to_tree(&self, alloc: Global) -> Result<Tree, AllocError> {
-        Tree::word(alloc, b"packed")
+    fn put(&self, out: &mut Vec<u8>) -> Result<(), AllocError> {
+        out.extend_from_slice(b"packed")
     }
 }
 
+// The names of its fields.
+const DELTA_NAMES: [&[u8]; 4] = [b"delta", b"change", b"when", b"who"];
+
 type DeltaRowFields = Then<Delta, Then<ChangeNo, Then<u64, Then<User, End>>>>;
+
+fn delta_of(fields: DeltaRowFields) -> DeltaRow
+    ensures { result ≡ delta_from fields }
+{
+    let Then { first: delta, rest } = fields;
+    let Then {
+        first: change,
+        rest,
+    } = rest;
+    let Then { first: when, rest } = rest;
+    let Then {
+        first: who,
+        rest: End,
+    } = rest;
+    DeltaRow {
+        delta,
+        change,
+        when,
+        who,
+    }
+}
 
 impl Decode for DeltaRow {
     ghost use Rattle.ae_schema.specs.Spelled.{delta_row};
@@ -95,26 +136,15 @@ impl Decode for DeltaRow {
     ghost Fits = { FitsDelta };
 
     fn of_tree(alloc: Global, tree: &Tree) -> Result<Option<DeltaRow>, AllocError> {
-        let names: &[&[u8]] = &[b"delta", b"change", b"when", b"who"];
-        match read_structure::<DeltaRowFields>(alloc, names, tree)? {
-            Some(fields) => {
-                let Then { first: delta, rest } = fields;
-                let Then {
-                    first: change,
-                    rest,
-                } = rest;
-                let Then { first: when, rest } = rest;
-                let Then {
-                    first: who,
-                    rest: End,
-                } = rest;
-                Ok(Some(DeltaRow {
-                    delta,
-                    change,
-                    when,
-                    who,
-                }))
-            }
+        match read_structure::<DeltaRowFields>(alloc, &DELTA_NAMES, tree)? {
+            Some(fields) => Ok(Some(delta_of(fields))),
+            None => Ok(None),
+        }
+    }
+
+    fn guess(alloc: Global, text: &mut Cursor) -> Result<Option<DeltaRow>, AllocError> {
+        match guess_structure::<DeltaRowFields>(alloc, &DELTA_NAMES, text)? {
+            Some(fields) => Ok(Some(delta_of(fields))),
             None => Ok(None),
         }
     }
@@ -123,18 +153,16 @@ impl Decode for DeltaRow {
 }
 
 impl Encode for DeltaRow {
-    fn to_tree(&self, alloc: Global) -> Result<Tree, AllocError> {
-        let mut fields = Vec::new(alloc);
-        put_both(
-            &mut fields,
-            alloc,
-            b"delta",
-            &self.delta,
-            b"change",
-            &self.change,
-        )?;
-        put_both(&mut fields, alloc, b"when", &self.when, b"who", &self.who)?;
-        Ok(structure_of(fields))
+    fn put(&self, out: &mut Vec<u8>) -> Result<(), AllocError> {
+        put_structure(out, self)
+    }
+}
+
+impl Row for DeltaRow {
+    fn put_fields(&self, out: &mut Vec<u8>) -> Result<(), AllocError> {
+        put_both(out, b"delta", &self.delta, b"change", &self.change)?;
+        put_both(out, b"when", &self.when, b"who", &self.who)?;
+        Ok(())
     }
 }
 
@@ -193,7 +221,8 @@ fn attributes_of(description: Text, fields: PermissionFields) -> (Attributes, Ro
 }
 
 fn project_of<F: FormatType>(fields: ProjectFields<F>) -> (Project, NumberList)
-    ensures { result ≡ project_from fields }
+    ensures value { result ≡ project_from fields }
+    ensures ascend { ProjectAscends result }
 {
     let Then { first: _, rest } = fields;
     let Then { first: _, rest } = rest;
@@ -279,6 +308,54 @@ fn read_as<F: FormatType>(alloc: Global, bytes: &[u8]) -> Result<(Project, Numbe
     }
 }
 
+// Whether the bytes are what is printed of this project and the numbers of its changes.
+fn are_printed(
+    alloc: Global,
+    project: &Project,
+    numbers: &[ChangeNo],
+    bytes: &[u8],
+) -> Result<bool, AllocError>
+    ensures text { IfOk result (λ same. IsTrue same → IsTextOf bytes.now (project_fields Format.Two (project.now, numbers.now))) }
+    ensures fits { IfOk result (λ same. HoldsProject (project.now, numbers.now)) }
+{
+    let text = print_project(alloc, project, numbers)?;
+    Ok(text.as_slice() == bytes)
+}
+
+/// The project and the numbers of its changes that are printed as these bytes.
+pub(crate) fn read_printed(
+    alloc: Global,
+    bytes: &[u8],
+) -> Result<Option<(Project, NumberList)>, AllocError>
+    ensures found { IfOk result (λ read. IfSome read (λ p. IsTextOf bytes.now (project_fields Format.Two p))) }
+    ensures fits { IfOk result (λ read. IfSome read FitsProject) }
+{
+    let Some(fields) = guess_record::<ProjectFields<FormatTwo>>(alloc, &FIELD_NAMES, bytes)? else {
+        return Ok(None);
+    };
+    let (project, numbers) = project_of(fields);
+    if are_printed(alloc, &project, numbers.as_slice(), bytes)? {
+        Ok(Some((project, numbers)))
+    } else {
+        Ok(None)
+    }
+}
+
+// The project and the numbers of its changes, of which the bytes are a text in the second format.
+fn read_second(alloc: Global, bytes: &[u8]) -> Result<(Project, NumberList), SchemaError>
+    ensures found { IfOk result (λ p. IsTextOf bytes.now (project_fields Format.Two p)) }
+    ensures fits { IfOk result FitsProject }
+    ensures only { (p : Project × List ℕ) → FitsProject p → IsTextOf bytes.now (project_fields Format.Two p) → IsAnswer p result }
+    ensures field { (line : ℕ) → result ≡ Err (SchemaError.Field line) → IsBadLine FitsProject (project_fields Format.Two) bytes.now line }
+    ensures only_field { (line : ℕ) → IsBadLine FitsProject (project_fields Format.Two) bytes.now line → IsRefusal line result }
+{
+    match read_printed(alloc, bytes) {
+        Ok(Some(project)) => Ok(project),
+        Ok(None) => read_as::<FormatTwo>(alloc, bytes),
+        Err(_) => Err(SchemaError::Memory),
+    }
+}
+
 /// The project and the numbers of its changes, of which the bytes are a text in this format.
 pub fn read_project_in(
     alloc: Global,
@@ -298,7 +375,7 @@ pub fn read_project_in(
 {
     match format {
         Format::One => read_as::<FormatOne>(alloc, bytes),
-        Format::Two => read_as::<FormatTwo>(alloc, bytes),
+        Format::Two => read_second(alloc, bytes),
     }
 }
 
@@ -315,7 +392,7 @@ pub fn read_project(alloc: Global, bytes: &[u8]) -> Result<(Project, NumberList)
     // Where a token or field can't stand, that line comes.
     ensures only_field { (line : ℕ) → IsBadLine FitsProject (project_fields Format.Two) bytes.now line → IsRefusal line result }
 {
-    read_as::<FormatTwo>(alloc, bytes)
+    read_second(alloc, bytes)
 }
 
 /// The project and the numbers of its changes, of which the bytes are a text in the first format.
@@ -335,15 +412,14 @@ pub fn read_project_1(alloc: Global, bytes: &[u8]) -> Result<(Project, NumberLis
 }
 
 // Which format it is, and which project.
-fn put_identity(fields: &mut Vec<Field>, alloc: Global, project: &Project) -> Result<(), AllocError>
-    ensures fields { OnOk result (map named_node fields.new.items ≡ map named_node fields.old.items ++ identity_fields Format.Two project.now) }
+fn put_identity(out: &mut Vec<u8>, project: &Project) -> Result<(), AllocError>
+    ensures put { OnOk result (ArePut lines out.old.items out.new.items (identity_fields Format.Two project.now)) }
     ensures fits { OnOk result (IsProjectName project.now.name) }
 {
     let number = Format::Two.number();
-    put_both(fields, alloc, b"format", &number, b"store", &Packed)?;
-    put_both(
-        fields,
-        alloc,
+    put_lines(out, b"format", &number, b"store", &Packed)?;
+    put_lines(
+        out,
         b"name",
         &project.name,
         b"description",
@@ -353,24 +429,18 @@ fn put_identity(fields: &mut Vec<Field>, alloc: Global, project: &Project) -> Re
 }
 
 // Who may do what.
-fn put_permissions(
-    fields: &mut Vec<Field>,
-    alloc: Global,
-    settings: &Attributes,
-) -> Result<(), AllocError>
-    ensures { OnOk result (map named_node fields.new.items ≡ map named_node fields.old.items ++ permission_fields settings.now) }
+fn put_permissions(out: &mut Vec<u8>, settings: &Attributes) -> Result<(), AllocError>
+    ensures { OnOk result (ArePut lines out.old.items out.new.items (permission_fields settings.now)) }
 {
-    put_both(
-        fields,
-        alloc,
+    put_lines(
+        out,
         b"developer_may_review",
         &settings.developer_may_review,
         b"developer_may_integrate",
         &settings.developer_may_integrate,
     )?;
-    put_both(
-        fields,
-        alloc,
+    put_lines(
+        out,
         b"reviewer_may_integrate",
         &settings.reviewer_may_integrate,
         b"developers_may_create_changes",
@@ -380,16 +450,11 @@ fn put_permissions(
 }
 
 // How development ends, and what a new change begins with.
-fn put_defaults(
-    fields: &mut Vec<Field>,
-    alloc: Global,
-    settings: &Attributes,
-) -> Result<(), AllocError>
-    ensures { OnOk result (map named_node fields.new.items ≡ map named_node fields.old.items ++ default_fields settings.now) }
+fn put_defaults(out: &mut Vec<u8>, settings: &Attributes) -> Result<(), AllocError>
+    ensures { OnOk result (ArePut lines out.old.items out.new.items (default_fields settings.now)) }
 {
-    put_both(
-        fields,
-        alloc,
+    put_lines(
+        out,
         b"develop_end_action",
         &settings.develop_end_action,
         b"default_test_exemption",
@@ -398,21 +463,19 @@ fn put_defaults(
 }
 
 // The users of each role.
-fn put_roles(fields: &mut Vec<Field>, alloc: Global, project: &Project) -> Result<(), AllocError>
-    ensures fields { OnOk result (map named_node fields.new.items ≡ map named_node fields.old.items ++ role_fields project.now) }
+fn put_roles(out: &mut Vec<u8>, project: &Project) -> Result<(), AllocError>
+    ensures put { OnOk result (ArePut lines out.old.items out.new.items (role_fields project.now)) }
     ensures fits { OnOk result (HoldsRoles project.now) }
 {
-    put_both(
-        fields,
-        alloc,
+    put_lines(
+        out,
         b"administrators",
         &project.administrators,
         b"developers",
         &project.developers,
     )?;
-    put_both(
-        fields,
-        alloc,
+    put_lines(
+        out,
         b"reviewers",
         &project.reviewers,
         b"integrators",
@@ -422,37 +485,27 @@ fn put_roles(fields: &mut Vec<Field>, alloc: Global, project: &Project) -> Resul
 }
 
 // The number of the next version, and the changes and deltas.
-fn put_counted(
-    fields: &mut Vec<Field>,
-    alloc: Global,
-    project: &Project,
-    numbers: &[ChangeNo],
-) -> Result<(), AllocError>
-    ensures fields { OnOk result (map named_node fields.new.items ≡ map named_node fields.old.items ++ counted_fields project.now numbers.now) }
+fn put_counted(out: &mut Vec<u8>, project: &Project, numbers: &[ChangeNo]) -> Result<(), AllocError>
+    ensures put { OnOk result (ArePut lines out.old.items out.new.items (counted_fields project.now numbers.now)) }
     ensures fits { OnOk result (HoldsCounted project.now numbers.now) }
 {
-    put_field(fields, alloc, b"next_version", &project.next_version)?;
-    put_list(fields, alloc, b"changes", numbers)?;
-    put_field(fields, alloc, b"deltas", &project.deltas)?;
+    put_line(out, b"next_version", &project.next_version)?;
+    put_list_line(out, b"changes", numbers)?;
+    put_line(out, b"deltas", &project.deltas)?;
     Ok(())
 }
 
-// The fields of the project's file.
-fn fields_of(
-    alloc: Global,
-    project: &Project,
-    numbers: &[ChangeNo],
-) -> Result<Vec<Field>, AllocError>
-    ensures fields { IfOk result (λ fields. map named_node fields.items ≡ project_fields Format.Two (project.now, numbers.now)) }
+// The lines of the project's file.
+fn put_project(out: &mut Vec<u8>, project: &Project, numbers: &[ChangeNo]) -> Result<(), AllocError>
+    ensures put { OnOk result (ArePut lines out.old.items out.new.items (project_fields Format.Two (project.now, numbers.now))) }
     ensures fits { OnOk result (HoldsProject (project.now, numbers.now)) }
 {
-    let mut fields = Vec::new(alloc);
-    put_identity(&mut fields, alloc, project)?;
-    put_permissions(&mut fields, alloc, &project.attributes)?;
-    put_defaults(&mut fields, alloc, &project.attributes)?;
-    put_roles(&mut fields, alloc, project)?;
-    put_counted(&mut fields, alloc, project, numbers)?;
-    Ok(fields)
+    put_identity(out, project)?;
+    put_permissions(out, &project.attributes)?;
+    put_defaults(out, &project.attributes)?;
+    put_roles(out, project)?;
+    put_counted(out, project, numbers)?;
+    Ok(())
 }
 
 /// The text of `project` in the second format, of a project and the numbers of its changes.
@@ -468,6 +521,7 @@ pub fn print_project(
     // What is printed keeps what its types can hold.
     ensures fits { OnOk result (HoldsProject (project.now, numbers.now)) }
 {
-    let fields = fields_of(alloc, project, numbers)?;
-    print_tree(alloc, &structure_of(fields))
+    let mut out = Vec::new(alloc);
+    put_project(&mut out, project, numbers)?;
+    Ok(out)
 }

@@ -6,10 +6,11 @@ ghost use Rattle.ae_text.specs.Wrong.{IsError};
 ghost use Rattle.ae_text.specs.View.{node, fields_seen};
 
 use crate::SchemaError;
+use crate::canonical::Cursor;
 use crate::fields::{Fields, Stop};
 use crate::parts::fields_in;
 use ae_text::{Field, LineList, Parsed, TextError, read_tree};
-use std::alloc::Global;
+use std::alloc::{AllocError, Global};
 
 fn line_behind(ends: usize) -> u32
     ensures { result ≡ line_after ends }
@@ -116,4 +117,14 @@ pub(crate) fn read_record<R: Fields>(
         Ok(parsed) => record_of::<R>(alloc, names, bytes, &parsed),
         Err(error) => Err(error),
     }
+}
+
+/// The values of a text in canonical form whose fields have these names: a guess, of which nothing is promised.
+pub(crate) fn guess_record<R: Fields>(
+    alloc: Global,
+    names: &[&[u8]],
+    bytes: &[u8],
+) -> Result<Option<R>, AllocError> {
+    let mut text = Cursor::new(bytes);
+    R::guess(alloc, names, b";\n", &mut text)
 }

@@ -1,11 +1,12 @@
 // Structures: values that are records themselves.
 ghost use Rattle.std.specs.Prelude.{◌≡◌, length, map, Some, IfOk, IfSome};
-ghost use Rattle.ae_text.specs.View.{node, named_node};
+ghost use Rattle.ae_text.specs.View.{node};
 ghost use Rattle.ae_schema.specs.Records.{named, structure};
 
+use crate::canonical::Cursor;
 use crate::fields::{Fields, Stop};
 use crate::parts::fields_in;
-use ae_text::{Field, FieldList, Tree};
+use ae_text::Tree;
 use std::alloc::{AllocError, Global};
 
 /// The values of a structure whose fields have just these names.
@@ -28,9 +29,17 @@ pub(crate) fn read_structure<R: Fields>(
     }
 }
 
-/// The structure of these fields.
-pub(crate) fn structure_of(fields: Vec<Field>) -> Tree
-    ensures { node result ≡ structure (map named_node fields.items) }
-{
-    Tree::Fields(FieldList::of(fields))
+/// Passes over a structure in canonical form whose fields have these names.
+pub(crate) fn guess_structure<R: Fields>(
+    alloc: Global,
+    names: &[&[u8]],
+    text: &mut Cursor,
+) -> Result<Option<R>, AllocError> {
+    if !text.skip(b"{ ") {
+        return Ok(None);
+    }
+    match R::guess(alloc, names, b"; ", text)? {
+        Some(fields) if text.skip(b"}") => Ok(Some(fields)),
+        _ => Ok(None),
+    }
 }

@@ -1,11 +1,16 @@
 // What is spelled as one value of a text: texts, flags and numbers.
-ghost use Rattle.std.specs.Prelude.{◌≡◌, ◌++◌, ◌∷◌, [], Bool, IfOk, IfSome, OnOk, Some, map};
+ghost use Rattle.std.specs.Prelude.{◌≡◌, ◌++◌, ◌∷◌, [], Bool, IfOk, IfSome, OnOk, Some};
 ghost use Rattle.ae_text.specs.Tree.{Node, word};
-ghost use Rattle.ae_text.specs.View.{node, named_node};
+ghost use Rattle.ae_text.specs.View.{node};
+ghost use Rattle.ae_text.specs.Canonical.{value_text, field_text};
+ghost use Rattle.ae_text.specs.Printing.{FitsTypes};
+ghost use Rattle.ae_schema.specs.Records.{structure};
 ghost use Rattle.ae_schema.specs.Spelled.{flag};
+ghost use Rattle.ae_schema.specs.Put.{ArePut, spaced, lines, inside};
 
+use crate::canonical::Cursor;
 use ae_base::Text;
-use ae_text::{Field, Tree};
+use ae_text::{Tree, put_number, put_string};
 use std::alloc::{AllocError, Global};
 
 /// A type whose values are read from the trees that spell them.
@@ -21,55 +26,131 @@ pub(crate) trait Decode: Drop {
         ensures some { IfOk result (λ read. IfSome read (λ x. Fits x × (spelled x ≡ node tree.now))) }
         ensures only { (x : Self) → Fits x → spelled x ≡ node tree.now → IfOk result (λ read. read ≡ Some x) };
 
+    /// Passes over what spells a value in canonical form. What it gives is a guess, of which nothing is promised: it is
+    /// taken only where a text that comes of it in print is the one that was read.
+    fn guess(alloc: Global, text: &mut Cursor) -> Result<Option<Self>, AllocError>;
+
     ghost some_value: { (x : Self) × Fits x };
+}
+
+/// Passes over a value, or these bytes, which stand where there is none.
+pub(crate) fn guess_optional<T: Decode>(
+    alloc: Global,
+    nothing: &[u8],
+    text: &mut Cursor,
+) -> Result<Option<Option<T>>, AllocError> {
+    if text.skip(nothing) {
+        return Ok(Some(None));
+    }
+    match T::guess(alloc, text)? {
+        Some(value) => Ok(Some(Some(value))),
+        None => Ok(None),
+    }
 }
 
 /// A type whose values are written too. What is only read, as the history of the first format, isn't one.
 pub(crate) trait Encode: Decode {
-    /// The tree that spells it.
-    fn to_tree(&self, alloc: Global) -> Result<Tree, AllocError>
-        ensures tree { IfOk result (λ tree. node tree ≡ Self.spelled self.now) }
+    /// Puts what spells it after what stands there.
+    fn put(&self, out: &mut Vec<u8>) -> Result<(), AllocError>
+        ensures text { OnOk result (out.new.items ≡ out.old.items ++ value_text (Self.spelled self.now)) }
+        ensures types { OnOk result (FitsTypes (Self.spelled self.now)) }
         ensures fits { OnOk result (Self.Fits self.now) };
 }
 
-/// The field of this name and value.
-pub(crate) fn field<T: Encode>(alloc: Global, name: &[u8], value: &T) -> Result<Field, AllocError>
-    ensures field { IfOk result (λ field. named_node field ≡ (name.now, T.spelled value.now)) }
-    ensures fits { OnOk result (T.Fits value.now) }
-{
-    Field::of(alloc, name, value.to_tree(alloc)?)
+/// A type whose values are written as structures.
+pub(crate) trait Row: Decode {
+    /// Puts its fields after what stands there.
+    fn put_fields(&self, out: &mut Vec<u8>) -> Result<(), AllocError>
+        ensures put { OnOk result (ArePut spaced out.old.items out.new.items (inside (Self.spelled self.now))) }
+        ensures fits { OnOk result (Self.Fits self.now) };
 }
 
-/// Puts the field of this name and value after those that stand there.
-pub(crate) fn put_field<T: Encode>(
-    fields: &mut Vec<Field>,
-    alloc: Global,
-    name: &[u8],
-    value: &T,
-) -> Result<(), AllocError>
-    ensures fields { OnOk result (map named_node fields.new.items ≡ map named_node fields.old.items ++ (name.now, T.spelled value.now) ∷ []) }
-    ensures fits { OnOk result (T.Fits value.now) }
+/// Puts the structure of its fields.
+pub(crate) fn put_structure<T: Row>(out: &mut Vec<u8>, row: &T) -> Result<(), AllocError>
+    ensures text { OnOk result (out.new.items ≡ out.old.items ++ value_text (structure (inside (T.spelled row.now)))) }
+    ensures types { OnOk result (FitsTypes (structure (inside (T.spelled row.now)))) }
+    ensures fits { OnOk result (T.Fits row.now) }
 {
-    fields.push(field(alloc, name, value)?)?;
+    out.push(b'{')?;
+    row.put_fields(out)?;
+    out.extend_from_slice(b" }")?;
     Ok(())
 }
 
-/// Puts the fields of these two names and values after those that stand there.
+// Puts `name = value;`.
+fn put_named<T: Encode>(out: &mut Vec<u8>, name: &[u8], value: &T) -> Result<(), AllocError>
+    ensures text { OnOk result (out.new.items ≡ out.old.items ++ field_text name.now (value_text (T.spelled value.now))) }
+    ensures types { OnOk result (FitsTypes (T.spelled value.now)) }
+    ensures fits { OnOk result (T.Fits value.now) }
+{
+    out.extend_from_slice(name)?;
+    out.extend_from_slice(b" = ")?;
+    value.put(out)?;
+    out.push(b';')?;
+    Ok(())
+}
+
+/// Puts a field of a structure: a space, then the name and the value.
+pub(crate) fn put_field<T: Encode>(
+    out: &mut Vec<u8>,
+    name: &[u8],
+    value: &T,
+) -> Result<(), AllocError>
+    ensures put { OnOk result (ArePut spaced out.old.items out.new.items ((name.now, T.spelled value.now) ∷ [])) }
+    ensures fits { OnOk result (T.Fits value.now) }
+{
+    out.push(b' ')?;
+    put_named(out, name, value)?;
+    Ok(())
+}
+
+/// Puts two fields of a structure.
 pub(crate) fn put_both<T: Encode, U: Encode>(
-    fields: &mut Vec<Field>,
-    alloc: Global,
+    out: &mut Vec<u8>,
     first_name: &[u8],
     first: &T,
     second_name: &[u8],
     second: &U,
 ) -> Result<(), AllocError>
-    ensures fields { OnOk result (map named_node fields.new.items ≡ map named_node fields.old.items
-        ++ (first_name.now, T.spelled first.now) ∷ (second_name.now, U.spelled second.now) ∷ []) }
+    ensures put { OnOk result (ArePut spaced out.old.items out.new.items
+        ((first_name.now, T.spelled first.now) ∷ (second_name.now, U.spelled second.now) ∷ [])) }
     ensures fits { OnOk result (T.Fits first.now) }
     ensures fits_second { OnOk result (U.Fits second.now) }
 {
-    put_field(fields, alloc, first_name, first)?;
-    put_field(fields, alloc, second_name, second)?;
+    put_field(out, first_name, first)?;
+    put_field(out, second_name, second)?;
+    Ok(())
+}
+
+/// Puts a line of a file: the name and the value.
+pub(crate) fn put_line<T: Encode>(
+    out: &mut Vec<u8>,
+    name: &[u8],
+    value: &T,
+) -> Result<(), AllocError>
+    ensures put { OnOk result (ArePut lines out.old.items out.new.items ((name.now, T.spelled value.now) ∷ [])) }
+    ensures fits { OnOk result (T.Fits value.now) }
+{
+    put_named(out, name, value)?;
+    out.push(b'\n')?;
+    Ok(())
+}
+
+/// Puts two lines of a file.
+pub(crate) fn put_lines<T: Encode, U: Encode>(
+    out: &mut Vec<u8>,
+    first_name: &[u8],
+    first: &T,
+    second_name: &[u8],
+    second: &U,
+) -> Result<(), AllocError>
+    ensures put { OnOk result (ArePut lines out.old.items out.new.items
+        ((first_name.now, T.spelled first.now) ∷ (second_name.now, U.spelled second.now) ∷ [])) }
+    ensures fits { OnOk result (T.Fits first.now) }
+    ensures fits_second { OnOk result (U.Fits second.now) }
+{
+    put_line(out, first_name, first)?;
+    put_line(out, second_name, second)?;
     Ok(())
 }
 
@@ -88,12 +169,16 @@ impl Decode for Text {
         }
     }
 
+    fn guess(alloc: Global, text: &mut Cursor) -> Result<Option<Text>, AllocError> {
+        text.string(alloc)
+    }
+
     ghost some_value = { ([], tt) };
 }
 
 impl Encode for Text {
-    fn to_tree(&self, alloc: Global) -> Result<Tree, AllocError> {
-        Tree::string(alloc, self.bytes())
+    fn put(&self, out: &mut Vec<u8>) -> Result<(), AllocError> {
+        put_string(out, self.bytes())
     }
 }
 
@@ -112,12 +197,16 @@ impl Decode for bool {
         }
     }
 
+    fn guess(_alloc: Global, text: &mut Cursor) -> Result<Option<bool>, AllocError> {
+        Ok(flag_of(text.word()))
+    }
+
     ghost some_value = { (true, tt) };
 }
 
 impl Encode for bool {
-    fn to_tree(&self, alloc: Global) -> Result<Tree, AllocError> {
-        Tree::word(alloc, if *self { b"true" } else { b"false" })
+    fn put(&self, out: &mut Vec<u8>) -> Result<(), AllocError> {
+        out.extend_from_slice(if *self { b"true" } else { b"false" })
     }
 }
 
@@ -151,12 +240,16 @@ impl Decode for u64 {
         }
     }
 
+    fn guess(_alloc: Global, text: &mut Cursor) -> Result<Option<u64>, AllocError> {
+        Ok(text.number())
+    }
+
     ghost some_value = { (0, Prim.search rules) };
 }
 
 impl Encode for u64 {
-    fn to_tree(&self, _alloc: Global) -> Result<Tree, AllocError> {
-        Ok(Tree::Number(*self))
+    fn put(&self, out: &mut Vec<u8>) -> Result<(), AllocError> {
+        put_number(out, *self)
     }
 }
 
@@ -176,12 +269,19 @@ impl Decode for u32 {
         }
     }
 
+    fn guess(_alloc: Global, text: &mut Cursor) -> Result<Option<u32>, AllocError> {
+        match text.number() {
+            Some(n) => Ok(u32::try_from(n).ok()),
+            None => Ok(None),
+        }
+    }
+
     ghost some_value = { (0, Prim.search rules) };
 }
 
 impl Encode for u32 {
-    fn to_tree(&self, _alloc: Global) -> Result<Tree, AllocError> {
-        Ok(Tree::Number(u64::from(*self)))
+    fn put(&self, out: &mut Vec<u8>) -> Result<(), AllocError> {
+        put_number(out, u64::from(*self))
     }
 }
 
@@ -201,11 +301,18 @@ impl Decode for u16 {
         }
     }
 
+    fn guess(_alloc: Global, text: &mut Cursor) -> Result<Option<u16>, AllocError> {
+        match text.number() {
+            Some(n) => Ok(u16::try_from(n).ok()),
+            None => Ok(None),
+        }
+    }
+
     ghost some_value = { (0, Prim.search rules) };
 }
 
 impl Encode for u16 {
-    fn to_tree(&self, _alloc: Global) -> Result<Tree, AllocError> {
-        Ok(Tree::Number(u64::from(*self)))
+    fn put(&self, out: &mut Vec<u8>) -> Result<(), AllocError> {
+        put_number(out, u64::from(*self))
     }
 }

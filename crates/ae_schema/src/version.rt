@@ -6,11 +6,12 @@ ghost use Rattle.ae_schema.specs.Shapes.{version_from};
 ghost use Rattle.ae_text.specs.View.{node};
 ghost use Rattle.ae_schema.specs.Records.{structure};
 
+use crate::canonical::Cursor;
 use crate::fields::{End, Then};
 use crate::parts::{fields_in, string_in};
-use crate::structure::{read_structure, structure_of};
-use crate::value::{Decode, Encode, put_both};
-use ae_text::{Field, Tree};
+use crate::structure::{guess_structure, read_structure};
+use crate::value::{Decode, Encode, Row, guess_optional, put_both, put_structure};
+use ae_text::{Field, Tree, put_string};
 use ae_types::VersionRef;
 use std::alloc::{AllocError, Global};
 
@@ -43,6 +44,15 @@ fn digest_of(alloc: Global, text: &[u8]) -> Result<Option<[u8; 32]>, AllocError>
     }
 }
 
+// The bytes that the text writes in hex digits, in lower case or not.
+fn decoded(text: &[u8]) -> Option<[u8; 32]> {
+    let mut digest = [0; 32];
+    match hex::decode_to_slice(text, &mut digest) {
+        Ok(()) => Some(digest),
+        Err(_) => None,
+    }
+}
+
 impl Decode for [u8; 32] {
     ghost use Rattle.ae_schema.specs.Spelled.{hex_string};
     ghost use Rattle.ae_schema.specs.Fits.{IsDigest};
@@ -59,15 +69,28 @@ impl Decode for [u8; 32] {
         }
     }
 
+    fn guess(_alloc: Global, text: &mut Cursor) -> Result<Option<[u8; 32]>, AllocError> {
+        match text.name() {
+            Some(digits) => Ok(decoded(digits)),
+            None => Ok(None),
+        }
+    }
+
     ghost some_value = { some_digest };
 }
 
 impl Encode for [u8; 32] {
-    fn to_tree(&self, alloc: Global) -> Result<Tree, AllocError> {
-        let digits = hex::encode(alloc, *self)?;
-        Tree::string(alloc, digits.as_bytes())
+    fn put(&self, out: &mut Vec<u8>) -> Result<(), AllocError> {
+        let mut digits = [0; 64];
+        match hex::encode_to_slice(*self, &mut digits) {
+            Ok(()) => put_string(out, &digits),
+            Err(_) => unreachable!(),
+        }
     }
 }
+
+// The names of its fields.
+const VERSION_NAMES: [&[u8]; 4] = [b"number", b"at", b"length", b"digest"];
 
 type VersionFields = Then<u64, Then<u64, Then<u32, Then<[u8; 32], End>>>>;
 
@@ -81,8 +104,14 @@ impl Decode for VersionRef {
     ghost Fits = { FitsVersion };
 
     fn of_tree(alloc: Global, tree: &Tree) -> Result<Option<VersionRef>, AllocError> {
-        let names: &[&[u8]] = &[b"number", b"at", b"length", b"digest"];
-        match read_structure::<VersionFields>(alloc, names, tree)? {
+        match read_structure::<VersionFields>(alloc, &VERSION_NAMES, tree)? {
+            Some(fields) => Ok(Some(version_of(fields))),
+            None => Ok(None),
+        }
+    }
+
+    fn guess(alloc: Global, text: &mut Cursor) -> Result<Option<VersionRef>, AllocError> {
+        match guess_structure::<VersionFields>(alloc, &VERSION_NAMES, text)? {
             Some(fields) => Ok(Some(version_of(fields))),
             None => Ok(None),
         }
@@ -92,18 +121,16 @@ impl Decode for VersionRef {
 }
 
 impl Encode for VersionRef {
-    fn to_tree(&self, alloc: Global) -> Result<Tree, AllocError> {
-        let mut fields = Vec::new(alloc);
-        put_both(&mut fields, alloc, b"number", &self.number, b"at", &self.at)?;
-        put_both(
-            &mut fields,
-            alloc,
-            b"length",
-            &self.length,
-            b"digest",
-            &self.digest,
-        )?;
-        Ok(structure_of(fields))
+    fn put(&self, out: &mut Vec<u8>) -> Result<(), AllocError> {
+        put_structure(out, self)
+    }
+}
+
+impl Row for VersionRef {
+    fn put_fields(&self, out: &mut Vec<u8>) -> Result<(), AllocError> {
+        put_both(out, b"number", &self.number, b"at", &self.at)?;
+        put_both(out, b"length", &self.length, b"digest", &self.digest)?;
+        Ok(())
     }
 }
 
@@ -165,14 +192,18 @@ impl Decode for Option<VersionRef> {
         }
     }
 
+    fn guess(alloc: Global, text: &mut Cursor) -> Result<Option<Option<VersionRef>>, AllocError> {
+        guess_optional(alloc, b"{ }", text)
+    }
+
     ghost some_value = { (None, tt) };
 }
 
 impl Encode for Option<VersionRef> {
-    fn to_tree(&self, alloc: Global) -> Result<Tree, AllocError> {
+    fn put(&self, out: &mut Vec<u8>) -> Result<(), AllocError> {
         match self {
-            Some(version) => version.to_tree(alloc),
-            None => Ok(structure_of(Vec::new(alloc))),
+            Some(version) => version.put(out),
+            None => out.extend_from_slice(b"{ }"),
         }
     }
 }

@@ -1,17 +1,13 @@
-use Rattle.std.proofs.Common.{ℕ, List, ap, sym, ◌∙◌, subst}
-use Rattle.ae_text.specs.Tree.{Node}
-use Rattle.std.specs.Prelude.{IfOk}
-use Rattle.ae_text.specs.Grammar.{Reads}
-use Rattle.ae_text.specs.WellFormed.{IsWellFormed}
-use Rattle.ae_schema.specs.Records.{structure}
+use Rattle.ae_schema.specs.Files.{change_fields}
+use Rattle.ae_schema.specs.declared.format.Format.TheVariants.{Two}
 use Rattle.ae_schema.proofs.Fine.{change_well_formed}
+use Rattle.ae_schema.proofs.Put.{lines_again}
 use Rattle.ae_schema.proofs.change.print_change.Goals as goal
 
-pub print_tree-requires : goal.print_tree-requires
-print_tree-requires c =
-    subst (λ (n : Node). IsWellFormed n) (sym (c.structure_of.ensures ∙ ap structure c.in_ok-fields.ensures.fields)) (change_well_formed c.args.change.now)
+pub returns-clause-value : goal.returns-clause-value
+returns-clause-value c = (rw c.new-out.ensures.items at c.in_ok-put_change.ensures.put).text
 
 pub returns-clause-again : goal.returns-clause-again
 returns-clause-again c =
-    let is = c.structure_of.ensures ∙ ap structure c.in_ok-fields.ensures.fields in
-    subst (λ (n : Node). IfOk c.print_tree.result (λ text. (lines : List ℕ) × Reads text.items n lines)) is c.print_tree.ensures.again
+    let value = c.args.change.now in
+    lines_again (change_fields Two value) _ (change_well_formed value) (rw c.new-out.ensures.items at c.in_ok-put_change.ensures.put)

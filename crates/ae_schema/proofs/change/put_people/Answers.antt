@@ -1,10 +1,7 @@
-use Rattle.std.proofs.Common.{map}
-use Rattle.ae_text.specs.View.{named_node}
-use Rattle.ae_schema.proofs.RowLists.{joined}
+use Rattle.ae_schema.proofs.Put.{more_lines}
 use Rattle.ae_schema.proofs.change.put_people.Goals as goal
 
-pub returns-clause-fields : goal.returns-clause-fields
-returns-clause-fields c =
-    let old = map named_node c.args.fields.now.items in
-    let four = joined old _ _ _ _ c.in_ok-put_both.ensures.fields c.in_ok-put_both-2.ensures.fields in
-    joined old _ _ _ _ four c.in_ok-put_field.ensures.fields
+pub returns-clause-put : goal.returns-clause-put
+returns-clause-put c =
+    let out = c.args.out.now.items in
+    more_lines out _ _ _ _ (more_lines out _ _ _ _ c.in_ok-put_lines.ensures.put c.in_ok-put_lines-2.ensures.put) c.in_ok-put_line.ensures.put

@@ -1,8 +1,5 @@
-use Rattle.std.proofs.Common.{map}
-use Rattle.ae_text.specs.View.{named_node}
-use Rattle.ae_schema.proofs.RowLists.{joined}
+use Rattle.ae_schema.proofs.Put.{more_lines}
 use Rattle.ae_schema.proofs.change.put_subject.Goals as goal
 
-pub returns-clause-fields : goal.returns-clause-fields
-returns-clause-fields c =
-    joined (map named_node c.args.fields.now.items) _ _ _ _ c.in_ok-put_both.ensures.fields c.in_ok-put_both-2.ensures.fields
+pub returns-clause-put : goal.returns-clause-put
+returns-clause-put c = more_lines c.args.out.now.items _ _ _ _ c.in_ok-put_lines.ensures.put c.in_ok-put_lines-2.ensures.put

@@ -7,14 +7,14 @@ use Rattle.ae_schema.proofs.Texts.{never_both, same_error, bad_answer, bad_refus
 use Rattle.ae_schema.proofs.change.read_as.Goals as goal
 
 pub returns-in-Ok-clause-found : goal.returns-in-Ok-clause-found
-returns-in-Ok-clause-found g c = rw c.change_of.ensures c.in-Ok.ensures.found
+returns-in-Ok-clause-found g c = rw c.change_of.ensures.value c.in-Ok.ensures.found
 
 pub returns-in-Ok-clause-fits : goal.returns-in-Ok-clause-fits
-returns-in-Ok-clause-fits g c = rw c.change_of.ensures (to_change g.F.FormatType.format c.in-Ok.fields c.in-Ok.ensures.fits)
+returns-in-Ok-clause-fits g c = rw c.change_of.ensures.value (to_change g.F.FormatType.format c.in-Ok.fields c.in-Ok.ensures.fits)
 
 pub returns-in-Ok-clause-only : goal.returns-in-Ok-clause-only
 returns-in-Ok-clause-only g c x fits text =
-    c.change_of.ensures
+    c.change_of.ensures.value
     ∙ ap change_from (rw c.in-Ok.is at (c.read_record.ensures.only (change_shape x) (from_change g.F.FormatType.format x fits) text))
 
 pub returns-in-Ok-clause-only_field : goal.returns-in-Ok-clause-only_field

@@ -7,14 +7,14 @@ use Rattle.ae_schema.proofs.Texts.{never_both, same_error, bad_answer, bad_refus
 use Rattle.ae_schema.proofs.project.read_as.Goals as goal
 
 pub returns-in-Ok-clause-found : goal.returns-in-Ok-clause-found
-returns-in-Ok-clause-found g c = rw c.project_of.ensures c.in-Ok.ensures.found
+returns-in-Ok-clause-found g c = rw c.project_of.ensures.value c.in-Ok.ensures.found
 
 pub returns-in-Ok-clause-fits : goal.returns-in-Ok-clause-fits
-returns-in-Ok-clause-fits g c = rw c.project_of.ensures (to_project c.in-Ok.fields c.in-Ok.ensures.fits)
+returns-in-Ok-clause-fits g c = rw c.project_of.ensures.value (to_project c.in-Ok.fields c.in-Ok.ensures.fits)
 
 pub returns-in-Ok-clause-only : goal.returns-in-Ok-clause-only
 returns-in-Ok-clause-only g c x fits text =
-    c.project_of.ensures ∙ ap project_from (rw c.in-Ok.is at (c.read_record.ensures.only (project_shape x) (from_project x fits) text))
+    c.project_of.ensures.value ∙ ap project_from (rw c.in-Ok.is at (c.read_record.ensures.only (project_shape x) (from_project x fits) text))
 
 pub returns-in-Ok-clause-only_field : goal.returns-in-Ok-clause-only_field
 returns-in-Ok-clause-only_field g c line w =

@@ -1,8 +1,5 @@
-use Rattle.std.proofs.Common.{map}
-use Rattle.ae_text.specs.View.{named_node}
-use Rattle.ae_schema.proofs.RowLists.{joined}
+use Rattle.ae_schema.proofs.Put.{more_spaced}
 use Rattle.ae_schema.proofs.value.put_both.Goals as goal
 
-pub returns-clause-fields : goal.returns-clause-fields
-returns-clause-fields g c =
-    joined (map named_node c.args.fields.now.items) _ _ _ _ c.in_ok-put_field.ensures.fields c.in_ok-put_field-2.ensures.fields
+pub returns-clause-put : goal.returns-clause-put
+returns-clause-put g c = more_spaced c.args.out.now.items _ _ _ _ c.in_ok-put_field.ensures.put c.in_ok-put_field-2.ensures.put

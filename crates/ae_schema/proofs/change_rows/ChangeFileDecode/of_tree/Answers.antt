@@ -1,6 +1,7 @@
-use Rattle.std.proofs.Common.{Some, ap}
+use Rattle.std.proofs.Common.{Some, ap, ◌∙◌}
 use Rattle.std.proofs.lemmas.Option.{same_Some}
 use Rattle.ae_schema.proofs.Options.{no_none}
+use Rattle.ae_schema.specs.Shapes.{change_file_from}
 use Rattle.ae_schema.proofs.change_rows.ChangeFileDecode.of_tree.Goals as goal
 
 pub returns-in-None-clause-only : goal.returns-in-None-clause-only
@@ -10,4 +11,4 @@ returns-in-None-clause-only c x fits e =
 pub returns-in-Some-clause-only : goal.returns-in-Some-clause-only
 returns-in-Some-clause-only c x fits e =
     let same = same_Some _ _ (rw c.in-Some.is at (c.in_ok-fields.ensures.only (record { first = x.path; rest = record { first = x.action; rest = record { first = x.usage; rest = record { first = x.origin; rest = record { first = x.frozen; rest = record {} } } } } }) (fits.0, (tt, (tt, (fits.1, (fits.2, tt))))) e)) in
-    ap (λ f. Some (record { path = f.first; action = f.rest.first; usage = f.rest.rest.first; origin = f.rest.rest.rest.first; frozen = f.rest.rest.rest.rest.first })) same
+    ap Some (c.change_file_of.ensures ∙ ap change_file_from same)

@@ -1,0 +1,5 @@
+use Rattle.ae_schema.proofs.Put.{more_spaced}
+use Rattle.ae_schema.proofs.file_table.FileRowRow.put_fields.Goals as goal
+
+pub returns-clause-put : goal.returns-clause-put
+returns-clause-put c = more_spaced c.args.out.now.items _ _ _ _ (rw c.len.ensures at c.in_ok-put_both.ensures.put) c.in_ok-put_field.ensures.put
