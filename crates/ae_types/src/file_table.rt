@@ -5,7 +5,7 @@ use ae_base::{ChangeNo, Delta, Path, Usage};
 use std::alloc::{AllocError, Global};
 
 /// What a delta made of a file: its usage and version, or no version where the delta removed it.
-#[derive(Drop)]
+#[derive(Drop, PartialEq, Eq)]
 pub struct FileVersion {
     pub delta: Delta,
     pub usage: Usage,
@@ -16,7 +16,7 @@ pub struct FileVersion {
 pub type FileVersionList = Rows<FileVersion>;
 
 /// A file that the project has or had. Its edit is the length of its past.
-#[derive(Drop)]
+#[derive(Drop, PartialEq, Eq)]
 pub struct FileRow {
     pub path: Path,
     pub past: FileVersionList,
@@ -26,7 +26,7 @@ pub struct FileRow {
 pub type FileRows = Rows<FileRow>;
 
 /// A path that a change holds.
-#[derive(Drop)]
+#[derive(Drop, PartialEq, Eq)]
 pub struct Lock {
     pub path: Path,
     pub change: ChangeNo,

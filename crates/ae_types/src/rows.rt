@@ -84,3 +84,22 @@ impl<T: TryCopy + Drop> TryCopy for Rows<T> {
         Ok(Rows { rows })
     }
 }
+
+impl<T: PartialEq> PartialEq for Rows<T> {
+    ghost use Rattle.std.specs.Cmp.Lexicographic.{pointwise};
+    ghost use Rattle.std.specs.Cmp.Lexicographic.{lists_per};
+
+    ghost eq = { pointwise T.eq };
+
+    ghost laws = { lists_per T.laws };
+
+    fn eq(&self, other: &Rows<T>) -> bool {
+        self.rows.as_slice() == other.rows.as_slice()
+    }
+}
+
+impl<T: Eq> Eq for Rows<T> {
+    ghost use Rattle.std.specs.Cmp.Lexicographic.{lists_equiv};
+
+    ghost laws = { lists_equiv T.Eq.laws };
+}

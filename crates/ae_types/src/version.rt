@@ -4,7 +4,7 @@ use crate::Rows;
 
 /// A version of a file: its number, its place in the packed region in units of 64 bytes, its length in bytes, and the
 /// SHA-256 of its bytes.
-#[derive(Clone, Copy, Debug)]
+#[derive(Clone, Copy, Debug, PartialEq, Eq)]
 pub struct VersionRef {
     pub number: u64,
     pub at: u64,
