@@ -45,7 +45,9 @@ pub(crate) fn load_table<D: Disk>(
     redo: &[Redone],
     project: &Project,
 ) -> Result<(FileRows, LockList), Stop>
-    ensures table { D.tells → IsRecordRead (λ (t : List FileRow × List Lock). ReadsTable (files_by redo.now (reads (D.state disk.old))) project.now t.0 t.1) blame.Files result }
+    ensures table { D.tells → IsRecordRead
+        (λ (t : List FileRow × List Lock). ReadsTable (files_by redo.now (reads (D.state disk.old))) project.now t.0 t.1)
+        blame.Files result }
     ensures change { OnlyReads D.Disk disk.old disk.new }
     ensures cause { Counted (D.faults disk.old) (D.faults disk.new) (IsErrOf result Stop.DiskFault) }
 {

@@ -43,7 +43,8 @@ pub(crate) fn good_project(
     format: Format,
     bytes: &[u8],
 ) -> Result<(Project, NumberList), Stop>
-    ensures value { (files : Image) → files project_file ≡ bytes.now → IsRecordRead (λ (p : Project × List ℕ). ReadsProject format files p.0 p.1) blame.Project result }
+    ensures value { (files : Image) → files project_file ≡ bytes.now → IsRecordRead
+        (λ (p : Project × List ℕ). ReadsProject format files p.0 p.1) blame.Project result }
     ensures no_fault { IsErrOf result Stop.DiskFault → ⊥ }
 {
     match read_project_in(alloc, format, bytes) {
@@ -65,7 +66,8 @@ pub(crate) fn good_table(
     bytes: &[u8],
     project: &Project,
 ) -> Result<(FileRows, LockList), Stop>
-    ensures value { (files : Image) → files files_file ≡ bytes.now → IsRecordRead (λ (t : List FileRow × List Lock). ReadsTable files project.now t.0 t.1) blame.Files result }
+    ensures value { (files : Image) → files files_file ≡ bytes.now → IsRecordRead
+        (λ (t : List FileRow × List Lock). ReadsTable files project.now t.0 t.1) blame.Files result }
     ensures no_fault { IsErrOf result Stop.DiskFault → ⊥ }
 {
     match read_files(alloc, bytes) {
@@ -87,7 +89,8 @@ pub(crate) fn good_change(
     bytes: &[u8],
     number: ChangeNo,
 ) -> Result<Change, Stop>
-    ensures value { (files : Image) → files (change_file number) ≡ bytes.now → IsRecordRead (ReadsChange format files number) (blame.Change number) result }
+    ensures value { (files : Image) → files (change_file number) ≡ bytes.now → IsRecordRead
+        (ReadsChange format files number) (blame.Change number) result }
     ensures no_fault { IsErrOf result Stop.DiskFault → ⊥ }
 {
     match read_change_in(alloc, format, bytes) {
