@@ -1,6 +1,7 @@
 //! The program: the real directories, files and streams, and what is done with them.
 #![tactic(auto)]
 
+mod around;
 mod calling;
 mod descriptors;
 mod disk;

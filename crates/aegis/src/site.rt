@@ -5,12 +5,13 @@ ghost use Rattle.ae_outside.specs.Site.{IsAtMost};
 ghost use Rattle.ae_outside.specs.Untold.{untold_site};
 ghost use Rattle.aegis.specs.Runs.{HasNoEnd, IsExitOf, IsShell};
 
+use crate::around::Around;
 use crate::home::Home;
 use crate::kept::{keep_file, keep_folder, put_away};
 use crate::modes::share_file;
 use crate::places::{
-    Found, has_name, is_empty_folder, look, make_folders, make_folders_to, refused,
-    remove_empty_folders, size_in_folder, size_of_file,
+    Found, entry_at, has_name, is_empty_folder, look, make_folders, refused, remove_empty_folders,
+    size_in_folder,
 };
 use crate::run_log;
 use crate::trouble::{Faults, Trouble};
@@ -34,6 +35,7 @@ pub struct RealSite<'a, R> {
     rt: &'a R,
     alloc: Global,
     home: Home<'a>,
+    around: Around,
     faults: Faults,
 }
 
@@ -103,6 +105,7 @@ impl<'a, R: Files<File = File> + Alloc + Clock + Clone + Drop + Processes> RealS
             rt,
             alloc,
             home,
+            around: Around::unknown(),
             faults: Faults::none(),
         }
     }
@@ -154,13 +157,49 @@ impl<'a, R: Files<File = File> + Alloc + Clock + Clone + Drop + Processes> RealS
         }
     }
 
+    // What stands at the folder around a place.
+    fn look_around(&self, around: &mut Around, place: &str) -> io::Result<Found> {
+        match place.rsplit_once('/') {
+            Some((folder, _)) => around.look(self.rt, self.alloc, folder),
+            None => Ok(Found::Folder),
+        }
+    }
+
+    // What stands at a place.
+    fn look_at(&self, around: &mut Around, place: &str) -> io::Result<Found> {
+        match self.look_around(around, place)? {
+            Found::Folder => entry_at(self.rt, place),
+            Found::File(_) => Ok(Found::Other),
+            other => Ok(other),
+        }
+    }
+
+    // Makes the folders on the way to a file, where they aren't there. It fails where something else stands in the place of one.
+    fn make_way(&self, around: &mut Around, place: &str) -> io::Result<()> {
+        let Some((folder, _)) = place.rsplit_once('/') else {
+            return Ok(());
+        };
+        match self.look_around(around, place)? {
+            Found::Folder => Ok(()),
+            Found::Absent => make_folders(self.rt, folder),
+            _ => Err(refused()),
+        }
+    }
+
     // One byte more than the limit shows that there is more, and room for one more than there is shows the end of the file.
-    fn try_read(&self, alloc: Global, dir: &Dir, path: &Path, limit: usize) -> io::Result<Content>
+    fn try_read(
+        &self,
+        alloc: Global,
+        around: &mut Around,
+        dir: &Dir,
+        path: &Path,
+        limit: usize,
+    ) -> io::Result<Content>
         ensures limit { IfOk result (IsAtMost limit) }
     {
         let folder = self.folder_of(dir)?;
         let place = place_in(alloc, folder.as_str(), path)?;
-        let Found::File(size) = look(self.rt, place.as_str())? else {
+        let Found::File(size) = self.look_at(around, place.as_str())? else {
             return Ok(Content::Absent);
         };
         let file = File::open(self.rt, place)?;
@@ -176,20 +215,26 @@ impl<'a, R: Files<File = File> + Alloc + Clock + Clone + Drop + Processes> RealS
 
     // A file that holds the bytes already stays untouched, with its time of change. Any other is taken away and made anew, so that
     // nothing is written through another name of it.
-    fn try_write(&self, dir: &Dir, path: &Path, bytes: &[u8]) -> io::Result<()> {
+    fn try_write(
+        &self,
+        around: &mut Around,
+        dir: &Dir,
+        path: &Path,
+        bytes: &[u8],
+    ) -> io::Result<()> {
         if *dir == Dir::Here && is_own(path) {
             return Err(refused());
         }
         let folder = self.folder_of(dir)?;
         let place = place_in(self.alloc, folder.as_str(), path)?;
-        make_folders_to(self.rt, place.as_str())?;
+        self.make_way(around, place.as_str())?;
         if let Some(size) = size_in_folder(self.rt, place.as_str())? {
             if size == bytes.len() as u64 && self.holds(place.as_str(), bytes) {
                 return Ok(());
             }
             self.take_away(dir, folder.as_str(), place.as_str(), size)?;
         }
-        self.make_file(place.as_str(), bytes)
+        self.make_file(around, place.as_str(), bytes)
     }
 
     // A file that can't be read doesn't hold them, as far as is known.
@@ -216,15 +261,14 @@ impl<'a, R: Files<File = File> + Alloc + Clock + Clone + Drop + Processes> RealS
 
     // Makes a file where nothing is. It isn't opened where something has appeared there, and nothing is written to it where it
     // isn't at its place, since a folder on the way has become a link.
-    fn make_file(&self, place: &str, bytes: &[u8]) -> io::Result<()> {
+    fn make_file(&self, around: &mut Around, place: &str, bytes: &[u8]) -> io::Result<()> {
         let is_program = bytes.starts_with(PROGRAM);
         let mut file = OpenOptions::new()
             .write(true)
             .create_new(true)
             .mode(if is_program { 0o777 } else { 0o666 })
             .open(self.rt, place)?;
-        size_of_file(self.rt, place)?;
-        if !has_name(self.rt, &file, place)? {
+        if self.look_around(around, place)? != Found::Folder || !has_name(self.rt, &file, place)? {
             return Err(refused());
         }
         share_file(self.rt, &file, place, is_program)?;
@@ -305,7 +349,10 @@ impl<'a, R: Files<File = File> + Alloc + Clock + Clone + Drop + Processes> Site
         path: &Path,
         limit: usize,
     ) -> Result<Content, SiteError> {
-        match self.try_read(alloc, &dir, path, limit) {
+        let mut around = std::mem::replace(&mut self.around, Around::unknown());
+        let read = self.try_read(alloc, &mut around, &dir, path, limit);
+        self.around = around;
+        match read {
             Ok(content) => Ok(content),
             Err(e) if e.kind() == ErrorKind::OutOfMemory => Err(SiteError::Memory),
             Err(e) => {
@@ -316,21 +363,26 @@ impl<'a, R: Files<File = File> + Alloc + Clock + Clone + Drop + Processes> Site
     }
 
     fn write(&mut self, dir: Dir, path: &Path, bytes: &[u8]) -> Result<(), Failed> {
-        let written = self.try_write(&dir, path, bytes);
+        let mut around = std::mem::replace(&mut self.around, Around::unknown());
+        let written = self.try_write(&mut around, &dir, path, bytes);
+        self.around = around;
         self.counted("write", &dir, Some(path), written)
     }
 
     fn remove(&mut self, dir: Dir, path: &Path) -> Result<(), Failed> {
+        self.around.forget();
         let removed = self.try_remove(&dir, path);
         self.counted("remove", &dir, Some(path), removed)
     }
 
     fn clear(&mut self, dir: Dir) -> Result<(), Failed> {
+        self.around.forget();
         let cleared = self.try_clear(&dir);
         self.counted("clear", &dir, None, cleared)
     }
 
     fn run(&mut self, dir: Dir, command: &str) -> Result<Exit, Failed> {
+        self.around.forget();
         let exit = self.try_run(&dir, command);
         self.counted("run", &dir, None, exit)
     }
