@@ -5,4 +5,5 @@ pub mod Numbers
 pub mod Outcomes
 pub mod Refusals
 pub mod Rows
+pub mod Texts
 pub mod Words

@@ -1,15 +1,24 @@
 // A text: bytes of any kind.
 ghost use Rattle.std.specs.Prelude.{◌≡◌, IfOk};
 ghost use Rattle.ae_base.specs.Bytes.{AreBytes};
+ghost use Rattle.ae_base.specs.Texts.{bytes_held};
 
 use std::alloc::{AllocError, Global};
 use std::cmp::Ordering;
 use std::marker::Model;
+use std::rc::Rc;
+
+// The bytes of a text: its own, or those that it shares with its copies.
+#[derive(Debug, Drop)]
+enum Held {
+    Alone(Vec<u8>),
+    Shared(Rc<Vec<u8>>),
+}
 
 /// Bytes of any kind. Contracts see the list of them.
 #[derive(Debug, Drop)]
 pub struct Text {
-    bytes: Vec<u8>,
+    held: Held,
 }
 
 impl Model for Text {
@@ -17,11 +26,13 @@ impl Model for Text {
 
     ghost Value = { List ℕ };
 
-    ghost view = { λ t. t.bytes.items };
+    ghost use Rattle.ae_base.specs.Texts.{bytes_held};
+
+    ghost view = { λ t. bytes_held t.held };
 
     ghost use Rattle.ae_base.specs.Bytes.{AreBytes};
 
-    ghost invariant = { λ t. AreBytes t.bytes.items };
+    ghost invariant = { λ t. AreBytes (bytes_held t.held) };
 }
 
 // The items of a slice of bytes are bytes.
@@ -35,15 +46,30 @@ impl Text {
         ensures { result ≡ bytes.items }
     {
         note_bytes(bytes.as_slice());
-        Text { bytes }
+        Text {
+            held: Held::Alone(bytes),
+        }
+    }
+
+    /// The text of these bytes, which its copies share: they take no room of their own. This is for what is long, as a file is.
+    pub fn shared(alloc: Global, bytes: Vec<u8>) -> Result<Text, AllocError>
+        ensures { IfOk result (λ text. text ≡ bytes.items) }
+    {
+        note_bytes(bytes.as_slice());
+        Ok(Text {
+            held: Held::Shared(Rc::new(alloc, bytes)?),
+        })
     }
 
     /// An equal text.
     pub fn copy(&self, alloc: Global) -> Result<Text, AllocError>
         ensures { IfOk result (λ text. text ≡ self.now) }
     {
-        let bytes = Vec::from_slice(alloc, self.bytes.as_slice())?;
-        Ok(Text { bytes })
+        let held = match &self.held {
+            Held::Alone(bytes) => Held::Alone(Vec::from_slice(alloc, bytes.as_slice())?),
+            Held::Shared(bytes) => Held::Shared(bytes.clone()?),
+        };
+        Ok(Text { held })
     }
 
     /// Its bytes.
@@ -51,7 +77,23 @@ impl Text {
         ensures value { result.now ≡ self.now }
         ensures bytes { AreBytes self.now }
     {
-        self.bytes.as_slice()
+        match &self.held {
+            Held::Alone(bytes) => bytes.as_slice(),
+            Held::Shared(bytes) => bytes.as_ref().as_slice(),
+        }
+    }
+
+    /// The vector of its bytes. It is a new one only where a copy of the text still shares them.
+    pub fn into_bytes(self, alloc: Global) -> Result<Vec<u8>, AllocError>
+        ensures value { IfOk result (λ bytes. bytes.items ≡ self) }
+    {
+        match self.held {
+            Held::Alone(bytes) => Ok(bytes),
+            Held::Shared(shared) => match Rc::try_unwrap(shared) {
+                Ok(bytes) => Ok(bytes),
+                Err(shared) => Vec::from_slice(alloc, shared.as_ref().as_slice()),
+            },
+        }
     }
 }
 

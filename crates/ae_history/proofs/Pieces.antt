@@ -1,25 +1,29 @@
 -- Pieces at places that are given one after another.
-use Rattle.std.proofs.Common.{◌≡◌, ℕ, ◌+◌, ◌<◌, ◌≤◌, List, [], ◌∷◌, ◌++◌, length, get_or, take, sym, ◌∙◌, ap, append_assoc}
+use Rattle.std.proofs.Common.{◌≡◌, ℕ, ◌≤◌, List, [], ◌∷◌, ◌++◌, sym, ◌∙◌, ap, refl}
 use Rattle.std.specs.Option.{option_to_list}
-use Rattle.std.specs.Prelude.{All}
-use Rattle.std.proofs.lemmas.List.{append-nil, take_all}
+use Rattle.std.specs.Prelude.{Some, None, All}
 use Rattle.std.proofs.lemmas.List.Elements.{All-tail}
 use Rattle.ae_base.specs.Rows.{Row, Rows}
 use Rattle.ae_vault.specs.declared.piece.Piece.{Piece}
 use Rattle.ae_types.specs.Frozen.{present, other_places}
-use Rattle.ae_places.proofs.Places.{one-row-more}
 use Rattle.ae_history.specs.Placing.{pieces_at}
 
 pub low-others : (places : List ℕ) → All (λ at. at ≤ 16777216) places → All (λ at. at ≤ 16777216) (other_places places)
 low-others [] low = low
 low-others (place ∷ places) low = All-tail (λ at. at ≤ 16777216) place places low
 
-pub file-more : (tree : Rows) (i : ℕ) (row : Row) (places rest others : List ℕ) (before after : List Piece) → i < length tree → row ≡ get_or tree i row
-    → ((more : List (List ℕ)) → before ++ pieces_at rest more ≡ pieces_at places (present (take i tree) ++ more))
-    → ((more : List (List ℕ)) → after ++ pieces_at others more ≡ before ++ pieces_at rest (option_to_list row.1 ++ more))
-    → (more : List (List ℕ)) → after ++ pieces_at others more ≡ pieces_at places (present (take (i + 1) tree) ++ more)
-file-more tree i row places rest others before after lt is so_far one more =
-    one more ∙ so_far (option_to_list row.1 ++ more) ∙ ap (pieces_at places) (sym (append_assoc (present (take i tree)) (option_to_list row.1) more) ∙ ap (λ l. l ++ more) (sym (one-row-more tree i row lt is)))
+-- the bytes of a tree are those of its first row, if it has some, and those of the others
+pub first-row : (row : Row) (rows : Rows) → present (row ∷ rows) ≡ option_to_list row.1 ++ present rows
+first-row (path, None) rows = refl
+first-row (path, Some bytes) rows = refl
 
-pub files-all : (tree : Rows) (n : ℕ) (places rest : List ℕ) (pieces : List Piece) → length tree ≤ n → ((more : List (List ℕ)) → pieces ++ pieces_at rest more ≡ pieces_at places (present (take n tree) ++ more)) → pieces ≡ pieces_at places (present tree)
-files-all tree n places rest pieces le all = sym (append-nil pieces) ∙ all [] ∙ ap (pieces_at places) (append-nil (present (take n tree)) ∙ ap (λ (t : Rows). present t) (take_all n tree le))
+-- the pieces before a row and of its bytes, with those of the rows after it
+pub row-more : (rows rest : Rows) (row : Row) (places others : List ℕ) (before after all : List Piece) → rows ≡ row ∷ rest
+    → before ++ pieces_at places (present rows) ≡ all
+    → ((more : List (List ℕ)) → after ++ pieces_at others more ≡ before ++ pieces_at places (option_to_list row.1 ++ more))
+    → after ++ pieces_at others (present rest) ≡ all
+row-more rows rest row places others before after all is so_far one =
+    one (present rest)
+    ∙ ap (λ more. before ++ pieces_at places more) (sym (first-row row rest))
+    ∙ ap (λ (r : Rows). before ++ pieces_at places (present r)) (sym is)
+    ∙ so_far

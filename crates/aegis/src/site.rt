@@ -186,7 +186,8 @@ impl<'a, R: Files<File = File> + Alloc + Clock + Clone + Drop + Processes> RealS
         }
     }
 
-    // One byte more than the limit shows that there is more, and room for one more than there is shows the end of the file.
+    // One byte more than the limit shows that there is more. Room for 64 bytes more than there are shows the end of the file, and
+    // holds the zeroes up to a whole unit, should the bytes be put into the packed region.
     fn try_read(
         &self,
         alloc: Global,
@@ -205,12 +206,12 @@ impl<'a, R: Files<File = File> + Alloc + Clock + Clone + Drop + Processes> RealS
         let file = File::open(self.rt, place)?;
         let most = (limit as u64).saturating_add(1);
         let mut bytes = Vec::new(alloc);
-        bytes.try_reserve_exact(size.saturating_add(1).min(most) as usize)?;
+        bytes.try_reserve_exact(size.min(limit as u64).saturating_add(64) as usize)?;
         file.take(most).read_to_end(&mut bytes)?;
         if bytes.len() > limit {
             return Ok(Content::TooLong);
         }
-        Ok(Content::Bytes(Text::of(bytes)))
+        Ok(Content::Bytes(Text::shared(alloc, bytes)?))
     }
 
     // A file that holds the bytes already stays untouched, with its time of change. Any other is taken away and made anew, so that

@@ -8,10 +8,10 @@ pub loop-done-preserved : goal.loop-done-preserved
 loop-done-preserved c =
     c.in_ok-push.ensures.items
     ∙ ap (λ (text : List ℕ). text ++ 0 ∷ []) c.loop-done.invariant
-    ∙ append_assoc c.args.bytes.now (replicate c.loop-done.done 0) (0 ∷ [])
-    ∙ ap (λ (zeros : List ℕ). c.args.bytes.now ++ zeros) (replicate_more c.loop-done.done 0)
+    ∙ append_assoc c.args.bytes.items (replicate c.loop-done.done 0) (0 ∷ [])
+    ∙ ap (λ (zeros : List ℕ). c.args.bytes.items ++ zeros) (replicate_more c.loop-done.done 0)
 
 pub returns : goal.returns
 returns c =
-    let all : c.loop-done.done ≡ 64 * units_of c.args.bytes.now - length c.args.bytes.now = omega (arith, c.units_of.ensures) in
-    c.of.ensures ∙ c.loop-done.invariant ∙ ap (λ (n : ℕ). c.args.bytes.now ++ replicate n 0) all
+    let all : c.loop-done.done ≡ 64 * units_of c.args.bytes.items - length c.args.bytes.items = omega (arith, c.units_of.ensures) in
+    c.of.ensures ∙ c.loop-done.invariant ∙ ap (λ (n : ℕ). c.args.bytes.items ++ replicate n 0) all
