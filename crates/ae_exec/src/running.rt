@@ -56,6 +56,19 @@ pub(crate) fn put_file(
     Ok(())
 }
 
+// Puts a file with these bytes after the others. Copies of it share them.
+fn put_bytes(
+    alloc: Global,
+    files: &mut FileList,
+    path: &Path,
+    bytes: Vec<u8>,
+) -> Result<(), AllocError>
+    ensures { OnOk result (files.new ≡ files.old ++ (path.now, Some bytes.items) ∷ []) }
+{
+    let text = Text::shared(alloc, bytes)?;
+    put_file(alloc, files, path, Some(text))
+}
+
 // Puts the file of a row after the others, with its bytes.
 fn push_row<D: Disk>(
     alloc: Global,
@@ -74,7 +87,7 @@ fn push_row<D: Disk>(
     ensures later { D.faults disk.old ≤ D.faults disk.new }
 {
     let bytes = read_version(alloc, disk, &row.version)?;
-    put_file(alloc, files, &row.path, Some(Text::of(bytes)))?;
+    put_bytes(alloc, files, &row.path, bytes)?;
     Ok(())
 }
 

@@ -22,8 +22,8 @@ returns-clause-kept g c = λ tells.
     let same : c.row.inside.version ≡ c.args.row.now.version = search rules in
     (subst (λ (v : VersionRef). IsKept (effective (reads (g.D.Disk.state c.args.disk.now))) v) same (subst (AreOf c.row.inside.version) (c.in_ok-bytes.ensures.files tells) c.in_ok-bytes.ensures.kept), tt)
 
-pub returns-in_err-put_file-clause-stopped : goal.returns-in_err-put_file-clause-stopped
-returns-in_err-put_file-clause-stopped g c = let is : c.from_residual-in_err-put_file.result ≡ Err stop.Memory = err_is _ _ c.from_residual-in_err-put_file.ensures.1 in rw is memory
+pub returns-in_err-put_bytes-clause-stopped : goal.returns-in_err-put_bytes-clause-stopped
+returns-in_err-put_bytes-clause-stopped g c = let is : c.from_residual-in_err-put_bytes.result ≡ Err stop.Memory = err_is _ _ c.from_residual-in_err-put_bytes.ensures.1 in rw is memory
 
 -- ---- what follows from the calls alone
 
@@ -33,11 +33,11 @@ returns-in_err-bytes-clause-same g c = c.read_version.ensures.same
 pub returns-in_err-bytes-clause-later : goal.returns-in_err-bytes-clause-later
 returns-in_err-bytes-clause-later g c = c.read_version.ensures.later
 
-pub returns-in_err-put_file-clause-same : goal.returns-in_err-put_file-clause-same
-returns-in_err-put_file-clause-same g c = c.read_version.ensures.same
+pub returns-in_err-put_bytes-clause-same : goal.returns-in_err-put_bytes-clause-same
+returns-in_err-put_bytes-clause-same g c = c.read_version.ensures.same
 
-pub returns-in_err-put_file-clause-later : goal.returns-in_err-put_file-clause-later
-returns-in_err-put_file-clause-later g c = c.read_version.ensures.later
+pub returns-in_err-put_bytes-clause-later : goal.returns-in_err-put_bytes-clause-later
+returns-in_err-put_bytes-clause-later g c = c.read_version.ensures.later
 
 pub returns-clause-same : goal.returns-clause-same
 returns-clause-same g c = c.read_version.ensures.same
