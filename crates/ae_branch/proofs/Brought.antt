@@ -24,7 +24,7 @@ use Rattle.ae_branch.proofs.Steps.{same_ok}
 -- ---- what each step found
 
 -- a whole that found something went on from something
-found : {A B : Type 0} (first : Result A Outcome → Type 0) (next : A → Result B Outcome → Type 0) (result : Result B Outcome) (value : B) → result ≡ Ok value → Then first next result → (found : A) × first (Ok found) × next found (Ok value)
+pub found : {A B : Type 0} (first : Result A Outcome → Type 0) (next : A → Result B Outcome → Type 0) (result : Result B Outcome) (value : B) → result ≡ Ok value → Then first next result → (found : A) × first (Ok found) × next found (Ok value)
 found first next _ value same (stopped why is) = absurd (cc same)
 found first next _ value same (went_on one said is after) = (one, is, subst (next one) same after)
 

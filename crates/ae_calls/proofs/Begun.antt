@@ -12,8 +12,9 @@ use Rattle.ae_branch.specs.Begin.{Begins, IsVacant, brief_of, created, created_r
 use Rattle.ae_branch.specs.Branch as branched
 use Rattle.ae_branch.specs.Branch.{BeginDone, BranchDone, HasNoActs, IsAsked}
 use Rattle.ae_branch.specs.Opening.{opening_acts}
-use Rattle.ae_branch.specs.Steps.{AnswersAs, Is, IsFault, Opens, Reads, Then, UnlessRefused, failed, starved, stopped, went_on}
+use Rattle.ae_branch.specs.Steps.{AnswersAs, Is, IsFault, Opens, Reads, UnlessRefused, failed, starved}
 use Rattle.ae_branch.specs.Steps as answers
+use Rattle.ae_branch.proofs.Brought.{found}
 use Rattle.ae_branch.proofs.Steps.{same_ok}
 use Rattle.ae_branch_words.specs.declared.words.BranchWords.{BranchWords}
 use Rattle.ae_branch_words.specs.declared.words.Rest.{Rest}
@@ -80,12 +81,6 @@ use Rattle.ae_calls.proofs.Usages.{HaveUsages, legal-usages, tree-entry, tree-fi
 
 -- ---- what the files of both disks said
 
--- a whole that found something went on from something
-module _ {A B : Type 0} (first : Result A Outcome → Type 0) (next : A → Result B Outcome → Type 0) where
-  passed-on : (result : Result B Outcome) (value : B) → result ≡ Ok value → Then first next result → (found : A) × first (Ok found) × next found (Ok value)
-  passed-on _ value same (stopped why is) = absurd (cc same)
-  passed-on _ value same (went_on one said is after) = (one, is, subst (next one) same after)
-
 opened : (who : List ℕ) (delta : ℕ) (image : Image) (result : Result Observation Outcome) (o : Observation) → result ≡ Ok o → Opens Nothing (refuses_trunk who delta) image result → Shown Nothing image (Some o)
 opened who delta image _ o same (says.done p is) = subst (λ (x : Observation). Shown Nothing image (Some x)) (same_ok p o same) is.0
 opened who delta image _ o same (says.refused refusal is) = absurd (cc same)
@@ -112,10 +107,10 @@ record Begin (trunk branch : Image) (name : List ℕ) (delta : ℕ) (who : List 
 
 said-begin : (trunk branch : Image) (name : List ℕ) (delta : ℕ) (who : List ℕ) (acts : List Act) → Begins trunk branch name delta who (Ok acts) → Begin trunk branch name delta who acts
 said-begin trunk branch name delta who acts said =
-    let at = passed-on (Opens Nothing (refuses_trunk who delta) trunk) _ (Ok acts) acts refl said in
-    let free = passed-on (IsVacant branch) _ (Ok acts) acts refl at.2 in
-    let rows = passed-on (UnlessRefused (refuses_rows (created_rows at.0 delta))) _ (Ok acts) acts refl free.2 in
-    let files = passed-on (Reads trunk (created_rows at.0 delta)) _ (Ok acts) acts refl rows.2 in
+    let at = found (Opens Nothing (refuses_trunk who delta) trunk) _ (Ok acts) acts refl said in
+    let free = found (IsVacant branch) _ (Ok acts) acts refl at.2 in
+    let rows = found (UnlessRefused (refuses_rows (created_rows at.0 delta))) _ (Ok acts) acts refl free.2 in
+    let files = found (Reads trunk (created_rows at.0 delta)) _ (Ok acts) acts refl rows.2 in
     record {
       o = at.0;
       shown = opened who delta trunk (Ok at.0) at.0 refl at.1;

@@ -68,7 +68,8 @@ use Rattle.ae_vault.specs.Vault.{effective}
 use Rattle.ae_calls.specs.Brought.{EndedBranchesBring, LiesAs, WasBrought}
 use Rattle.ae_calls.proofs.Begun.{no-acts-not-done}
 use Rattle.ae_calls.proofs.Received.{shown-of-log, why-not-done}
-use Rattle.ae_calls.proofs.Usages.{HaveUsages, UsageFits, last-in, legal-usages, tree-fits}
+use Rattle.ae_calls.proofs.Usages.{HaveUsages, UsageFits, legal-usages, tree-fits}
+use Rattle.ae_exec.proofs.CandidateNumbers.{last-in}
 
 -- ---- the files that are brought can be received
 

@@ -26,6 +26,7 @@ use Rattle.ae_machine.specs.Verdict.{events_of, maker_in, new_project_event, new
 use Rattle.ae_machine.specs.declared.verdict.Verdict.TheVariants.{Accept}
 use Rattle.ae_machine.proofs.Accepted.{accepted}
 use Rattle.ae_machine.proofs.AcceptedLogs.{legal-stands}
+use Rattle.ae_machine.proofs.AcceptedRoles.{role-of}
 use Rattle.ae_machine.proofs.Lists.{filter-all}
 use Rattle.ae_outside.specs.Trees.{Tree}
 use Rattle.ae_outside.specs.declared.dir.Dir.TheVariants.{Here}
@@ -109,13 +110,6 @@ project-made trunk from name step none legal put run =
 
 -- ---- users are given a role
 
-module _ (users : List (List ℕ)) (project : Project) where
-  users-with : (role : Role) → users_of role (with_users role users project) ≡ users
-  users-with Administrator = refl
-  users-with Developer = refl
-  users-with Reviewer = refl
-  users-with Integrator = refl
-
 with-again : (role : Role) (users others : List (List ℕ)) (project : Project) → with_users role users (with_users role others project) ≡ with_users role users project
 with-again Administrator users others project = refl
 with-again Developer users others project = refl
@@ -139,7 +133,7 @@ one-more : (role : Role) (user : List ℕ) (users : List (List ℕ)) (project : 
 one-more role user users project =
     let now = users_of role project in
     with-again role (users_of role (more_users role (user ∷ []) project) ++ users) (now ++ user ∷ []) project
-    ∙ ap (λ (us : List (List ℕ)). with_users role us project) (ap (λ (us : List (List ℕ)). us ++ users) (users-with (now ++ user ∷ []) project role) ∙ append_assoc now (user ∷ []) users)
+    ∙ ap (λ (us : List (List ℕ)). with_users role us project) (ap (λ (us : List (List ℕ)). us ++ users) (role-of role (now ++ user ∷ []) project) ∙ append_assoc now (user ∷ []) users)
 
 added-all : (role : Role) (users : List (List ℕ)) (maker : Maker) (project : Project) → after_all (only project) (map (event_by maker None) (map (on.RoleAdd role) users)) ≡ only (more_users role users project)
 added-all role [] maker project = ap only (sym (none-more role project))

@@ -1,6 +1,6 @@
 -- After a legal log aegis.conf has the usage of its own, and no other file has it: not in any change, nor at any delta.
-use Rattle.std.proofs.Common.{◌≡◌, ◌⊎◌, inl, inr, ℕ, refl, sym, ◌∙◌, ap, subst, List, [], ◌∷◌, ◌++◌, map, Option, Some, None, Bool, true, false, cond, not, ◌&&◌, ◌||◌, codes}
-use Rattle.std.specs.Prelude.{All, IfSome, IsSome, filter, if◌then◌else◌, is_some, nat_eq, nat_le}
+use Rattle.std.proofs.Common.{◌≡◌, ◌⊎◌, inl, inr, ℕ, refl, sym, ◌∙◌, ap, subst, List, [], ◌∷◌, ◌++◌, map, Option, Some, None, Bool, true, false, not, ◌||◌, codes}
+use Rattle.std.specs.Prelude.{All, IfSome, IsSome, filter, if◌then◌else◌, is_some, nat_eq}
 use Rattle.std.specs.List.{list_all}
 use Rattle.std.specs.Option.{is_none, option_and_then, option_map}
 use Rattle.std.specs.Ordering.{nat_cmp}
@@ -13,7 +13,6 @@ use Rattle.std.proofs.lemmas.List.Elements.{All-cons, All-map, All-nil}
 use Rattle.std.proofs.lemmas.Option.{same_Some}
 use Rattle.ae_base.specs.Rows.{text_cmp}
 use Rattle.ae_base.specs.declared.refusal.Refusal.TheVariants.{FileNotInProject, NoSuchChange}
-use Rattle.ae_base.specs.declared.words.Role.{Role}
 use Rattle.ae_base.specs.declared.words.Usage.{Usage}
 use Rattle.ae_base.specs.declared.words.Usage.TheVariants.{Config, Source, Test}
 use Rattle.ae_bundle.specs.Bundled.{is_config}
@@ -28,7 +27,6 @@ use Rattle.ae_log.specs.declared.event.EventKind.{EventKind}
 use Rattle.ae_log.specs.declared.event.EventKind.TheVariants as on
 use Rattle.ae_machine.specs.Accepted.{decided}
 use Rattle.ae_machine.specs.Call.{Call, Given, change_of, given_of, unless}
-use Rattle.ae_machine.specs.Fits.{makes_runs}
 use Rattle.ae_machine.specs.Legal.{Legal, Occasion, ViewFits, maker_at, more, nothing}
 use Rattle.ae_machine.specs.Paths.{asked_of_path, files_then, first_path_refused, in_baseline, in_trees, is_in, is_in_baseline, path_event, path_refused, paths_are_right, right_paths, tree_named, usage_of_new, usage_or}
 use Rattle.ae_machine.specs.Permission.{right_change}
@@ -36,12 +34,14 @@ use Rattle.ae_machine.specs.Space.{placing}
 use Rattle.ae_machine.specs.Verdict.{asked, change_of_events, ends, kinds_of, runs}
 use Rattle.ae_machine.specs.declared.verdict.Verdict.TheVariants.{Accept}
 use Rattle.ae_machine.specs.declared.view.View.{View}
+use Rattle.ae_exec.proofs.CandidateNumbers.{last-in}
 use Rattle.ae_machine.proofs.Accepted.{Passed, accepted-passes, change-there, tested, with_function}
 use Rattle.ae_machine.proofs.AcceptedLogs.{called-follow, first-follow, legal-stands}
 use Rattle.ae_machine.proofs.AcceptedRoles.{both-none}
-use Rattle.ae_machine.proofs.KindsMade.{Each, each-event, function_making}
+use Rattle.ae_machine.proofs.KindsMade.{Each, by-shape, each-event, function_making}
 use Rattle.ae_machine.proofs.LegalRightly.{legal-sound}
 use Rattle.ae_machine.proofs.Lists.{filter-in, found-so, members-all}
+use Rattle.ae_machine.proofs.TypedPaths.{left, right}
 use Rattle.ae_types.specs.declared.change.Change.{Change}
 use Rattle.ae_types.specs.declared.change.ChangeFile.{ChangeFile}
 use Rattle.ae_types.specs.declared.file_table.FileRow.{FileRow}
@@ -50,7 +50,7 @@ use Rattle.ae_types.specs.declared.version.VersionRef.{VersionRef}
 use Rattle.ae_types.specs.Found.{change_at, file_path, number_of_change, row_in, row_path}
 use Rattle.ae_types.specs.Observation.{Observation}
 use Rattle.ae_types.specs.Ordered.{put_by}
-use Rattle.ae_types.specs.Trees.{TreeRow, baseline_of, entry_row, last_up_to, past_in, tree_of, tree_path, tree_row, unless_later}
+use Rattle.ae_types.specs.Trees.{TreeRow, baseline_of, entry_row, last_up_to, past_in, tree_of, tree_path, tree_row}
 use Rattle.ae_types.proofs.Keys.{by_text}
 use Rattle.ae_types.proofs.Members.{In, all-in, in-either, map-in, some-in}
 use Rattle.ae_types.proofs.Ordered.{none-some}
@@ -121,16 +121,6 @@ pub record TreeEntry (o : Observation) (file : TreeRow) : Type 0 where
   pub path : of.path ≡ file.path
   pub usage : entry.usage ≡ file.usage
   pub version : entry.version ≡ Some file.version
-
-module _ (delta : ℕ) where
-  pub last-in : (past : List FileVersion) (entry : FileVersion) → last_up_to delta past ≡ Some entry → In past entry
-  last-in [] entry is = none-some entry is
-  last-in (first ∷ past) entry is = go (nat_le first.delta delta) (last_up_to delta past) is (last-in past entry)
-    where
-      go : (b : Bool) (later : Option FileVersion) → cond b (unless_later first later) later ≡ Some entry → (later ≡ Some entry → In past entry) → In (first ∷ past) entry
-      go true (Some later) is rest = inr (rest is)
-      go true None is rest = inl (same_Some first entry is)
-      go false later is rest = inr (rest is)
 
 pub tree-entry : (o : Observation) (delta : ℕ) (file : TreeRow) → In (tree_of o delta) file → TreeEntry o file
 tree-entry o delta file there = by-last (last_up_to delta from.0.past) refl from.2
@@ -256,16 +246,6 @@ after-all-has (event ∷ events) o fit have = after-all-has events (after o even
 
 -- ---- the events of a command
 
--- what holds of each shape of what a function makes holds of all that it makes
-module _ (P : EventKind → Type 0) (given : Given) where
-  by-shape : (f : Function)
-      → ((role : Role) → All P (map (on.RoleAdd role) given.call.command.users)) → ((role : Role) → All P (map (on.RoleDrop role) given.call.command.users))
-      → All P (map (path_event given.call) given.call.command.paths) → (makes_runs f ≡ true → All P (runs given (change_of given.call)))
-      → (f ≡ function.DevelopEnd → All P (ends given (change_of given.call)))
-      → ((kind : EventKind) → function_making kind ≡ Some f → kinds_of f given ≡ kind ∷ [] → All P (kind ∷ [])) → All P [] → All P (kinds_of f given)
-  by-shape function.List added dropped filed ran ended alone none = none
-  by-shape _ added dropped filed ran ended alone none = search
-
 -- what comes alone is no File
 of-alone : (kind : EventKind) (f : Function) → function_making kind ≡ Some f → KindFits kind
 of-alone (on.File path action usage origin) f maker = cc
@@ -307,13 +287,6 @@ named-there : (o : Observation) (number : Option ℕ) → is_some number ≡ tru
 named-there o (Some n) named there = tested (is_some (change_at o n)) NoSuchChange there
 named-there o None named there = absurd (false≢true named)
 
-module _ (a b : Bool) (are : (a && b) ≡ true) where
-  left : a ≡ true
-  left = (and_parts a b are).0
-
-  right : b ≡ true
-  right = (and_parts a b are).1
-
 -- a new file has the usage that its path asks for
 new-fits : (path : List ℕ) → UsageFits path (usage_of_new path)
 new-fits path = go (bytes_eq path (codes "aegis.conf"))
@@ -353,7 +326,7 @@ module _ (o : Observation) (bytes : ℕ → List ℕ) (c : Command) (who : List 
 
   kinds-fit : (f : Function) → IsFormed (with_function f c) → right_change (is_given f).call ≡ None → Passed (asked f) (is_given f).call → All KindFits (kinds_of f (is_given f))
   kinds-fit f formed there asks =
-      by-shape KindFits (is_given f) f
+      by-shape KindFits f (is_given f)
       (λ role. All-map KindFits (on.RoleAdd role) c.users (λ k d below. tt))
       (λ role. All-map KindFits (on.RoleDrop role) c.users (λ k d below. tt))
       (All-map KindFits (path_event (is_given f).call) c.paths (members-all (λ path. KindFits (path_event (is_given f).call path)) c.paths (path-fits f formed there asks)))

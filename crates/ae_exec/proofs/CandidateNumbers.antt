@@ -44,7 +44,7 @@ record StandsAt (o : Observation) (row : TreeRow) : Type 0 where
   pub own_path : path_of place ≡ row.path
 
 -- the last entry up to a delta is one of the past
-last-in : (delta : ℕ) (past : List FileVersion) (entry : FileVersion) → last_up_to delta past ≡ Some entry → In past entry
+pub last-in : (delta : ℕ) (past : List FileVersion) (entry : FileVersion) → last_up_to delta past ≡ Some entry → In past entry
 last-in delta [] entry is = cc
 last-in delta (x ∷ past) entry is = go (nat_le x.delta delta) (last_up_to delta past) is (last-in delta past entry)
   where

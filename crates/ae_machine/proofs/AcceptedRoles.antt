@@ -19,7 +19,7 @@ pub both-none : {A : Type 0} (x y : Option A) → option_or x y ≡ None → (x 
 both-none (Some a) y e = cc
 both-none None y e = (refl, e)
 
-role-of : (role : Role) (users : List (List ℕ)) (project : Project) → users_of role (with_users role users project) ≡ users
+pub role-of : (role : Role) (users : List (List ℕ)) (project : Project) → users_of role (with_users role users project) ≡ users
 role-of Administrator users project = refl
 role-of Developer users project = refl
 role-of Reviewer users project = refl

@@ -57,7 +57,7 @@ pub record HasEachKind (P : EventKind → Type 0) (f : Function) (given : Given)
   pub alone : (kind : EventKind) → function_making kind ≡ Some f → kinds_of f given ≡ kind ∷ [] → P kind
 
 -- the lists of each shape
-by-shape : (P : EventKind → Type 0) (f : Function) (given : Given)
+pub by-shape : (P : EventKind → Type 0) (f : Function) (given : Given)
     → ((role : Role) → All P (map (on.RoleAdd role) given.call.command.users)) → ((role : Role) → All P (map (on.RoleDrop role) given.call.command.users))
     → All P (map (path_event given.call) given.call.command.paths) → (makes_runs f ≡ true → All P (runs given (change_of given.call)))
     → (f ≡ function.DevelopEnd → All P (ends given (change_of given.call)))

@@ -59,10 +59,10 @@ of-alone _ f maker = tt
 
 -- ---- the paths that a command names
 
-left : (a b : Bool) → (a && b) ≡ true → a ≡ true
+pub left : (a b : Bool) → (a && b) ≡ true → a ≡ true
 left a b is = (and_parts a b is).0
 
-right : (a b : Bool) → (a && b) ≡ true → b ≡ true
+pub right : (a b : Bool) → (a && b) ≡ true → b ≡ true
 right a b is = (and_parts a b is).1
 
 of-paths : (paths : List (List ℕ)) → are_paths paths ≡ true → (path : List ℕ) → In paths path → IsPath path
