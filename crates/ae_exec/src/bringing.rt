@@ -28,9 +28,12 @@ fn migrate_store<D: Disk>(alloc: Global, disk: &mut D) -> Result<(), Stop>
     ensures disk { D.tells → LeavesDisk (D.state disk.old) (D.state disk.new) (Unit {0}) }
     ensures keeps { D.tells → (log : Log) → Holds StandsForLog (D.state disk.old) (log ∷ []) → KeepsLog (D.state disk.old) (D.state disk.new) log }
     ensures up { OnOk result (D.tells → IsUp (D.state disk.old) (D.state disk.new)) }
-    ensures second { OnOk result (D.tells → (log : Log) → Holds StandsForLog (D.state disk.old) (log ∷ []) → AgreesInFormat (D.state disk.old) → HoldsInSecond (D.state disk.new) log) }
+    ensures second { OnOk result (D.tells → (log : Log) → Holds StandsForLog (D.state disk.old) (log ∷ [])
+        → AgreesInFormat (D.state disk.old) → HoldsInSecond (D.state disk.new) log) }
     ensures same { IfErr result (λ stop. ChangesNothing (outcome_of_stop stop) → OnlyReads D.Disk disk.old disk.new) }
-    ensures stopped { IfErr result (λ stop. EndsAs ⊥ ⊥ (λ refusal. ⊥) (λ name. D.tells → (want : Want) → IsDamagedAt want (reads (D.state disk.old)) name) (DiskFailed D.Disk disk.old disk.new) ⊥ (outcome_of_stop stop)) }
+    ensures stopped { IfErr result (λ stop. EndsAs ⊥ ⊥ (λ refusal. ⊥)
+        (λ name. D.tells → (want : Want) → IsDamagedAt want (reads (D.state disk.old)) name)
+        (DiskFailed D.Disk disk.old disk.new) ⊥ (outcome_of_stop stop)) }
     ensures later { D.faults disk.old ≤ D.faults disk.new }
 {
     match migrate(alloc, disk)? {
@@ -44,11 +47,16 @@ pub(crate) fn bring_up<D: Disk>(alloc: Global, disk: &mut D) -> Result<(), Stop>
     ensures clean { OnOk result (IsCleanDisk D.Disk disk.new) }
     ensures disk { D.tells → LeavesDisk (D.state disk.old) (D.state disk.new) (Unit {0}) }
     ensures up { OnOk result (D.tells → IsUp (D.state disk.old) (D.state disk.new)) }
-    ensures opened { OnOk result (D.tells → (held : List Log) (log : Log) → Holds StandsForLog (D.state disk.old) held → StandsForLog (reads (D.state disk.old)) log → IsOpened StandsForLog (D.state disk.old) (D.state disk.new) held log) }
+    ensures opened { OnOk result (D.tells → (held : List Log) (log : Log) → Holds StandsForLog (D.state disk.old) held
+        → StandsForLog (reads (D.state disk.old)) log → IsOpened StandsForLog (D.state disk.old) (D.state disk.new) held log) }
     ensures second { OnOk result (D.tells → (held : List Log) (log : Log) → HoldsLog (D.state disk.old) held log → HoldsInSecond (D.state disk.new) log) }
-    ensures refined { IfErr result (λ stop. D.tells → (held : List Log) (log next : Log) → Holds StandsForLog (D.state disk.old) held → StandsForLog (reads (D.state disk.old)) log → Refined StandsForLog (D.state disk.old) (D.state disk.new) held log next (outcome_of_stop stop)) }
+    ensures refined { IfErr result (λ stop. D.tells → (held : List Log) (log next : Log) → Holds StandsForLog (D.state disk.old) held
+        → StandsForLog (reads (D.state disk.old)) log
+        → Refined StandsForLog (D.state disk.old) (D.state disk.new) held log next (outcome_of_stop stop)) }
     ensures whole { IfErr result (λ stop. ChangesNothing (outcome_of_stop stop) → D.tells → IsSettledNow (D.state disk.old) → IsMigratedOrNot (D.state disk.old) (D.state disk.new)) }
-    ensures stopped { IfErr result (λ stop. EndsAs ⊥ ⊥ (λ refusal. ⊥) (λ name. D.tells → (want : Want) → IsDamagedAt want (reads (D.state disk.old)) name) (DiskFailed D.Disk disk.old disk.new) ⊥ (outcome_of_stop stop)) }
+    ensures stopped { IfErr result (λ stop. EndsAs ⊥ ⊥ (λ refusal. ⊥)
+        (λ name. D.tells → (want : Want) → IsDamagedAt want (reads (D.state disk.old)) name)
+        (DiskFailed D.Disk disk.old disk.new) ⊥ (outcome_of_stop stop)) }
     ensures later { D.faults disk.old ≤ D.faults disk.new }
 {
     open_store(alloc, disk)?;

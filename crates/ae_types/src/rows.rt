@@ -86,8 +86,7 @@ impl<T: TryCopy + Drop> TryCopy for Rows<T> {
 }
 
 impl<T: PartialEq> PartialEq for Rows<T> {
-    ghost use Rattle.std.specs.Cmp.Lexicographic.{pointwise};
-    ghost use Rattle.std.specs.Cmp.Lexicographic.{lists_per};
+    ghost use Rattle.std.specs.Cmp.Lexicographic.{pointwise, lists_per};
 
     ghost eq = { pointwise T.eq };
 

@@ -129,16 +129,21 @@ pub fn make_folders(files: &impl Files<File = File>, place: &str) -> io::Result<
     make_folder(files, place)
 }
 
+/// Makes a folder, and those on the way to it, where nothing was found in its place. It fails where something else was.
+pub fn make_missing(files: &impl Files<File = File>, folder: &str, found: Found) -> io::Result<()> {
+    match found {
+        Found::Folder => Ok(()),
+        Found::Absent => make_folders(files, folder),
+        _ => Err(refused()),
+    }
+}
+
 /// Makes the folders on the way to a file, where they aren't there. It fails where something else stands in the place of one.
 pub fn make_folders_to(files: &impl Files<File = File>, place: &str) -> io::Result<()> {
     let Some((folder, _)) = place.rsplit_once('/') else {
         return Ok(());
     };
-    match look(files, folder)? {
-        Found::Folder => Ok(()),
-        Found::Absent => make_folders(files, folder),
-        _ => Err(refused()),
-    }
+    make_missing(files, folder, look(files, folder)?)
 }
 
 /// Removes the folders below `top` on the way to a place, from the innermost on, up to the first that holds something.

@@ -10,8 +10,8 @@ use crate::home::Home;
 use crate::kept::{keep_file, keep_folder, put_away};
 use crate::modes::share_file;
 use crate::places::{
-    Found, entry_at, has_name, is_empty_folder, look, make_folders, refused, remove_empty_folders,
-    size_in_folder,
+    Found, entry_at, has_name, is_empty_folder, look, make_folders, make_missing, refused,
+    remove_empty_folders, size_in_folder,
 };
 use crate::run_log;
 use crate::trouble::{Faults, Trouble};
@@ -179,11 +179,7 @@ impl<'a, R: Files<File = File> + Alloc + Clock + Clone + Drop + Processes> RealS
         let Some((folder, _)) = place.rsplit_once('/') else {
             return Ok(());
         };
-        match self.look_around(around, place)? {
-            Found::Folder => Ok(()),
-            Found::Absent => make_folders(self.rt, folder),
-            _ => Err(refused()),
-        }
+        make_missing(self.rt, folder, self.look_around(around, place)?)
     }
 
     // One byte more than the limit shows that there is more. Room for 64 bytes more than there are shows the end of the file, and
