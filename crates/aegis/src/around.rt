@@ -6,12 +6,13 @@ use std::os::unix::fs::MetadataExt;
 use std::rt::Files;
 use std::{fs, io};
 
-// A folder to which no link leads, as each part of the way was looked at, and which folder it is on its device.
+// A folder to which no link leads, as each part of the way was looked at, which folder it is on its device, and its mode.
 #[derive(Drop)]
 struct Folder {
     place: String,
     device: u64,
     inode: u64,
+    mode: u32,
 }
 
 /// What is known of the folder around the last file.
@@ -38,23 +39,35 @@ impl Around {
                 place: String::from_str(alloc, place)?,
                 device: there.dev(),
                 inode: there.ino(),
+                mode: there.mode(),
             })),
             Err(e) if e.kind() == ErrorKind::NotFound => Ok(None),
             Err(e) => Err(e),
         }
     }
 
+    /// The mode of the folder that is known, as it was when that was looked at last.
+    pub fn mode(&self) -> Option<u32> {
+        match &self.folder {
+            Some(known) => Some(known.mode),
+            None => None,
+        }
+    }
+
     // Whether this is the folder that is known, and its name leads to the very same one still: then no part of the way has become a
     // link to another.
-    fn is_known(&self, files: &impl Files, place: &str) -> io::Result<bool> {
-        let Some(known) = &self.folder else {
+    fn is_known(&mut self, files: &impl Files, place: &str) -> io::Result<bool> {
+        let Some(known) = &mut self.folder else {
             return Ok(false);
         };
         if known.place.as_str() != place {
             return Ok(false);
         }
         match fs::symlink_metadata(files, place) {
-            Ok(there) => Ok(there.dev() == known.device && there.ino() == known.inode),
+            Ok(there) => {
+                known.mode = there.mode();
+                Ok(there.dev() == known.device && there.ino() == known.inode)
+            }
             Err(e) if e.kind() == ErrorKind::NotFound => Ok(false),
             Err(e) => Err(e),
         }

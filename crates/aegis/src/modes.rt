@@ -55,9 +55,9 @@ fn folder_around(place: &str) -> Option<&str> {
     None
 }
 
-// Gives a file or a folder that is open the mode. Where it has another one already, and isn't ours, it keeps that.
-fn give(file: &File, mode: u32) -> io::Result<()> {
-    if file.metadata()?.mode() & PERMISSIONS == mode {
+// Gives a file or a folder that is open, and has one mode, another. Where it isn't ours, it keeps the one that it has.
+fn give(file: &File, has: u32, mode: u32) -> io::Result<()> {
+    if has & PERMISSIONS == mode {
         return Ok(());
     }
     match file.set_permissions(Permissions::from_mode(mode)) {
@@ -77,7 +77,25 @@ pub fn share_file(
         return Ok(());
     };
     let folder = fs::symlink_metadata(files, around)?;
-    give(file, file_mode(is_program, folder.mode()))
+    give(
+        file,
+        file.metadata()?.mode(),
+        file_mode(is_program, folder.mode()),
+    )
+}
+
+/// The same of a file that has a mode, in a folder that has one, where both were just looked at.
+pub fn share_seen(
+    file: &File,
+    has: u32,
+    place: &str,
+    folder: u32,
+    is_program: bool,
+) -> io::Result<()> {
+    match folder_around(place) {
+        Some(_) => give(file, has, file_mode(is_program, folder)),
+        None => Ok(()),
+    }
 }
 
 /// The same of a folder that was just made at that place.
@@ -90,5 +108,5 @@ pub fn share_folder(files: &impl Files<File = File>, place: &str) -> io::Result<
         return Err(io::Error::from(ErrorKind::NotFound));
     }
     let folder = fs::symlink_metadata(files, around)?;
-    give(&made, folder_mode(folder.mode()))
+    give(&made, made.metadata()?.mode(), folder_mode(folder.mode()))
 }

@@ -1,6 +1,6 @@
 // What stands at a path. Each part of it is looked at before what it holds, so that no symbolic link is followed.
 use crate::modes::share_folder;
-use std::fs::File;
+use std::fs::{File, Metadata};
 use std::io::ErrorKind;
 use std::os::unix::fs::MetadataExt;
 use std::rt::Files;
@@ -98,7 +98,11 @@ pub fn is_empty_folder<R: Files + Alloc + Clone + Drop>(
 
 /// Whether the file that is open here is the one of that name.
 pub fn has_name(files: &impl Files, file: &File, place: &str) -> io::Result<bool> {
-    let held = file.metadata()?;
+    is_named(files, &file.metadata()?, place)
+}
+
+/// Whether the file of which this is known is the one of that name.
+pub fn is_named(files: &impl Files, held: &Metadata, place: &str) -> io::Result<bool> {
     match fs::symlink_metadata(files, place) {
         Ok(there) => Ok(there.dev() == held.dev() && there.ino() == held.ino()),
         Err(e) if e.kind() == ErrorKind::NotFound => Ok(false),

@@ -8,9 +8,9 @@ ghost use Rattle.aegis.specs.Runs.{HasNoEnd, IsExitOf, IsShell};
 use crate::around::Around;
 use crate::home::Home;
 use crate::kept::{keep_file, keep_folder, put_away};
-use crate::modes::share_file;
+use crate::modes::{share_file, share_seen};
 use crate::places::{
-    Found, entry_at, has_name, is_empty_folder, look, make_folders, make_missing, refused,
+    Found, entry_at, is_empty_folder, is_named, look, make_folders, make_missing, refused,
     remove_empty_folders, size_in_folder,
 };
 use crate::run_log;
@@ -20,7 +20,7 @@ use ae_outside::{Content, Dir, Exit, Failed, Site, SiteError};
 use std::alloc::{AllocError, Global};
 use std::fs::{File, OpenOptions};
 use std::io::{ErrorKind, Read, Write};
-use std::os::unix::fs::OpenOptionsExt;
+use std::os::unix::fs::{MetadataExt, OpenOptionsExt};
 use std::os::unix::process::ExitStatusExt;
 use std::process::{Command, ExitStatus, Processes, Stdio};
 use std::rt::{Clock, Files};
@@ -265,10 +265,14 @@ impl<'a, R: Files<File = File> + Alloc + Clock + Clone + Drop + Processes> RealS
             .create_new(true)
             .mode(if is_program { 0o777 } else { 0o666 })
             .open(self.rt, place)?;
-        if self.look_around(around, place)? != Found::Folder || !has_name(self.rt, &file, place)? {
+        let made = file.metadata()?;
+        if self.look_around(around, place)? != Found::Folder || !is_named(self.rt, &made, place)? {
             return Err(refused());
         }
-        share_file(self.rt, &file, place, is_program)?;
+        match around.mode() {
+            Some(folder) => share_seen(&file, made.mode(), place, folder, is_program)?,
+            None => share_file(self.rt, &file, place, is_program)?,
+        }
         file.write_all(bytes)
     }
 

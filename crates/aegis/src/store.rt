@@ -37,11 +37,12 @@ enum Standing {
     Open,
 }
 
-// The file that was read last, which is still open.
+// The file that was read last, which is still open, and its length when it was opened. It may have become longer.
 #[derive(Drop)]
 struct LastRead {
     name: String,
     file: File,
+    size: u64,
 }
 
 /// The store of a project. Where there is none it reads as empty, and the first write makes it. No file of it is touched before
@@ -214,10 +215,11 @@ impl<'a, R: Files<File = File> + Alloc + Clock + Clone + Drop + Eprint> Store<'a
             return Ok(());
         }
         self.last_read = None;
-        if self.size(name)? > 0 {
+        let size = self.size(name)?;
+        if size > 0 {
             let file = File::open(self.rt, self.place(name)?)?;
             let name = String::from_str(self.alloc, name)?;
-            self.last_read = Some(LastRead { name, file });
+            self.last_read = Some(LastRead { name, file, size });
         }
         Ok(())
     }
@@ -231,7 +233,12 @@ impl<'a, R: Files<File = File> + Alloc + Clock + Clone + Drop + Eprint> Store<'a
         let Some(last) = &self.last_read else {
             return Ok(bytes);
         };
-        let size = last.file.metadata()?.len();
+        let end = at.saturating_add(len as u64);
+        let size = if end <= last.size {
+            end
+        } else {
+            last.file.metadata()?.len()
+        };
         let there = size.saturating_sub(at).min(len as u64) as usize;
         bytes.try_reserve_exact(there)?;
         bytes.resize(there, 0)?;
@@ -261,6 +268,7 @@ impl<'a, R: Files<File = File> + Alloc + Clock + Clone + Drop + Eprint> Store<'a
         match self.found(name)? {
             Some(size) if len < size => {
                 self.keep_lock()?;
+                self.last_read = None;
                 let place = self.place(name)?;
                 let file = OpenOptions::new().write(true).open(self.rt, place)?;
                 file.set_len(len)
