@@ -176,7 +176,11 @@ pub(crate) fn carry<B: Disk>(alloc: Global, disk: &mut B) -> Result<Carried, Out
     ensures later { B.faults disk.old ≤ B.faults disk.new }
 {
     match open_project(alloc, disk, Want::All, None) {
-        Ok(state) => carry_of(alloc, disk, &state),
+        Ok(state) => {
+            let carried = carry_of(alloc, disk, &state);
+            drop(state);
+            carried
+        }
         Err(why) => Err(why),
     }
 }

@@ -94,7 +94,11 @@ fn bring<D: Disk, B: Disk>(
     ensures later { B.faults disk.old ≤ B.faults disk.new }
 {
     match take(alloc, trunk, carried) {
-        Ok(state) => plan_rows(alloc, name, &state, disk, carried.rows.as_slice()),
+        Ok(state) => {
+            let acts = plan_rows(alloc, name, &state, disk, carried.rows.as_slice());
+            drop(state);
+            acts
+        }
         Err(why) => Err(why),
     }
 }

@@ -10,7 +10,7 @@ ghost use Rattle.ae_bundle.specs.Bundled.{Fits};
 ghost use Rattle.ae_lines.specs.Acts.{MayBeDone};
 ghost use Rattle.ae_lines.specs.declared.act.Act.{Act};
 ghost use Rattle.ae_outside.specs.State.{reads};
-ghost use Rattle.ae_text.specs.Tree.{fields};
+ghost use Rattle.ae_text.specs.Tree.{fields, str};
 ghost use Rattle.ae_text.specs.View.{members_of, named_node, node};
 ghost use Rattle.ae_types.specs.Ordered.{Ascends, itself};
 ghost use Rattle.ae_types.specs.Phases.{is_remove};
@@ -66,16 +66,37 @@ fn structure_of(members: Vec<Field>) -> Tree
     Tree::Fields(FieldList::of(members))
 }
 
+// Puts a field of this name, whose value is a string, after the others.
+fn put_string(
+    alloc: Global,
+    members: &mut Vec<Field>,
+    name: &[u8],
+    text: &[u8],
+) -> Result<(), AllocError>
+    ensures { OnOk result (map named_node members.new.items ≡ map named_node members.old.items ++ (name.now, str text.now) ∷ []) }
+{
+    let value = Tree::string(alloc, text)?;
+    Ok(members.push(Field::of(alloc, name, value)?)?)
+}
+
 // What stands in that file.
 fn attributes_tree(alloc: Global, bundle: &Bundle) -> Result<Tree, AllocError>
     ensures { IfOk result (λ tree. node tree ≡ fields (attributes_of bundle.now)) }
 {
-    let brief = Tree::string(alloc, bundle.brief.bytes())?;
-    let description = Tree::string(alloc, bundle.description.bytes())?;
-    let cause = Tree::word(alloc, bundle.cause.word().as_bytes())?;
     let mut members = Vec::new(alloc);
-    members.push(Field::of(alloc, b"brief_description", brief)?)?;
-    members.push(Field::of(alloc, b"description", description)?)?;
+    put_string(
+        alloc,
+        &mut members,
+        b"brief_description",
+        bundle.brief.bytes(),
+    )?;
+    put_string(
+        alloc,
+        &mut members,
+        b"description",
+        bundle.description.bytes(),
+    )?;
+    let cause = Tree::word(alloc, bundle.cause.word().as_bytes())?;
     members.push(Field::of(alloc, b"cause", cause)?)?;
     Ok(structure_of(members))
 }
@@ -364,7 +385,11 @@ pub fn plan<D: Disk>(
     ensures later { D.faults disk.old ≤ D.faults disk.new }
 {
     match open_project(alloc, disk, Want::Nothing, project) {
-        Ok(state) => plan_on(alloc, &state, bundle),
+        Ok(state) => {
+            let acts = plan_on(alloc, &state, bundle);
+            drop(state);
+            acts
+        }
         Err(why) => Err(why),
     }
 }

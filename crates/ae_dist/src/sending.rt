@@ -92,7 +92,11 @@ fn find<D: Disk>(
     ensures later { D.faults disk.old ≤ D.faults disk.new }
 {
     match open_project(alloc, disk, Want::One(change), project) {
-        Ok(state) => sendable(alloc, &state, change),
+        Ok(state) => {
+            let found = sendable(alloc, &state, change);
+            drop(state);
+            found
+        }
         Err(why) => Err(why),
     }
 }

@@ -12,8 +12,27 @@ use crate::integration::set_integrator;
 use crate::phases::{phase_after, word_of};
 use crate::runs::row_of_run;
 use crate::{Event, EventKind};
-use ae_types::{Change, HistoryRow, TryCopy, note_run};
+use ae_base::User;
+use ae_types::{Change, ChangeAttributes, HistoryRow, TryCopy, note_run};
 use std::alloc::{AllocError, Global};
+
+fn set_attributes(change: &mut Change, attributes: ChangeAttributes)
+    ensures { change.new ≡ record change.old { attributes = attributes } }
+{
+    change.attributes = attributes;
+}
+
+fn set_reviewing(change: &mut Change, reviewing: Option<User>)
+    ensures { change.new ≡ record change.old { reviewing = reviewing } }
+{
+    change.reviewing = reviewing;
+}
+
+fn set_reviewer(change: &mut Change, reviewer: Option<User>)
+    ensures { change.new ≡ record change.old { reviewer = reviewer } }
+{
+    change.reviewer = reviewer;
+}
 
 // What an event makes of its change, but for its phase and history.
 fn change_parts(
@@ -26,7 +45,7 @@ fn change_parts(
     ensures { OnOk result (change.new ≡ changed next event.now event.now.what change.old) }
 {
     match &event.what {
-        EventKind::ChangeAttributes(attributes) => change.attributes = attributes.copy(alloc)?,
+        EventKind::ChangeAttributes(attributes) => set_attributes(change, attributes.copy(alloc)?),
         EventKind::Begin => set_developer(alloc, change, Some(event.who.copy(alloc)?)),
         EventKind::BeginUndo => set_developer(alloc, change, None),
         EventKind::File(path, action, usage, origin) => {
@@ -36,10 +55,10 @@ fn change_parts(
         EventKind::Run(run) => note_run(alloc, change, row_of_run(alloc, event, run)?)?,
         EventKind::End(tree, _, places) => end_development(alloc, change, next, tree, places),
         EventKind::EndUndo | EventKind::Fail => send_back(alloc, change),
-        EventKind::ReviewBegin => change.reviewing = Some(event.who.copy(alloc)?),
-        EventKind::ReviewBeginUndo => change.reviewing = None,
-        EventKind::Pass => change.reviewer = Some(event.who.copy(alloc)?),
-        EventKind::PassUndo => change.reviewer = None,
+        EventKind::ReviewBegin => set_reviewing(change, Some(event.who.copy(alloc)?)),
+        EventKind::ReviewBeginUndo => set_reviewing(change, None),
+        EventKind::Pass => set_reviewer(change, Some(event.who.copy(alloc)?)),
+        EventKind::PassUndo => set_reviewer(change, None),
         EventKind::IBegin => set_integrator(alloc, change, Some(event.who.copy(alloc)?)),
         EventKind::IBeginUndo => set_integrator(alloc, change, None),
         EventKind::IPass => thaw(alloc, change),

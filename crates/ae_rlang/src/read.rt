@@ -10,7 +10,7 @@ ghost use Rattle.ae_rlang.specs.Steps.{lexemes_seen, state_seen, token_of};
 
 use crate::report::{Report, StatementList};
 use crate::scan::lexemes;
-use crate::statement::{Body, State, Stop, started, step};
+use crate::statement::{Around, Body, State, Stop, started, step};
 use crate::token::{Lexeme, Mark, Token};
 use ae_base::Text;
 use std::alloc::{AllocError, Global};
@@ -83,10 +83,21 @@ fn finished(state: State) -> Result<Report, ReadReportError>
     ensures same { IfOk result (λ report. deeds report.statements ≡ deeds_of (state_seen state).around.body.deeds) }
     ensures bad { (line : ℕ) → result ≡ Err (ReadReportError.Bad line) → (state_seen state).around.body.bad ≡ Some line }
 {
-    let State { around, place: _ } = state;
-    let Body { statements, bad } = around.body;
+    let State { around, place } = state;
+    drop(place);
+    let Around {
+        bound,
+        blocks,
+        body,
+    } = around;
+    drop(bound);
+    drop(blocks);
+    let Body { statements, bad } = body;
     match bad {
-        Some(line) => Err(ReadReportError::Bad(line)),
+        Some(line) => {
+            drop(statements);
+            Err(ReadReportError::Bad(line))
+        }
         None => Ok(Report {
             statements: StatementList::of(statements),
         }),

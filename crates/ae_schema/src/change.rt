@@ -169,10 +169,16 @@ fn read_printed(alloc: Global, bytes: &[u8]) -> Result<Option<Change>, AllocErro
         return Ok(None);
     };
     let change = change_of(fields);
-    if are_printed(alloc, &change, bytes)? {
-        Ok(Some(change))
-    } else {
-        Ok(None)
+    match are_printed(alloc, &change, bytes) {
+        Ok(true) => Ok(Some(change)),
+        Ok(false) => {
+            drop(change);
+            Ok(None)
+        }
+        Err(error) => {
+            drop(change);
+            Err(error)
+        }
     }
 }
 

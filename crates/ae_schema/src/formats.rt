@@ -74,7 +74,10 @@ pub fn read_format(alloc: Global, bytes: &[u8]) -> Result<u64, SchemaError>
     ensures only_field { (line : ℕ) → HasNoFormat bytes.now line → IsRefusal line result }
 {
     match read_printed(alloc, bytes) {
-        Ok(Some(_)) => Ok(Format::Two.number()),
+        Ok(Some(printed)) => {
+            drop(printed);
+            Ok(Format::Two.number())
+        }
         Ok(None) => read_any_text(alloc, bytes),
         Err(_) => Err(SchemaError::Memory),
     }

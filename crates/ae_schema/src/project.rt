@@ -333,11 +333,17 @@ pub(crate) fn read_printed(
     let Some(fields) = guess_record::<ProjectFields<FormatTwo>>(alloc, &FIELD_NAMES, bytes)? else {
         return Ok(None);
     };
-    let (project, numbers) = project_of(fields);
-    if are_printed(alloc, &project, numbers.as_slice(), bytes)? {
-        Ok(Some((project, numbers)))
-    } else {
-        Ok(None)
+    let project = project_of(fields);
+    match are_printed(alloc, &project.0, project.1.as_slice(), bytes) {
+        Ok(true) => Ok(Some(project)),
+        Ok(false) => {
+            drop(project);
+            Ok(None)
+        }
+        Err(error) => {
+            drop(project);
+            Err(error)
+        }
     }
 }
 

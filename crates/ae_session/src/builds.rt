@@ -39,7 +39,11 @@ fn next_builds(
         Err(LineError::Memory) => return Err(AllocError),
     };
     match read_line(alloc, &text) {
-        Ok(Some(line)) => Ok(Some(builds_in(&line))),
+        Ok(Some(line)) => {
+            let count = builds_in(&line);
+            drop(line);
+            Ok(Some(count))
+        }
         Ok(None) => Ok(None),
         Err(error) => Err(error),
     }

@@ -1,11 +1,13 @@
 // What the generator tells of the project that it made.
-ghost use Rattle.std.specs.Prelude.{◌≡◌, ◌++◌, IfOk, OnOk, min};
+ghost use Rattle.std.specs.Prelude.{◌≡◌, ◌++◌, IfOk, OnOk, codes, min};
+ghost use Rattle.hex.specs.Hex.{encode_lower};
+ghost use Rattle.ae_evidence.specs.Digest.{digest_rows};
 ghost use Rattle.ae_session.specs.Summary.{number_line, bytes_of, most_told, summary_text};
 
 use ae_evidence::{digest_rows, digest_text};
 use ae_files::tree_at;
 use ae_machine::last_delta;
-use ae_types::{State, TreeRow};
+use ae_types::{State, TreeRow, TreeRows};
 use itoa::Buffer;
 use std::alloc::{AllocError, Global};
 
@@ -31,6 +33,16 @@ fn put_number(text: &mut Vec<u8>, name: &str, number: u64) -> Result<(), AllocEr
     text.extend_from_slice(b"\n")
 }
 
+// The line of the digest of these files is put at the end.
+fn put_digest(alloc: Global, text: &mut Vec<u8>, files: &TreeRows) -> Result<(), AllocError>
+    ensures { OnOk result (text.new.items ≡ text.old.items ++ (codes "digest " ++ (encode_lower (digest_rows files.now) ++ codes "\n"))) }
+{
+    let digest = digest_text(alloc, &digest_rows(files))?;
+    text.extend_from_slice(b"digest ")?;
+    text.extend_from_slice(digest.bytes())?;
+    text.extend_from_slice(b"\n")
+}
+
 /// The lines on a project and its baseline, and on how many runs were made.
 pub(crate) fn summary(alloc: Global, state: &State, runs: u64) -> Result<Vec<u8>, AllocError>
     ensures { IfOk result (λ text. text.items ≡ summary_text state.now runs) }
@@ -42,9 +54,6 @@ pub(crate) fn summary(alloc: Global, state: &State, runs: u64) -> Result<Vec<u8>
     put_number(&mut text, "files", files.len() as u64)?;
     put_number(&mut text, "bytes", bytes_of(files.as_slice()))?;
     put_number(&mut text, "runs", runs)?;
-    let digest = digest_text(alloc, &digest_rows(&files))?;
-    text.extend_from_slice(b"digest ")?;
-    text.extend_from_slice(digest.bytes())?;
-    text.extend_from_slice(b"\n")?;
+    put_digest(alloc, &mut text, &files)?;
     Ok(text)
 }

@@ -28,12 +28,12 @@ returns-clause-answer g c = λ t.
     let here : Image = files_by c.in_ok-redo.redo.items image in
     let files_is : files_by c.deref.result.now (reads (g.D.Disk.state c.read_redo.new.disk)) ≡ here = λ i. files_by (c.deref.ensures.value i) (reads_same i) in
     let pack_is : files_by c.deref-2.result.now (reads (g.D.Disk.state c.load.new.disk)) pack_file ≡ here pack_file = λ i. files_by (c.deref-2.ensures.value i) (later_same i) pack_file in
-    state-ends image here c.in_ok-state.state c.certificates_of.result (c.in_ok-redo.ensures.redo t)
+    state-ends image here c.in_ok-state.state c.certificates_of-rows.result (c.in_ok-redo.ensures.redo t)
     (subst (λ (files : Image). StandsFor files (Some c.in_ok-state.state)) files_is (c.in_ok-state.ensures.loaded t))
-    (subst (λ (packed : List ℕ). MayStopOn packed c.in_ok-state.state c.certificates_of.result) pack_is (c.certificates_of.ensures.answer t))
+    (subst (λ (packed : List ℕ). MayStopOn packed c.in_ok-state.state c.certificates_of-rows.result) pack_is (c.certificates_of-rows.ensures.answer t))
 
 pub returns-clause-change : goal.returns-clause-change
-returns-clause-change g c = λ t. same_on _ _ _ (same_on _ _ _ (c.read_redo.ensures.change t) (c.load.ensures.change t)) (c.certificates_of.ensures.change t)
+returns-clause-change g c = λ t. same_on _ _ _ (same_on _ _ _ (c.read_redo.ensures.change t) (c.load.ensures.change t)) (c.certificates_of-rows.ensures.change t)
 
 pub returns-clause-cause : goal.returns-clause-cause
-returns-clause-cause g c = counted_on _ _ _ _ _ (le_trans c.read_redo.ensures.cause.later c.load.ensures.cause.later) (λ fault. fault) c.certificates_of.ensures.cause
+returns-clause-cause g c = counted_on _ _ _ _ _ (le_trans c.read_redo.ensures.cause.later c.load.ensures.cause.later) (λ fault. fault) c.certificates_of-rows.ensures.cause

@@ -14,12 +14,12 @@ returns-in-Ok-clause-answer g c =
     let trunk = reads (g.D.Disk.state c.args.trunk.now) in
     let branch = reads (g.B.Disk.state c.args.disk.now) in
     let rows_are : c.as_slice.result.now ≡ c.args.carried.now.rows = search rules in
-    let answers : AnswersAs g.B.Disk.tells (PlansRows c.args.name.now c.in-Ok.state branch c.args.carried.now.rows) (HasRisen (g.B.Disk.faults c.args.disk.now) (g.B.Disk.faults c.plan_rows.new.disk)) c.plan_rows.result =
-    subst (λ (rows : List Row). AnswersAs g.B.Disk.tells (PlansRows c.args.name.now c.in-Ok.state branch rows) (HasRisen (g.B.Disk.faults c.args.disk.now) (g.B.Disk.faults c.plan_rows.new.disk)) c.plan_rows.result) rows_are c.plan_rows.ensures.answer in
-    goes_next (g.D.Disk.tells × g.B.Disk.tells) (Takes trunk c.args.carried.now) (λ (o : Observation). PlansRows c.args.name.now o branch c.args.carried.now.rows) (HasRisen (g.B.Disk.faults c.args.disk.now) (g.B.Disk.faults c.plan_rows.new.disk)) _
-    (λ rose. inr rose) c.in-Ok.state (λ told. found_first g.D.Disk.tells (Takes trunk c.args.carried.now) (HasRisen (g.D.Disk.faults c.args.trunk.now) (g.D.Disk.faults c.take.new.disk)) c.in-Ok.state c.in-Ok.ensures.answer told.0) c.plan_rows.result
+    let answers : AnswersAs g.B.Disk.tells (PlansRows c.args.name.now c.in-Ok.state branch c.args.carried.now.rows) (HasRisen (g.B.Disk.faults c.args.disk.now) (g.B.Disk.faults c.plan_rows-acts.new.disk)) c.plan_rows-acts.result =
+    subst (λ (rows : List Row). AnswersAs g.B.Disk.tells (PlansRows c.args.name.now c.in-Ok.state branch rows) (HasRisen (g.B.Disk.faults c.args.disk.now) (g.B.Disk.faults c.plan_rows-acts.new.disk)) c.plan_rows-acts.result) rows_are c.plan_rows-acts.ensures.answer in
+    goes_next (g.D.Disk.tells × g.B.Disk.tells) (Takes trunk c.args.carried.now) (λ (o : Observation). PlansRows c.args.name.now o branch c.args.carried.now.rows) (HasRisen (g.B.Disk.faults c.args.disk.now) (g.B.Disk.faults c.plan_rows-acts.new.disk)) _
+    (λ rose. inr rose) c.in-Ok.state (λ told. found_first g.D.Disk.tells (Takes trunk c.args.carried.now) (HasRisen (g.D.Disk.faults c.args.trunk.now) (g.D.Disk.faults c.take.new.disk)) c.in-Ok.state c.in-Ok.ensures.answer told.0) c.plan_rows-acts.result
     (answers_as g.B.Disk.tells (g.D.Disk.tells × g.B.Disk.tells) (PlansRows c.args.name.now c.in-Ok.state branch c.args.carried.now.rows) (PlansRows c.args.name.now c.in-Ok.state branch c.args.carried.now.rows) _ _ (λ told. told.1)
-    (λ told said is. is) (λ rose. rose) c.plan_rows.result answers)
+    (λ told said is. is) (λ rose. rose) c.plan_rows-acts.result answers)
 
 pub returns-in-Err-clause-answer : goal.returns-in-Err-clause-answer
 returns-in-Err-clause-answer g c =

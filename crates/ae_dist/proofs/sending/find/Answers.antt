@@ -7,8 +7,8 @@ use Rattle.ae_dist.proofs.sending.find.Goals as goal
 
 pub returns-in-Ok-clause-answer : goal.returns-in-Ok-clause-answer
 returns-in-Ok-clause-answer g c =
-    found_as g.D.Disk.tells (reads (g.D.Disk.state c.args.disk.now)) (option_copied c.args.project) c.args.change c.in-Ok.state (HasRisen (g.D.Disk.faults c.args.disk.now) (g.D.Disk.faults c.open_project.new.disk)) c.sendable.result
-    c.in-Ok.ensures.answer c.sendable.ensures.answer
+    found_as g.D.Disk.tells (reads (g.D.Disk.state c.args.disk.now)) (option_copied c.args.project) c.args.change c.in-Ok.state (HasRisen (g.D.Disk.faults c.args.disk.now) (g.D.Disk.faults c.open_project.new.disk)) c.sendable-found.result
+    c.in-Ok.ensures.answer c.sendable-found.ensures.answer
 
 pub returns-in-Err-clause-answer : goal.returns-in-Err-clause-answer
 returns-in-Err-clause-answer g c =

@@ -3,8 +3,8 @@ use Rattle.ae_log.proofs.altering.change_parts.Goals as goal
 
 -- ---- where memory runs out
 
-pub returns-in_err-change-in-ChangeAttributes : goal.returns-in_err-change-in-ChangeAttributes
-returns-in_err-change-in-ChangeAttributes c = on_ok_of_err c.from_residual.result _ _ c.from_residual.ensures.1
+pub returns-in_err-copy-in-ChangeAttributes : goal.returns-in_err-copy-in-ChangeAttributes
+returns-in_err-copy-in-ChangeAttributes c = on_ok_of_err c.from_residual.result _ _ c.from_residual.ensures.1
 
 pub returns-in_err-copy-in-Begin : goal.returns-in_err-copy-in-Begin
 returns-in_err-copy-in-Begin c = on_ok_of_err c.from_residual-in_err-copy-in-Begin.result _ _ c.from_residual-in_err-copy-in-Begin.ensures.1
