@@ -1,5 +1,9 @@
 -- The examples of provenance, by computing.
-use Rattle.std.proofs.Common.{zero, suc, ◌<◌, refl, sym, ap, subst, arith, [], ◌∷◌, Option, Some, None, length, ◌++◌}
+use Rattle.ae_base.specs.declared.words.Usage.TheVariants as usage
+use Rattle.ae_log.specs.Files.{FileFact, file}
+use Rattle.ae_machine.specs.Updates.{ReplacesItsOrigin}
+use Rattle.ae_laws.proofs.ExampleUpdates.{first-of}
+use Rattle.std.proofs.Common.{zero, suc, ◌<◌, refl, sym, ap, subst, arith, [], ◌∷◌, Option, Some, None, length, ◌++◌, ◌≡◌, ℕ, List}
 use Rattle.std.specs.Prelude.{All, IsSomeAnd, nat_eq}
 use Rattle.std.specs.Option.{option_eq}
 use Rattle.std.specs.Str.{bytes_eq}
@@ -16,7 +20,7 @@ use Rattle.ae_log.specs.Applies.{is_awaiting_integration}
 use Rattle.ae_log.specs.Observed.{change_with}
 use Rattle.ae_log.specs.Runs.{same_rows}
 use Rattle.ae_machine.specs.Attributes.{first_attributes, first_change_attributes}
-use Rattle.ae_laws.specs.Examples.{first_baseline, passed_by_developer, passed_by_anybody, ended_after_pass, left_unclean, not_built, begun_again, without_test, waived_baseline, waived_unset, waived_and_passed, ended_waived, waiving, begun, change_event, project_event, ann, developed, integrated, files, test_file, cal}
+use Rattle.ae_laws.specs.Examples.{first_baseline, passed_by_developer, passed_by_anybody, ended_after_pass, left_unclean, not_built, begun_again, without_test, waived_baseline, waived_unset, waived_and_passed, ended_waived, waiving, begun, change_event, project_event, ann, developed, integrated, files, test_file, cal, dee, bob, added, config_file}
 use Rattle.ae_machine.specs.Provenance.{HasRun, IsReview, IsReviewed, Provenance, waives, latest_run, values_in}
 use Rattle.ae_machine.specs.Verdict.{next_phase}
 use Rattle.ae_laws.proofs.ExampleCommands.{gives}
@@ -59,12 +63,35 @@ cal-reviewed = record { last = refl; by_reviewer = refl; apart = λ same. absurd
 was-reviewed : IsReviewed (course before 10)
 was-reviewed = record { waived = λ w. absurd (false≢true w); passed = λ n. cal-reviewed; apart = λ pass is. subst (IsReview (course before 10)) (same_Some the_pass pass is) cal-reviewed }
 
+abbrev first_config : Happened
+first_config = record { event = change_event bob (added config_file usage.Config); before = begun }
+
+abbrev first_test : Happened
+first_test = record { event = change_event bob (added test_file usage.Test); before = first_config.event ∷ begun }
+
+first-updates : (path : List ℕ) (fact : FileFact) → file (course before 10) path ≡ Some fact → ReplacesItsOrigin before 10 path fact
+first-updates path fact f =
+    let is = first-of before path fact first_test first_config (record { past = refl; baseline = refl }) (record { past = refl; baseline = refl })
+    (λ made e. ap (λ (x : FileFact). x.origin) (sym (same_Some _ made e))) (λ made e. ap (λ (x : FileFact). x.origin) (sym (same_Some _ made e))) (bytes_eq path test_file) (bytes_eq path config_file) f in
+    record { origin = is.origin; untouched = is.untouched; new = λ creates. refl }
+
 pub is-provided : Provenance first_baseline
 is-provided = (
   record {
     runs = both WasRun build test was-built was-tested;
     tests = λ needed none. absurd (false≢true (ap (λ tests. nat_eq (length tests) 0) none));
     review = was-reviewed;
+    people = record {
+      developed = record { what = refl; by_developer = refl };
+      integrated = record {
+        what = refl;
+        same_user = refl;
+        by_integrator = refl;
+        not_developer = λ same. absurd (false≢true (ap (λ who. option_eq bytes_eq who (Some dee)) same));
+        not_reviewer = λ same. absurd (false≢true (ap (λ who. option_eq bytes_eq who (Some dee)) same));
+      };
+    };
+    updates = first-updates;
     baseline = refl;
   },
   (tt, (tt, (tt, (tt, (tt, (tt, (tt, (tt, (tt, (tt, (tt, (tt, (tt, (tt, (tt, (tt, tt)))))))))))))))),
@@ -111,12 +138,35 @@ built-waived = record { command = gives (values_in before_waived 10 build) kind.
 tested-waived : RanWaived test
 tested-waived = record { command = gives (values_in before_waived 10 test) kind.Test; status = refl; before = refl; after = refl }
 
+abbrev waived_config : Happened
+waived_config = record { event = change_event bob (added config_file usage.Config); before = (project_event ann waiving ∷ begun) }
+
+abbrev waived_test : Happened
+waived_test = record { event = change_event bob (added test_file usage.Test); before = waived_config.event ∷ (project_event ann waiving ∷ begun) }
+
+waived-updates : (path : List ℕ) (fact : FileFact) → file (course before_waived 10) path ≡ Some fact → ReplacesItsOrigin before_waived 10 path fact
+waived-updates path fact f =
+    let is = first-of before_waived path fact waived_test waived_config (record { past = refl; baseline = refl }) (record { past = refl; baseline = refl })
+    (λ made e. ap (λ (x : FileFact). x.origin) (sym (same_Some _ made e))) (λ made e. ap (λ (x : FileFact). x.origin) (sym (same_Some _ made e))) (bytes_eq path test_file) (bytes_eq path config_file) f in
+    record { origin = is.origin; untouched = is.untouched; new = λ creates. refl }
+
 pub is-waived : Provenance waived_baseline
 is-waived = (
   record {
     runs = both RanWaived build test built-waived tested-waived;
     tests = λ needed none. absurd (false≢true (ap (λ tests. nat_eq (length tests) 0) none));
     review = record { waived = λ w. record { last = refl; set = refl }; passed = λ n. absurd (false≢true (sym n)); apart = λ pass is. none-some pass is };
+    people = record {
+      developed = record { what = refl; by_developer = refl };
+      integrated = record {
+        what = refl;
+        same_user = refl;
+        by_integrator = refl;
+        not_developer = λ same. absurd (false≢true (ap (λ who. option_eq bytes_eq who (Some dee)) same));
+        not_reviewer = λ same. absurd (false≢true (ap (λ who. option_eq bytes_eq who (Some dee)) same));
+      };
+    };
+    updates = waived-updates;
     baseline = refl;
   },
   (tt, (tt, (tt, (tt, (tt, (tt, (tt, (tt, (tt, (tt, (tt, (tt, (tt, (tt, (tt, (tt, tt)))))))))))))))),

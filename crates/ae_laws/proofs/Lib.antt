@@ -9,3 +9,12 @@ pub mod ReversedEnd
 pub mod Reversed
 pub mod ExampleCommands
 pub mod ExampleLogs
+pub mod Lasting
+mod TextsRead
+mod TextsKept
+mod Totals
+mod Released
+pub mod Sizes
+mod ExamplePeople
+mod ProvidedTold
+mod ExampleUpdates

@@ -9,13 +9,18 @@ ghost use Rattle.ae_machine.specs.Accepted.{AcceptedApply, AcceptedStarts, Accep
 ghost use Rattle.ae_machine.specs.Call.{Placing};
 ghost use Rattle.ae_machine.specs.Evident.{LegalIsEvident};
 ghost use Rattle.ae_laws.specs.Examples.{first_baseline, passed_by_developer, passed_by_anybody, ended_after_pass, left_unclean, not_built, begun_again, without_test, waived_and_passed, waived_baseline, waived_unset};
+ghost use Rattle.ae_laws.specs.Examples.{added_before, created_twice, developed_by_anybody, developer_let, integrated_by_anybody, integrated_by_developer, integrated_by_reviewer, passed_by_other, update_lost};
 ghost use Rattle.ae_machine.specs.Facts.{LegalHasFacts};
 ghost use Rattle.ae_machine.specs.Laws.{LegalIsSound, LegalIsProvided, Reverses};
 ghost use Rattle.ae_machine.specs.Partly.{PartsAnswer, PartsAreCalled, PartsAreFollowed};
 ghost use Rattle.ae_machine.specs.Provenance.{Provenance};
 ghost use Rattle.ae_machine.specs.Released.{LegalIsReleased};
 ghost use Rattle.ae_machine.specs.Rules.{PathsWithRule, PathsEverRule, CandidateRule, BaseTreeRule};
+ghost use Rattle.ae_laws.specs.Current.{LegalLosesNone, LosesNone};
+ghost use Rattle.ae_laws.specs.Integrators.{ArePeopleRight, LegalHasPeople};
+ghost use Rattle.ae_laws.specs.Lasting.{DeltasLast};
 ghost use Rattle.ae_laws.specs.Reasons.{ReasonsAreTold};
+ghost use Rattle.ae_laws.specs.Sizes.{LegalHasSizes};
 ghost use Rattle.ae_laws.specs.Statuses.{LegalHasStatuses};
 ghost use Rattle.ae_machine.specs.TypedPaths.{LegalHasPaths, PathsAskedAre};
 ghost use Rattle.ae_machine.specs.Verdict.{refused_before, verdict};
@@ -131,4 +136,46 @@ pub fn parts_are_answered()
 /// What the events of an accepted command make of the part that it looks at is the part of what they make of the whole.
 pub fn parts_are_followed()
     ensures { PartsAreFollowed }
+{}
+
+/// A released baseline never changes: whatever follows a log, each delta that it has keeps its files, with their usages, versions
+/// and bytes, and who made it and when.
+pub fn deltas_last()
+    ensures { DeltasLast }
+{}
+
+/// Nobody releases alone, unless the settings say so: who passes an integration began it, was an integrator then, and another than
+/// the developer and the reviewer of the change, unless the settings let these integrate; and a developer developed it.
+pub fn legal_logs_have_people()
+    ensures { LegalHasPeople }
+{}
+
+/// No update is lost: at each integration that passes a file of the change began from the edit that its path has, no delta has
+/// changed the path since the file was added to the change, and where the file is new the baseline has none.
+pub fn legal_logs_lose_none()
+    ensures { LegalLosesNone }
+{}
+
+/// After a legal log the texts of each change have at most 65,536 bytes each; and a completed change has a delta and a file, and what
+/// the delta made of its files has at most 67,108,864 bytes together.
+pub fn legal_logs_have_sizes()
+    ensures { LegalHasSizes }
+{}
+
+/// What these laws ask is decided by value. A first baseline has the right people, and so has one that its developer integrates, as the
+/// settings let him. They aren't right where another passes it than who began its integration, or who is no integrator; where its
+/// developer integrates it, or its reviewer, though the settings don't let them; or where somebody developed it who is no developer.
+/// An update is lost where a file began from an older edit, or from what the path had before a delta changed it, or where the baseline
+/// has a file that is created.
+pub fn people_and_updates_are_decided_by_value()
+    ensures first { ArePeopleRight first_baseline }
+    ensures settings { ArePeopleRight developer_let }
+    ensures other { ArePeopleRight passed_by_other → ⊥ }
+    ensures anybody { ArePeopleRight integrated_by_anybody → ⊥ }
+    ensures developer { ArePeopleRight integrated_by_developer → ⊥ }
+    ensures reviewer { ArePeopleRight integrated_by_reviewer → ⊥ }
+    ensures developed { ArePeopleRight developed_by_anybody → ⊥ }
+    ensures origin { LosesNone update_lost → ⊥ }
+    ensures touched { LosesNone added_before → ⊥ }
+    ensures created { LosesNone created_twice → ⊥ }
 {}

@@ -1,8 +1,6 @@
 -- Where a file of the baseline comes from: its row of the file table, the delta, and the integration that made it.
 use Rattle.std.specs.Prelude.{◌≡◌, ℕ, ◌+◌, List, [], ◌∷◌, Option, Some, None, if◌then◌else◌, length, nat_eq}
-use Rattle.std.specs.List.{find}
 use Rattle.std.specs.Option.{option_and_then}
-use Rattle.std.specs.Str.{bytes_eq}
 use Rattle.ae_types.specs.declared.file_table.FileRow.{FileRow}
 use Rattle.ae_types.specs.declared.file_table.FileVersion.{FileVersion}
 use Rattle.ae_types.specs.declared.project.DeltaRow.{DeltaRow}
@@ -19,10 +17,7 @@ use Rattle.ae_log.specs.Observed.{observation}
 use Rattle.ae_machine.specs.Evident.{EvidentAt}
 use Rattle.ae_machine.specs.Legal.{Legal}
 use Rattle.ae_machine.specs.Provenance.{ProvidedAt}
-
--- the file of a path
-abbrev pub file_of : List TreeFile → List ℕ → Option TreeFile
-file_of files path = find (λ (file : TreeFile). bytes_eq path file.path) files
+pub use Rattle.ae_machine.specs.Updates.{file_of}
 
 abbrev pub pass_after : Event → Log → ℕ → Option Happened → Option ℕ → EventKind → Option Happened
 pass_after event log delta earlier (Some number) on.IPass = if nat_eq delta (length (deltas log) + 1) then Some (record { event = event; before = log }) else earlier
