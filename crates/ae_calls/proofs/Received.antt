@@ -7,6 +7,7 @@ use Rattle.ae_base.specs.declared.refusal.Refusal.{Refusal}
 use Rattle.ae_base.specs.declared.want.Want.TheVariants.{Nothing}
 use Rattle.ae_bundle.specs.declared.bundle.Bundle.{Bundle}
 use Rattle.ae_dist.specs.Answers.{Plans}
+use Rattle.ae_dist.specs.Plan.{free_number}
 use Rattle.ae_dist.specs.Receiving.{IsReceived, IsUnread, not_understood, source_fault}
 use Rattle.ae_dist.specs.Receiving as receiving
 use Rattle.ae_exec.specs.Endings.{EndsAs}
@@ -26,9 +27,10 @@ use Rattle.ae_script.specs.Uses.{Disks, Sites, SourceUse, Streams, read_from, wr
 use Rattle.ae_script.specs.declared.manner.Manner.{Manner}
 use Rattle.ae_script.specs.declared.manner.Manner.TheVariants.{Plan}
 use Rattle.ae_script.proofs.Telling.{meant_done}
-use Rattle.ae_session.specs.Called.{Asked, CallDone, IsAsked, ReceiveDone, planned, unplanned, unread}
+use Rattle.ae_session.specs.Called.{IsAsked, ReceiveDone, planned, start, unplanned, unread}
 use Rattle.ae_session.specs.Called as asking
-use Rattle.ae_session.specs.Request.{AsksForReceiving}
+use Rattle.ae_session.specs.Devices.{Standard, Workspace, err_use}
+use Rattle.ae_session.specs.Request.{Asked, AsksForReceiving}
 use Rattle.ae_telling.specs.Answered.{IsMeant, IsWhyTold}
 use Rattle.ae_telling.specs.Telling.{SinkUse}
 use Rattle.ae_types.specs.Observation.{Observation}
@@ -108,6 +110,7 @@ module _ (d : Disks) (s : Sites) (i o e : Streams) (from : Stand d s) (disk : d.
         stood = stood.0;
         stands = stood.1;
         number = made.is.number;
+        free = sym (ap free_number stood.2) ∙ made.is.free;
         received = logged-as-sent d s e stood.0 made.is.number bundle acts plan from begun (stand d s from.who from.now disk site) look.same err err_new Done did refl shown held log holds.holds.legal stood.1 logged;
       }
 
@@ -117,21 +120,25 @@ module _ (d : Disks) (s : Sites) (i o e : Streams) (from : Stand d s) (disk : d.
   received-so name _ _ (unplanned bundle why received none look site_is why_told) logged = absurd (why-not-done why (written_from e err err_new) (failed-not-done _ _ _ why none.caused) why_told)
   received-so name _ _ (planned bundle begun acts received look plans did) logged = planned-as-sent name bundle begun acts received look plans did logged
 
-  module _ (asked : Asked) (name : Option (List ℕ)) (asks : AsksForReceiving asked.words asked.who asked.now name) where
-    asked-so : (manner : Manner) (begun : Stand d s) (done : List (Did d s)) → IsAsked d s asked from disk site (read_from i input input_new) (written_from o out out_new) (written_from e err err_new) Done manner begun done
-        → (logged : IsLogged d s manner from done disk held log) → WasReceived (i.bytes input) log from.who logged.holds.read (s.state site)
-    asked-so _ _ _ (asking.receiving other begun done asked_so did few quiet) logged = received-so other begun done did logged
-    asked-so _ _ _ (asking.command c one did) logged = absurd (never-one asked.words c asks.command one.said asks.said asks.receives one.one)
-    asked-so _ _ _ (asking.script one did quiet) logged = absurd (never-other asked.words one.command asks.command one.said asks.said asks.receives function.Script (λ is. cc) one.is_script)
-    asked-so _ _ _ (asking.project start changes files one made) logged = absurd (never-other asked.words one.command asks.command one.said asks.said asks.receives function.Generate (λ is. cc) one.generates)
-    asked-so _ _ _ (asking.audit one did) logged = absurd (never-other asked.words one.command asks.command one.said asks.said asks.receives function.Audit (λ is. cc) one.audits)
-    asked-so _ _ _ (asking.report wanted one did) logged = absurd (never-other asked.words one.command asks.command one.said asks.said asks.receives function.Report (λ is. cc) one.reports)
-    asked-so _ _ _ (asking.sending other number one did) logged = absurd (never-other asked.words one.command asks.command one.said asks.said asks.receives function.DistributionSend (λ is. cc) one.sends)
-    asked-so _ _ _ (asking.wanting only) logged = absurd (let lacking : Memory ≡ Done = meant_done Memory Done err_rose refl only.told.how in cc)
-      where
-        err_rose : Type 0
-        err_rose = (written_from e err err_new).rose
+module _ (d : Disks) (s : Sites) (i o e : Streams) (asked : Asked) (workspace : Workspace d s) (streams : Standard i o e) (seen : d.told) (shown : s.told) (told : i.told) (held : List Log) (log : Log) (holds : HoldsLegal (d.state workspace.disk.old) held log)
+    (name : Option (List ℕ)) (asks : AsksForReceiving asked name) where
+  abbrev begins : Stand d s
+  begins = start asked workspace
+
+  asked-so : (manner : Manner) (begun : Stand d s) (done : List (Did d s)) → IsAsked asked workspace streams Done manner begun done → (logged : IsLogged d s manner begins done workspace.disk.new held log)
+      → WasReceived (i.bytes streams.input.old) log asked.who logged.holds.read (s.state workspace.site.new)
+  asked-so _ _ _ (asking.receiving other begun done asked_so did few quiet) logged =
+      received-so d s i o e begins workspace.disk.new workspace.site.new streams.input.old streams.input.new streams.out.old streams.out.new streams.err.old streams.err.new seen shown told held log holds other begun done did logged
+  asked-so _ _ _ (asking.command c one did) logged = absurd (never-one asked.words c asks.command one.said asks.said asks.receives one.one)
+  asked-so _ _ _ (asking.script one did quiet) logged = absurd (never-other asked.words one.command asks.command one.said asks.said asks.receives function.Script (λ is. cc) one.is_script)
+  asked-so _ _ _ (asking.project number changes files one made) logged = absurd (never-other asked.words one.command asks.command one.said asks.said asks.receives function.Generate (λ is. cc) one.generates)
+  asked-so _ _ _ (asking.audit one did) logged = absurd (never-other asked.words one.command asks.command one.said asks.said asks.receives function.Audit (λ is. cc) one.audits)
+  asked-so _ _ _ (asking.report wanted one did) logged = absurd (never-other asked.words one.command asks.command one.said asks.said asks.receives function.Report (λ is. cc) one.reports)
+  asked-so _ _ _ (asking.sending other number one did) logged = absurd (never-other asked.words one.command asks.command one.said asks.said asks.receives function.DistributionSend (λ is. cc) one.sends)
+  asked-so _ _ _ (asking.wanting only) logged = absurd (let lacking : Memory ≡ Done = meant_done Memory Done err_rose refl only.told.how in cc)
+    where
+      err_rose : Type 0
+      err_rose = (err_use streams).rose
 
 pub calls-receive : (d : Disks) (s : Sites) (i o e : Streams) → CallsReceiveAsSent d s i o e
-calls-receive d s i o e asked name asks from disk site input input_new out out_new err err_new call seen shown told held log holds =
-    asked-so d s i o e from disk site input input_new out out_new err err_new seen shown told held log holds asked name asks call.manner call.begun call.done call.is (call.logs seen shown held log holds)
+calls-receive d s i o e asked name asks workspace streams call seen shown told held log holds = asked-so d s i o e asked workspace streams seen shown told held log holds name asks call.manner call.begun call.done call.is (call.logs seen shown held log holds)

@@ -4,6 +4,7 @@ ghost use Rattle.ae_outside.specs.Causes.{Counted, HasCause};
 ghost use Rattle.ae_outside.specs.Trees.{no_files, with_file, with_rows};
 ghost use Rattle.ae_outside.specs.Site.{ChangesOnly};
 ghost use Rattle.ae_evidence.specs.Directories.{with_some_file, with_some_files};
+ghost use Rattle.ae_dirs.specs.Parts.{AreMadeInPart, ArePutInPart};
 
 use crate::DirsError;
 use crate::reading::holds;
@@ -69,6 +70,7 @@ fn put_again<S: Site>(
 ) -> Result<(), DirsError>
     ensures put { OnOk result (S.tells → (S.state site.new).trees dir.now ≡ with_file path.now bytes.now ((S.state site.old).trees dir.now)) }
     ensures only { S.tells → ChangesOnly dir.now (S.state site.old) (S.state site.new) }
+    ensures memory { IsErrOf result DirsError.Memory → S.tells → S.state site.new ≡ S.state site.old }
     ensures cause { Counted (S.faults site.old) (S.faults site.new) (IsErrOf result DirsError.SiteFault) }
 {
     let limit = match bytes {
@@ -92,6 +94,9 @@ pub(crate) fn refresh_rows<S: Site>(
 ) -> Result<(), DirsError>
     ensures put { OnOk result (S.tells → (S.state site.new).trees dir.now ≡ with_rows rows.now ((S.state site.old).trees dir.now)) }
     ensures only { S.tells → ChangesOnly dir.now (S.state site.old) (S.state site.new) }
+    // Where it isn't that the directory failed, each path is as it was, or as it was to be made.
+    ensures part { S.tells → (IsErrOf result DirsError.SiteFault → ⊥) →
+        ArePutInPart rows.now ((S.state site.old).trees dir.now) ((S.state site.new).trees dir.now) }
     ensures cause { Counted (S.faults site.old) (S.faults site.new) (IsErrOf result DirsError.SiteFault) }
 {
     for row in rows {
@@ -109,6 +114,9 @@ pub fn refresh<S: Site>(
 ) -> Result<(), DirsError>
     ensures put { OnOk result (S.tells → (S.state site.new).trees dir ≡ with_rows tree.now ((S.state site.old).trees dir)) }
     ensures only { S.tells → ChangesOnly dir (S.state site.old) (S.state site.new) }
+    // Where it isn't that the directory failed, each path is as it was, or as it was to be made.
+    ensures part { S.tells → (IsErrOf result DirsError.SiteFault → ⊥) →
+        ArePutInPart tree.now ((S.state site.old).trees dir) ((S.state site.new).trees dir) }
     ensures cause { Counted (S.faults site.old) (S.faults site.new) (IsErrOf result DirsError.SiteFault) }
 {
     let dir = &dir;
@@ -119,6 +127,7 @@ pub fn refresh<S: Site>(
 fn make_file<S: Site>(alloc: Global, site: &mut S, dir: &Dir, path: &Path) -> Result<(), DirsError>
     ensures made { OnOk result (S.tells → (S.state site.new).trees dir.now ≡ with_some_file path.now ((S.state site.old).trees dir.now)) }
     ensures only { S.tells → ChangesOnly dir.now (S.state site.old) (S.state site.new) }
+    ensures memory { IsErrOf result DirsError.Memory → S.tells → S.state site.new ≡ S.state site.old }
     ensures cause { Counted (S.faults site.old) (S.faults site.new) (IsErrOf result DirsError.SiteFault) }
 {
     match site.read(alloc, *dir, path, 0)? {
@@ -139,6 +148,9 @@ pub(crate) fn make_files<S: Site>(
 ) -> Result<(), DirsError>
     ensures made { OnOk result (S.tells → (S.state site.new).trees dir.now ≡ with_some_files paths.now ((S.state site.old).trees dir.now)) }
     ensures only { S.tells → ChangesOnly dir.now (S.state site.old) (S.state site.new) }
+    // Where it isn't that the directory failed, each path is as it was, or as it was to be made.
+    ensures part { S.tells → (IsErrOf result DirsError.SiteFault → ⊥) →
+        AreMadeInPart paths.now ((S.state site.old).trees dir.now) ((S.state site.new).trees dir.now) }
     ensures cause { Counted (S.faults site.old) (S.faults site.new) (IsErrOf result DirsError.SiteFault) }
 {
     for path in paths {

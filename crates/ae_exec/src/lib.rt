@@ -24,9 +24,9 @@ mod stop;
 mod version;
 
 pub use laws::{
-    calls_join, ends_once, legal_logs_are_held, note_runs_are_real, note_runs_fit, note_shown,
-    note_whole, performed_is_legal, placing_is_in_space, released_files_are_evident,
-    versions_are_carried,
+    calls_join, ends_once, failed_commands_change_in_part, legal_logs_are_held, note_runs_are_real,
+    note_runs_fit, note_shown, note_whole, performed_is_legal, placing_is_in_space,
+    released_files_are_evident, versions_are_carried,
 };
 pub use performing::{Performed, outcome_of_stop, perform};
 pub use project::load_project;

@@ -1,5 +1,6 @@
 // A report of the project that stands.
 ghost use Rattle.std.specs.Prelude.{◌≡◌, ◌≤◌, ℕ, List, IfOk, IfErr, Some, Ok};
+ghost use Rattle.std.specs.Result.{IsErrAnd};
 ghost use Rattle.ae_base.specs.declared.want.Want.TheVariants.{All};
 ghost use Rattle.ae_outside.specs.State.{reads};
 ghost use Rattle.ae_vault.specs.Disk.{DiskFailed};
@@ -8,6 +9,7 @@ ghost use Rattle.ae_exec.specs.Endings.{IsDamagedAt};
 ghost use Rattle.ae_exec.specs.Performs.{LeavesDisk};
 ghost use Rattle.ae_reporting.specs.Answers.{FailsAs, FailsOn, IsAnswered, IsFoundDamaged, IsReported, file_at};
 ghost use Rattle.ae_reporting.specs.Asked.{asked_by};
+ghost use Rattle.ae_reporting.specs.Opened.{IsOpenedUnless, MayBeUnopened};
 ghost use Rattle.ae_reporting.specs.Reports.{Answer, Reports, is_asked};
 
 use crate::asked::AskedReport;
@@ -94,6 +96,9 @@ pub fn report<D: Disk, S: Site>(
         IsDamagedAt All (reads (D.state disk.old)) name → IsFoundDamaged name result }
     // It leaves the disk as a command does that changes nothing, and the directories as they are.
     ensures disk { D.tells → LeavesDisk (D.state disk.old) (D.state disk.new) (Unit {0}) }
+    // And the store is opened as by a command, unless the disk failed, a file is damaged or memory ran out: the disk holds one log then,
+    // in the second format.
+    ensures opened { D.tells → IsOpenedUnless (IsErrAnd result MayBeUnopened) (D.state disk.old) (D.state disk.new) }
     ensures site { S.tells → S.state site.new ≡ S.state site.old }
     ensures disk_faults { D.faults disk.old ≤ D.faults disk.new }
     ensures site_faults { S.faults site.old ≤ S.faults site.new }

@@ -1,12 +1,12 @@
 // A call of the program: of the project in the current folder, or of a branch of it.
-ghost use Rattle.std.specs.Prelude.{◌≡◌, ◌≤◌, ℕ, Ok, Err, None, drop, if◌then◌else◌, map, string_bytes, IfOk};
-ghost use Rattle.ae_branch_words.specs.Said.{branch_said};
+ghost use Rattle.std.specs.Prelude.{◌≡◌, ◌≤◌, ℕ, drop, if◌then◌else◌, map, string_bytes, IfOk};
 ghost use Rattle.ae_branch_words.specs.declared.words.BranchWords.{BranchWords};
 ghost use Rattle.ae_script.specs.Step.{may_give};
-ghost use Rattle.ae_script.specs.Uses.{disks, sinks, sites, sources};
-ghost use Rattle.ae_session.specs.Called.{asked};
+ghost use Rattle.ae_session.specs.Called.{IsProjectCall};
+ghost use Rattle.ae_session.specs.Devices.{disk_of, sink_of, site_of, source_of, standard, workspace};
+ghost use Rattle.ae_session.specs.Request.{asked};
 ghost use Rattle.ae_telling.specs.Telling.{use_of_sink};
-ghost use Rattle.aegis.specs.Top.{IsBadTold, IsBetween, IsCall, SaysCommand, SaysOfBranch};
+ghost use Rattle.aegis.specs.Top.{HasBadWord, IsBadTold, IsBranchCall, NamesNoBranch, SaysCommand, SaysOfBranch};
 
 use ae_base::limits::LAST_MOMENT;
 use ae_base::{Outcome, User};
@@ -49,46 +49,64 @@ fn command_in_branch(words: &[String]) -> &[String]
     }
 }
 
-/// Does all that the program does: where words name a branch, in that branch, which `disk` and `site` are of, or between it and
-/// the project, which is begun or ended; else in the project, which `trunk` and `trunk_site` are of.
-pub fn top<D: Disk, S: Site, B: Disk, T: Site, I: Source, O: Sink, E: Sink>(
+/// Does all that the program does: where words name a branch, in that branch, or between it and the project, which is begun or
+/// ended; else in the project, the trunk.
+pub fn top<
+    TrunkDisk: Disk,
+    TrunkSite: Site,
+    BranchDisk: Disk,
+    BranchSite: Site,
+    I: Source,
+    O: Sink,
+    E: Sink,
+>(
     alloc: Global,
     words: &[String],
     who: &str,
     now: u64,
-    trunk: &mut D,
-    trunk_site: &mut S,
-    disk: &mut B,
-    site: &mut T,
+    trunk: &mut TrunkDisk,
+    trunk_site: &mut TrunkSite,
+    disk: &mut BranchDisk,
+    site: &mut BranchSite,
     input: &mut I,
     out: &mut O,
     err: &mut E,
 ) -> Outcome
     // Where the words name no branch the call is one of the project in the current folder, as `aegis` does it.
-    ensures trunk { branch_said (map string_bytes words.now) ≡ Ok None →
-        IsCall (disks D.Disk) (sites S.Site) (sources I.Source) (sinks O.Sink) (sinks E.Sink)
-        (asked (map string_bytes words.now) who.now now)
-        trunk.old trunk_site.old input.old out.old err.old trunk.new trunk_site.new input.new out.new err.new result ×
-        (disk.new ≡ disk.old) × (site.new ≡ site.old) }
+    ensures trunk { let words = map string_bytes words.now in NamesNoBranch words →
+        IsProjectCall (asked words who.now now)
+        (workspace (disk_of TrunkDisk.Disk trunk.old trunk.new)
+        (site_of TrunkSite.Site trunk_site.old trunk_site.new))
+        (standard (source_of I.Source input.old input.new)
+        (sink_of O.Sink out.old out.new) (sink_of E.Sink err.old err.new)) result }
     // Where they name a branch and say a command, the call is one of that branch, by the words after its name.
-    ensures branch { SaysCommand (map string_bytes words.now) →
-        IsCall (disks B.Disk) (sites T.Site) (sources I.Source) (sinks O.Sink) (sinks E.Sink)
-        (asked (drop 2 (map string_bytes words.now)) who.now now)
-        disk.old site.old input.old out.old err.old disk.new site.new input.new out.new err.new result ×
+    ensures branch { let words = map string_bytes words.now in SaysCommand words →
+        IsProjectCall (asked (drop 2 words) who.now now)
+        (workspace (disk_of BranchDisk.Disk disk.old disk.new)
+        (site_of BranchSite.Site site.old site.new))
+        (standard (source_of I.Source input.old input.new)
+        (sink_of O.Sink out.old out.new) (sink_of E.Sink err.old err.new)) result }
+    // The other of the two isn't called.
+    ensures trunk_alone { NamesNoBranch (map string_bytes words.now) → (disk.new ≡ disk.old) × (site.new ≡ site.old) }
+    ensures branch_alone { SaysCommand (map string_bytes words.now) →
         (trunk.new ≡ trunk.old) × (trunk_site.new ≡ trunk_site.old) }
     // Where they begin the branch or end it, the call is between the two.
-    ensures between { (said : BranchWords) → SaysOfBranch (map string_bytes words.now) said →
-        IsBetween (disks D.Disk) (sites S.Site) (disks B.Disk) (sites T.Site) said who.now now
-        trunk.old trunk.new trunk_site.old trunk_site.new disk.old disk.new site.old site.new
+    ensures between { let words = map string_bytes words.now in (said : BranchWords) → SaysOfBranch words said →
+        IsBranchCall (asked words who.now now) said
+        (workspace (disk_of TrunkDisk.Disk trunk.old trunk.new)
+        (site_of TrunkSite.Site trunk_site.old trunk_site.new))
+        (workspace (disk_of BranchDisk.Disk disk.old disk.new)
+        (site_of BranchSite.Site site.old site.new))
         (use_of_sink E.Sink err.old err.new) result }
     ensures quiet { (said : BranchWords) → SaysOfBranch (map string_bytes words.now) said →
         (input.new ≡ input.old) × (out.new ≡ out.old) }
     // And where a word of it is bad its place is told, and nothing else is called.
-    ensures bad { (place : ℕ) → branch_said (map string_bytes words.now) ≡ Err place →
+    ensures bad { (place : ℕ) → HasBadWord (map string_bytes words.now) place →
         IsBadTold who.now now place (use_of_sink E.Sink err.old err.new) result }
-    ensures untouched { (place : ℕ) → branch_said (map string_bytes words.now) ≡ Err place →
+    ensures untouched { (place : ℕ) → HasBadWord (map string_bytes words.now) place →
         (trunk.new ≡ trunk.old) × (trunk_site.new ≡ trunk_site.old) × (disk.new ≡ disk.old) × (site.new ≡ site.old) ×
         (input.new ≡ input.old) × (out.new ≡ out.old) }
+    ensures later { E.faults err.old ≤ E.faults err.new }
 {
     let said = match branch_words(alloc, words) {
         Ok(Some(said)) => said,
