@@ -5,6 +5,8 @@ mod around;
 mod calling;
 mod descriptors;
 mod disk;
+mod emptied;
+mod folder;
 mod help;
 mod help_of;
 mod home;
@@ -17,26 +19,34 @@ mod run_log;
 mod site;
 mod store;
 mod streams;
+mod taken;
 mod trouble;
 mod who;
 
 use ae_base::Outcome;
-use ae_branch_words::branch_words;
+use ae_branch_words::{Rest, branch_words};
 use ae_words::{Function, first_function};
 use calling::top;
 use disk::RealDisk;
 use help::Question;
 use home::Home;
 use site::RealSite;
+use std::cell::RefCell;
 use std::io;
 use std::io::{ErrorKind, IsTerminal, Write};
 use std::process::ExitCode;
-use store::Access;
-use streams::{Reading, Writing};
+use store::{Access, Store, Turn};
+use streams::{Quiet, Reading, Writing};
 use trouble::Trouble;
 
 // The words aren't understood.
 const BAD_WORDS: u8 = 2;
+
+// So often a call is made where what it had read changed while it had let the lock go. The last one doesn't let it go.
+const TURNS: u32 = 3;
+
+// Whether a command lets the lock go while it runs something. It doesn't yet: a call that is made again would make its run again.
+const LETS_GO: bool = false;
 
 // Standard output doesn't take what is said.
 const NOT_SAID: u8 = 5;
@@ -79,15 +89,48 @@ fn access(rt: &HostRuntime, words: &[String]) -> Access {
     }
 }
 
-// Does what the words ask for, with the real devices: those of the project, and those of this branch of it.
-fn work_at(rt: &HostRuntime, words: &[String], who: &str, branch: Home, access: Access) -> Outcome {
-    let mut trunk = RealDisk::new(rt, rt.alloc(), Home::Trunk, access);
-    let mut trunk_site = RealSite::new(rt, rt.alloc(), Home::Trunk);
-    let mut disk = RealDisk::new(rt, rt.alloc(), branch, access);
-    let mut site = RealSite::new(rt, rt.alloc(), branch);
+// Whether words are a single command, which may let the lock go while it runs something. Others make several, one after another, over
+// what they have read once.
+fn is_single(words: &[String]) -> bool {
+    LETS_GO
+        && !matches!(
+            first_function(words),
+            None | Some(
+                Function::Script
+                    | Function::Generate
+                    | Function::Audit
+                    | Function::List
+                    | Function::Report
+                    | Function::DistributionSend
+                    | Function::DistributionReceive
+            )
+        )
+}
+
+// Where a call works: in the project, or in this branch of it, and how it comes by the lock.
+#[derive(Clone, Copy)]
+struct Where<'a> {
+    branch: Home<'a>,
+    access: Access,
+}
+
+// Makes one call, with the real devices: those of the project, and those of this branch of it.
+fn call<'x>(
+    rt: &'x HostRuntime,
+    words: &[String],
+    who: &str,
+    place: Where<'x>,
+    turn: &'x Turn,
+) -> Outcome {
+    let trunk_store = RefCell::new(Store::new(rt, rt.alloc(), Home::Trunk, place.access, turn));
+    let store = RefCell::new(Store::new(rt, rt.alloc(), place.branch, place.access, turn));
+    let mut trunk = RealDisk::new(&trunk_store);
+    let mut trunk_site = RealSite::new(rt, rt.alloc(), Home::Trunk, &trunk_store);
+    let mut disk = RealDisk::new(&store);
+    let mut site = RealSite::new(rt, rt.alloc(), place.branch, &store);
     let mut input = Reading::new(rt.stdin());
     let mut output = Writing::new(rt.stdout());
-    let mut errors = Writing::new(rt.stderr());
+    let mut errors = Quiet::new(Writing::new(rt.stderr()), turn);
     let outcome = top(
         rt.alloc(),
         words,
@@ -101,7 +144,7 @@ fn work_at(rt: &HostRuntime, words: &[String], who: &str, branch: Home, access: 
         &mut output,
         &mut errors,
     );
-    if who::is_traced(rt) {
+    if who::is_traced(rt) && !turn.is_lost() {
         tell(rt, "disk", trunk.trouble());
         tell(rt, "disk", disk.trouble());
         tell(rt, "directory", trunk_site.trouble());
@@ -113,14 +156,47 @@ fn work_at(rt: &HostRuntime, words: &[String], who: &str, branch: Home, access: 
     outcome
 }
 
+// Does what the words ask for. A call during which the store changed, as it had let the lock go, is made again from the start.
+fn work_at(
+    rt: &HostRuntime,
+    words: &[String],
+    who: &str,
+    place: Where,
+    is_single: bool,
+) -> Outcome {
+    for _ in 1..TURNS {
+        let turn = Turn::new(is_single);
+        let outcome = call(rt, words, who, place, &turn);
+        if !turn.is_lost() {
+            return outcome;
+        }
+    }
+    call(rt, words, who, place, &Turn::new(false))
+}
+
 // Does what the words ask for.
 fn work(rt: &HostRuntime, words: &[String], who: &str) -> Outcome {
     match (branch_words(rt.alloc(), words), words) {
         (Ok(Some(said)), [_, _, command @ ..]) => {
-            let access = access(rt, command);
-            work_at(rt, words, who, Home::Branch(&said.name), access)
+            let place = Where {
+                branch: Home::Branch(&said.name),
+                access: access(rt, command),
+            };
+            work_at(
+                rt,
+                words,
+                who,
+                place,
+                said.rest == Rest::Plain && is_single(command),
+            )
         }
-        _ => work_at(rt, words, who, Home::Nowhere, access(rt, words)),
+        _ => {
+            let place = Where {
+                branch: Home::Nowhere,
+                access: access(rt, words),
+            };
+            work_at(rt, words, who, place, is_single(words))
+        }
     }
 }
 

@@ -1,42 +1,66 @@
 // The real directories, and commands run by `sh`.
-ghost use Rattle.std.specs.Prelude.{⊤, IfOk, OnErr};
+ghost use Rattle.std.specs.Prelude.{⊤, ◌≡◌, IfOk, OnErr};
 ghost use Rattle.ae_outside.specs.Causes.{Counted, HasCause};
 ghost use Rattle.ae_outside.specs.Site.{IsAtMost};
 ghost use Rattle.ae_outside.specs.Untold.{untold_site};
 ghost use Rattle.aegis.specs.Runs.{HasNoEnd, IsExitOf, IsShell};
 
-use crate::around::Around;
+use crate::around::{Around, below};
+use crate::folder::{Folder, Inside, Opened};
 use crate::home::Home;
-use crate::kept::{keep_file, keep_folder, put_away};
-use crate::modes::{share_file, share_seen};
-use crate::places::{
-    Found, entry_at, is_empty_folder, is_named, look, make_folders, make_missing, refused,
-    remove_empty_folders, size_in_folder,
-};
+use crate::kept::{Place, keep_file, keep_folder, put_away};
+use crate::places::{Found, refused};
 use crate::run_log;
+use crate::store::{Seen, Store};
+use crate::taken::Taken;
 use crate::trouble::{Faults, Trouble};
 use ae_base::{Path, Text};
 use ae_outside::{Content, Dir, Exit, Failed, Site, SiteError};
 use std::alloc::{AllocError, Global};
-use std::fs::{File, OpenOptions};
+use std::cell::RefCell;
+use std::fs::File;
+use std::io;
 use std::io::{ErrorKind, Read, Write};
-use std::os::unix::fs::{MetadataExt, OpenOptionsExt};
 use std::os::unix::process::ExitStatusExt;
 use std::process::{Command, ExitStatus, Processes, Stdio};
 use std::rt::{Clock, Files};
-use std::{fs, io};
 
 // How a file begins that the system hands to the program that it names.
 const PROGRAM: &[u8] = b"#!";
 
 /// Directories in the project's folder, and the current folder. It tells nothing of what they hold.
 #[derive(Drop)]
-pub struct RealSite<'a, R> {
+pub struct RealSite<'s, 'a, R> {
     rt: &'a R,
     alloc: Global,
     home: Home<'a>,
+    // The store of the project, whose lock is let go while a command runs here, where it may be.
+    store: &'s RefCell<Store<'a, R>>,
+    // The directories that this process has to itself.
+    taken: Taken,
     around: Around,
     faults: Faults,
+}
+
+// A place is a directory's folder, the path of a folder below it, and a name: what leads to the folder around a file.
+#[derive(Clone, Copy)]
+struct Way<'a> {
+    directory: &'a str,
+    // The place of the folder around.
+    around: &'a str,
+    name: &'a str,
+}
+
+// How a place of a directory is reached.
+fn way_to<'a>(directory: &'a str, place: &'a str) -> io::Result<Way<'a>> {
+    match place.rsplit_once('/') {
+        Some((around, name)) => Ok(Way {
+            directory,
+            around,
+            name,
+        }),
+        None => Err(refused()),
+    }
 }
 
 // The folder of a directory of the project in this one.
@@ -98,13 +122,24 @@ fn shell_for(alloc: Global, folder: &str, command: &str) -> Result<Command, Allo
     Ok(shell)
 }
 
-impl<'a, R: Files<File = File> + Alloc + Clock + Clone + Drop + Processes> RealSite<'a, R> {
-    /// The directories of this project.
-    pub fn new(rt: &'a R, alloc: Global, home: Home<'a>) -> RealSite<'a, R> {
+impl<'s, 'a, R: Files<File = File> + Alloc + Clock + Clone + Drop + Eprint + Processes> RealSite<
+    's,
+    'a,
+    R,
+> {
+    /// The directories of this project, which has that store.
+    pub fn new(
+        rt: &'a R,
+        alloc: Global,
+        home: Home<'a>,
+        store: &'s RefCell<Store<'a, R>>,
+    ) -> RealSite<'s, 'a, R> {
         RealSite {
             rt,
             alloc,
             home,
+            store,
+            taken: Taken::none(alloc),
             around: Around::unknown(),
             faults: Faults::none(),
         }
@@ -157,29 +192,13 @@ impl<'a, R: Files<File = File> + Alloc + Clock + Clone + Drop + Processes> RealS
         }
     }
 
-    // What stands at the folder around a place.
-    fn look_around(&self, around: &mut Around, place: &str) -> io::Result<Found> {
-        match place.rsplit_once('/') {
-            Some((folder, _)) => around.look(self.rt, self.alloc, folder),
-            None => Ok(Found::Folder),
-        }
-    }
-
-    // What stands at a place.
-    fn look_at(&self, around: &mut Around, place: &str) -> io::Result<Found> {
-        match self.look_around(around, place)? {
-            Found::Folder => entry_at(self.rt, place),
+    // What is at a place, whose folder is reached; a place below what is no folder is as if nothing were there.
+    fn look_at(&self, around: &mut Around, way: &Way) -> io::Result<Found> {
+        match around.reach(self.rt, self.alloc, way.directory, way.around, false)? {
+            Found::Folder => around.last()?.look(self.rt, self.alloc, way.name),
             Found::File(_) => Ok(Found::Other),
             other => Ok(other),
         }
-    }
-
-    // Makes the folders on the way to a file, where they aren't there. It fails where something else stands in the place of one.
-    fn make_way(&self, around: &mut Around, place: &str) -> io::Result<()> {
-        let Some((folder, _)) = place.rsplit_once('/') else {
-            return Ok(());
-        };
-        make_missing(self.rt, folder, self.look_around(around, place)?)
     }
 
     // One byte more than the limit shows that there is more. Room for 64 bytes more than there are shows the end of the file, and
@@ -196,21 +215,29 @@ impl<'a, R: Files<File = File> + Alloc + Clock + Clone + Drop + Processes> RealS
     {
         let folder = self.folder_of(dir)?;
         let place = place_in(alloc, folder.as_str(), path)?;
-        let Found::File(size) = self.look_at(around, place.as_str())? else {
+        let way = way_to(folder.as_str(), place.as_str())?;
+        let Some(opened) = self.open_to_read(around, &way)? else {
             return Ok(Content::Absent);
         };
-        let file = File::open(self.rt, place)?;
         let most = (limit as u64).saturating_add(1);
         let mut bytes = Vec::new(alloc);
-        bytes.try_reserve_exact(size.min(limit as u64).saturating_add(64) as usize)?;
-        file.take(most).read_to_end(&mut bytes)?;
+        bytes.try_reserve_exact(opened.size.min(limit as u64).saturating_add(64) as usize)?;
+        opened.file.take(most).read_to_end(&mut bytes)?;
         if bytes.len() > limit {
             return Ok(Content::TooLong);
         }
         Ok(Content::Bytes(Text::shared(alloc, bytes)?))
     }
 
-    // A file that holds the bytes already stays untouched, with its time of change. Any other is taken away and made anew, so that
+    // Opens a regular file to be read; `None` where there is none, as where a link or a folder is there.
+    fn open_to_read(&self, around: &mut Around, way: &Way) -> io::Result<Option<Opened>> {
+        if around.reach(self.rt, self.alloc, way.directory, way.around, false)? != Found::Folder {
+            return Ok(None);
+        }
+        around.last()?.open_if_file(self.rt, self.alloc, way.name)
+    }
+
+    // A file that holds the bytes already stays untouched, with its time of change. Any other is taken away and made again, so that
     // nothing is written through another name of it.
     fn try_write(
         &self,
@@ -224,117 +251,250 @@ impl<'a, R: Files<File = File> + Alloc + Clock + Clone + Drop + Processes> RealS
         }
         let folder = self.folder_of(dir)?;
         let place = place_in(self.alloc, folder.as_str(), path)?;
-        self.make_way(around, place.as_str())?;
-        if let Some(size) = size_in_folder(self.rt, place.as_str())? {
-            if size == bytes.len() as u64 && self.holds(place.as_str(), bytes) {
-                return Ok(());
-            }
-            self.take_away(dir, folder.as_str(), place.as_str(), size)?;
+        let way = way_to(folder.as_str(), place.as_str())?;
+        match around.reach(self.rt, self.alloc, way.directory, way.around, true)? {
+            Found::Folder => {}
+            _ => return Err(refused()),
         }
-        self.make_file(around, place.as_str(), bytes)
+        let folder = around.last()?;
+        match folder.look(self.rt, self.alloc, way.name)? {
+            Found::Absent => {}
+            Found::File(size) => {
+                if size == bytes.len() as u64 && self.holds(folder, way.name, bytes) {
+                    return Ok(());
+                }
+                self.take_away(dir, folder, &way, size)?;
+            }
+            _ => return Err(refused()),
+        }
+        self.make_file(folder, way.name, bytes)
     }
 
     // A file that can't be read doesn't hold them, as far as is known.
-    fn holds(&self, place: &str, bytes: &[u8]) -> bool {
-        matches!(self.read_whole(place, bytes.len()), Ok(found) if found.as_slice() == bytes)
+    fn holds(&self, folder: &Folder, name: &str, bytes: &[u8]) -> bool {
+        let found = self.read_whole(folder, name, bytes.len());
+        matches!(found, Ok(found) if found.as_slice() == bytes)
     }
 
     // The bytes of a file that had so many.
-    fn read_whole(&self, place: &str, len: usize) -> io::Result<Vec<u8>> {
-        let mut file = File::open(self.rt, place)?;
+    fn read_whole(&self, folder: &Folder, name: &str, len: usize) -> io::Result<Vec<u8>> {
         let mut found = Vec::new(self.alloc);
-        found.try_reserve_exact(len.saturating_add(1))?;
-        file.read_to_end(&mut found)?;
+        if let Some(opened) = folder.open_if_file(self.rt, self.alloc, name)? {
+            let mut file = opened.file;
+            found.try_reserve_exact(len.saturating_add(1))?;
+            file.read_to_end(&mut found)?;
+        }
         Ok(found)
     }
 
-    // Takes a file of that size away. What it holds in a develop directory is somebody's work, which is kept once.
-    fn take_away(&self, dir: &Dir, folder: &str, place: &str, size: u64) -> io::Result<()> {
-        match dir {
-            Dir::Develop(_) if size > 0 => keep_file(self.rt, self.alloc, folder, place),
-            _ => fs::remove_file(self.rt, place),
+    // The project's folder, which is there.
+    fn open_home(&self) -> io::Result<Folder> {
+        match self.home.open(self.rt, self.alloc, false)? {
+            Inside::Folder(home) => Ok(home),
+            Inside::Other(_) => Err(refused()),
         }
     }
 
-    // Makes a file where nothing is. It isn't opened where something has appeared there, and nothing is written to it where it
-    // isn't at its place, since a folder on the way has become a link.
-    fn make_file(&self, around: &mut Around, place: &str, bytes: &[u8]) -> io::Result<()> {
-        let is_program = bytes.starts_with(PROGRAM);
-        let mut file = OpenOptions::new()
-            .write(true)
-            .create_new(true)
-            .mode(if is_program { 0o777 } else { 0o666 })
-            .open(self.rt, place)?;
-        let made = file.metadata()?;
-        if self.look_around(around, place)? != Found::Folder || !is_named(self.rt, &made, place)? {
+    // Takes a file of that size away. What it holds in a develop directory is somebody's work, which is kept once.
+    fn take_away(&self, dir: &Dir, folder: &Folder, way: &Way, size: u64) -> io::Result<()> {
+        match dir {
+            Dir::Develop(_) if size > 0 => self.keep(folder, way),
+            _ => folder.remove_file(self.rt, self.alloc, way.name),
+        }
+    }
+
+    // Keeps a file of a develop directory beside it.
+    fn keep(&self, folder: &Folder, way: &Way) -> io::Result<()> {
+        let Some((_, directory)) = way.directory.rsplit_once('/') else {
             return Err(refused());
-        }
-        match around.mode() {
-            Some(folder) => share_seen(&file, made.mode(), place, folder, is_program)?,
-            None => share_file(self.rt, &file, place, is_program)?,
-        }
+        };
+        let place = Place {
+            folder,
+            name: way.name,
+            directory,
+            below: below(way.around, way.directory),
+        };
+        keep_file(self.rt, self.alloc, &self.open_home()?, &place)
+    }
+
+    // Makes a file where nothing is.
+    fn make_file(&self, folder: &Folder, name: &str, bytes: &[u8]) -> io::Result<()> {
+        let is_program = bytes.starts_with(PROGRAM);
+        let mut file = folder.make_file(self.rt, self.alloc, name, is_program)?;
         file.write_all(bytes)
     }
 
-    fn try_remove(&self, dir: &Dir, path: &Path) -> io::Result<()> {
+    fn try_remove(&self, around: &mut Around, dir: &Dir, path: &Path) -> io::Result<()> {
         let is_here = *dir == Dir::Here;
         if is_here && is_own(path) {
             return Err(refused());
         }
         let folder = self.folder_of(dir)?;
         let place = place_in(self.alloc, folder.as_str(), path)?;
-        match look(self.rt, place.as_str())? {
-            Found::File(size) => self.take_away(dir, folder.as_str(), place.as_str(), size)?,
+        let way = way_to(folder.as_str(), place.as_str())?;
+        match self.look_at(around, &way)? {
+            Found::File(size) => self.take_away(dir, around.last()?, &way, size)?,
             Found::Link => return Err(refused()),
             _ => return Ok(()),
         }
         if is_here {
             return Ok(());
         }
-        remove_empty_folders(self.rt, folder.as_str(), place.as_str())
+        self.remove_empty_folders(around, &way)
+    }
+
+    // Removes the folders around a place, up to the directory, from the innermost on, up to the first that holds something.
+    fn remove_empty_folders(&self, around: &mut Around, way: &Way) -> io::Result<()> {
+        let mut place = way.around;
+        for _ in 0..way.around.len() {
+            if place == way.directory {
+                return Ok(());
+            }
+            let inner = way_to(way.directory, place)?;
+            match around.reach(self.rt, self.alloc, inner.directory, inner.around, false)? {
+                Found::Folder => {}
+                _ => return Ok(()),
+            }
+            match around
+                .last()?
+                .remove_folder(self.rt, self.alloc, inner.name)
+            {
+                Ok(()) => {}
+                Err(e) if e.kind() == ErrorKind::DirectoryNotEmpty => return Ok(()),
+                Err(e) if e.kind() == ErrorKind::AlreadyExists => return Ok(()),
+                Err(e) => return Err(e),
+            }
+            place = inner.around;
+        }
+        Ok(())
     }
 
     // Takes a directory away. What a develop directory holds is kept once.
-    fn empty(&self, dir: &Dir, folder: &str) -> io::Result<()> {
-        let is_kept = matches!(dir, Dir::Develop(_))
-            && !matches!(is_empty_folder(self.rt, folder), Ok(true));
-        if is_kept {
-            return keep_folder(self.rt, self.alloc, folder);
+    fn empty(&self, dir: &Dir, home: &Folder, name: &str) -> io::Result<()> {
+        if !matches!(dir, Dir::Develop(_)) {
+            return put_away(self.rt, self.alloc, home, name);
         }
-        put_away(self.rt, self.alloc, folder)
+        match home.remove_folder(self.rt, self.alloc, name) {
+            Ok(()) => Ok(()),
+            Err(_) => keep_folder(self.rt, self.alloc, home, name),
+        }
     }
 
     fn try_clear(&self, dir: &Dir) -> io::Result<()> {
         if *dir == Dir::Here {
             return Err(refused());
         }
-        let folder = self.folder_of(dir)?;
-        match look(self.rt, folder.as_str())? {
-            Found::Folder => self.empty(dir, folder.as_str())?,
+        let place = self.folder_of(dir)?;
+        let Some((_, name)) = place.rsplit_once('/') else {
+            return Err(refused());
+        };
+        let Inside::Folder(home) = self.home.open(self.rt, self.alloc, true)? else {
+            return Err(refused());
+        };
+        match home.look(self.rt, self.alloc, name)? {
+            Found::Folder => self.empty(dir, &home, name)?,
             Found::Absent => {}
             _ => return Err(refused()),
         }
-        make_folders(self.rt, folder.as_str())
+        home.make_new(self.rt, self.alloc, name)?;
+        Ok(())
     }
 
     // The log is a help for who reads it: where a heading can't be written, the run is made all the same.
-    fn try_run(&self, dir: &Dir, command: &str) -> io::Result<Exit> {
-        let folder = self.folder_of(dir)?;
-        make_folders(self.rt, folder.as_str())?;
-        let mut log = run_log::open_log(self.rt, self.alloc, folder.as_str())?;
-        run_log::begin(self.rt, self.alloc, &mut log, folder.as_str(), command).ok();
+    fn try_run(&self, around: &mut Around, dir: &Dir, command: &str) -> io::Result<Exit> {
+        let place = self.folder_of(dir)?;
+        let place = place.as_str();
+        if around.reach(self.rt, self.alloc, place, place, true)? != Found::Folder {
+            return Err(refused());
+        }
+        let folder = around.last()?;
+        let mut log = run_log::open_log(self.rt, self.alloc, folder)?;
+        run_log::begin(self.rt, self.alloc, &mut log, place, command).ok();
         let out = log.try_clone()?;
         let err = log.try_clone()?;
-        let mut shell = shell_for(self.alloc, folder.as_str(), command)?;
+        let way = folder.way(self.alloc)?;
+        let mut shell = shell_for(self.alloc, way.as_str(), command)?;
         shell.stdin(Stdio::null()).stdout(out).stderr(err);
-        let exit = exit_of(shell.status(self.rt)?)?;
-        run_log::end(self.alloc, &mut log, exit).ok();
+        // Without a lock on the directory nothing but the store's keeps another command out of it.
+        let seen = if self.taken.locks(place) {
+            self.let_go()?
+        } else {
+            None
+        };
+        let ended = shell.status(self.rt);
+        let exit = self.note_end(&mut log, ended);
+        self.take_again(seen)?;
+        exit
+    }
+
+    // How a run ended, which its log says too.
+    fn note_end(&self, log: &mut File, ended: io::Result<ExitStatus>) -> io::Result<Exit> {
+        let exit = exit_of(ended?)?;
+        run_log::end(self.alloc, log, exit).ok();
         Ok(exit)
+    }
+
+    // Whether the store's lock may be let go. Where it may not, it keeps other commands out of the directories, too.
+    fn may_let_go(&self) -> bool {
+        matches!(self.store.try_borrow(), Ok(store) if store.may_let_go())
+    }
+
+    // Lets the lock of the store go, where it may be.
+    fn let_go(&self) -> io::Result<Option<Vec<Seen>>> {
+        match self.store.try_borrow_mut() {
+            Ok(mut store) => store.let_go(),
+            Err(_) => Err(io::Error::from(ErrorKind::ResourceBusy)),
+        }
+    }
+
+    // Takes it again. It fails where the store isn't as it was.
+    fn take_again(&self, seen: Option<Vec<Seen>>) -> io::Result<()> {
+        match self.store.try_borrow_mut() {
+            Ok(mut store) => store.take_again(seen),
+            Err(_) => Err(io::Error::from(ErrorKind::ResourceBusy)),
+        }
+    }
+
+    // Has a directory for this process alone, where it is there. Where another process has it, that may be a run of minutes, which
+    // wants the store's lock at its end: so this lets the lock go too, while it waits.
+    fn have(&mut self, dir: &Dir) -> io::Result<()>
+        ensures same { self.new.faults.count ≡ self.old.faults.count }
+    {
+        let mut taken = std::mem::replace(&mut self.taken, Taken::none(self.alloc));
+        let had = self.try_have(&mut taken, dir);
+        self.taken = taken;
+        had
+    }
+
+    fn try_have(&self, taken: &mut Taken, dir: &Dir) -> io::Result<()> {
+        if *dir == Dir::Here || !self.may_let_go() {
+            return Ok(());
+        }
+        let place = self.folder_of(dir)?;
+        if taken.try_take(self.rt, self.alloc, place.as_str())? {
+            return Ok(());
+        }
+        let seen = self.let_go()?;
+        if seen.is_none() {
+            return Err(io::Error::from(ErrorKind::WouldBlock));
+        }
+        let waited = self.wait_for(taken, place.as_str());
+        self.take_again(seen)?;
+        waited
+    }
+
+    // Waits for a directory.
+    fn wait_for(&self, taken: &mut Taken, place: &str) -> io::Result<()> {
+        let patience = match self.store.try_borrow() {
+            Ok(store) => store.patience()?,
+            Err(_) => return Err(io::Error::from(ErrorKind::ResourceBusy)),
+        };
+        taken.take(self.rt, self.alloc, place, patience)
     }
 }
 
-impl<'a, R: Files<File = File> + Alloc + Clock + Clone + Drop + Processes> Site
-    for RealSite<'a, R> {
+impl<'s, 'a, R: Files<File = File> + Alloc + Clock + Clone + Drop + Eprint + Processes> Site
+    for RealSite<'s, 'a, R> {
     ghost tells = { ⊥ };
 
     ghost state = { λ _. untold_site };
@@ -350,6 +510,10 @@ impl<'a, R: Files<File = File> + Alloc + Clock + Clone + Drop + Processes> Site
         path: &Path,
         limit: usize,
     ) -> Result<Content, SiteError> {
+        if let Err(e) = self.have(&dir) {
+            self.count("read", &dir, Some(path), e);
+            return Err(SiteError::Failed);
+        }
         let mut around = std::mem::replace(&mut self.around, Around::unknown());
         let read = self.try_read(alloc, &mut around, &dir, path, limit);
         self.around = around;
@@ -364,6 +528,9 @@ impl<'a, R: Files<File = File> + Alloc + Clock + Clone + Drop + Processes> Site
     }
 
     fn write(&mut self, dir: Dir, path: &Path, bytes: &[u8]) -> Result<(), Failed> {
+        if let Err(e) = self.have(&dir) {
+            return Err(self.count("write", &dir, Some(path), e));
+        }
         let mut around = std::mem::replace(&mut self.around, Around::unknown());
         let written = self.try_write(&mut around, &dir, path, bytes);
         self.around = around;
@@ -371,20 +538,33 @@ impl<'a, R: Files<File = File> + Alloc + Clock + Clone + Drop + Processes> Site
     }
 
     fn remove(&mut self, dir: Dir, path: &Path) -> Result<(), Failed> {
-        self.around.forget();
-        let removed = self.try_remove(&dir, path);
+        if let Err(e) = self.have(&dir) {
+            return Err(self.count("remove", &dir, Some(path), e));
+        }
+        let mut around = std::mem::replace(&mut self.around, Around::unknown());
+        let removed = self.try_remove(&mut around, &dir, path);
         self.counted("remove", &dir, Some(path), removed)
     }
 
     fn clear(&mut self, dir: Dir) -> Result<(), Failed> {
+        if let Err(e) = self.have(&dir) {
+            return Err(self.count("clear", &dir, None, e));
+        }
         self.around.forget();
         let cleared = self.try_clear(&dir);
+        if let Ok(place) = self.folder_of(&dir) {
+            self.taken.forget(place.as_str());
+        }
         self.counted("clear", &dir, None, cleared)
     }
 
     fn run(&mut self, dir: Dir, command: &str) -> Result<Exit, Failed> {
+        if let Err(e) = self.have(&dir) {
+            return Err(self.count("run", &dir, None, e));
+        }
         self.around.forget();
-        let exit = self.try_run(&dir, command);
+        let mut around = Around::unknown();
+        let exit = self.try_run(&mut around, &dir, command);
         self.counted("run", &dir, None, exit)
     }
 }

@@ -1,19 +1,20 @@
 // The files of a store, which lie in the folder `store` of its project's own.
 ghost use Rattle.std.specs.Prelude.{◌≤◌, length, IfOk};
 
+use crate::folder::{Folder, Inside};
 use crate::home::Home;
-use crate::lock::{Patience, take_lock};
-use crate::modes::{share_file, share_folder};
-use crate::places::{
-    Found, has_name, is_empty_folder, look, make_folders, refused, size_of_file, sync_folder,
-    sync_folders,
-};
+use crate::lock::{Lock, Patience, take_lock};
+use crate::places::{Found, is_at, node_of, refused};
 use std::alloc::Global;
+use std::cell::Cell;
 use std::fs::{File, OpenOptions};
-use std::io::ErrorKind;
+use std::io;
+use std::io::{ErrorKind, Read};
 use std::os::unix::fs::FileExt;
 use std::rt::{Clock, Files};
-use std::{fs, io};
+
+// The name of its folder.
+const NAME: &str = "store";
 
 /// What a command does with the store.
 #[derive(Clone, Copy, Debug, PartialEq, Eq)]
@@ -24,6 +25,46 @@ pub enum Access {
     Reading,
 }
 
+// The file with the bytes of versions. Those that a record names are never overwritten while it does.
+const VERSIONS: &str = "pack";
+
+/// Whether the lock may be let go while a command's child runs, and whether what was read before has changed meanwhile.
+#[derive(Drop)]
+pub struct Turn {
+    lets_go: bool,
+    is_lost: Cell<bool>,
+}
+
+impl Turn {
+    /// One that may let the lock go, or not.
+    pub fn new(lets_go: bool) -> Turn {
+        Turn {
+            lets_go,
+            is_lost: Cell::new(false),
+        }
+    }
+
+    /// Whether the call is to be made again, as what it had read has changed.
+    pub fn is_lost(&self) -> bool {
+        self.is_lost.get()
+    }
+}
+
+/// A file of the store that was looked at, and what it held; nothing where it wasn't there.
+#[derive(Drop)]
+pub struct Seen {
+    name: String,
+    bytes: Option<Vec<u8>>,
+}
+
+// The folders of a store that is there, both held open, and the lock, where it is taken.
+#[derive(Drop)]
+struct There {
+    home: Folder,
+    store: Folder,
+    lock: Option<Lock>,
+}
+
 // What is known of the store.
 #[derive(Drop)]
 enum Standing {
@@ -31,10 +72,9 @@ enum Standing {
     Unknown,
     // It wasn't there when it was looked for.
     Absent,
-    // It is there, and this lock is held.
-    Held(File),
-    // It is there, and only read.
-    Open,
+    // It has changed while the lock was let go.
+    Changed,
+    There(There),
 }
 
 // The file that was read last, which is still open, and its length when it was opened. It may have become longer.
@@ -50,6 +90,7 @@ struct LastRead {
 #[derive(Drop)]
 pub struct Store<'a, R> {
     rt: &'a R,
+    turn: &'a Turn,
     alloc: Global,
     home: Home<'a>,
     access: Access,
@@ -57,89 +98,141 @@ pub struct Store<'a, R> {
     // Whether the names of its files outlast a stop.
     has_stable_names: bool,
     last_read: Option<LastRead>,
+    // The files that this process has written so far.
+    written: Vec<String>,
+    // Those that it has looked at or written, where the lock may be let go.
+    looked_at: Vec<String>,
+    // Those that it has synced, where the lock may be let go.
+    synced: Vec<String>,
+}
+
+// Why nothing may be written.
+fn not_allowed() -> io::Error {
+    io::Error::from(ErrorKind::PermissionDenied)
+}
+
+// Why a call that is to be made again fails.
+fn changed() -> io::Error {
+    io::Error::from(ErrorKind::Interrupted)
+}
+
+// Whether a file may not be written, or none be made.
+fn is_denied(error: &io::Error) -> bool {
+    error.kind() == ErrorKind::PermissionDenied || error.kind() == ErrorKind::ReadOnlyFilesystem
 }
 
 impl<'a, R: Files<File = File> + Alloc + Clock + Clone + Drop + Eprint> Store<'a, R> {
     /// A store that hasn't been looked for yet.
-    pub fn new(rt: &'a R, alloc: Global, home: Home<'a>, access: Access) -> Store<'a, R> {
+    pub fn new(
+        rt: &'a R,
+        alloc: Global,
+        home: Home<'a>,
+        access: Access,
+        turn: &'a Turn,
+    ) -> Store<'a, R> {
         Store {
             rt,
+            turn,
             alloc,
             home,
             access,
             standing: Standing::Unknown,
             has_stable_names: false,
             last_read: None,
+            written: Vec::new(alloc),
+            looked_at: Vec::new(alloc),
+            synced: Vec::new(alloc),
         }
     }
 
-    // Where this stands in the project's folder.
+    // The place of what has this name in the project's folder.
     fn in_home(&self, name: &str) -> io::Result<String> {
         let home = self.home.folder(self.alloc)?;
         Ok(format!(in self.alloc; "{home}/{name}")?)
     }
 
-    // Where the file of that name stands.
+    // The place of the file of that name.
     fn place(&self, name: &str) -> io::Result<String> {
         let home = self.home.folder(self.alloc)?;
         Ok(format!(in self.alloc; "{home}/store/{name}")?)
     }
 
-    // Makes the store's own name, and those of the folders around it, outlast a stop.
-    fn sync_above(&self) -> io::Result<()> {
-        let home = self.home.folder(self.alloc)?;
-        sync_folders(self.rt, home.as_str())
-    }
-
-    // Takes the lock.
-    fn take(&self, patience: Patience) -> io::Result<File> {
-        let lock = self.in_home("lock")?;
-        take_lock(self.rt, lock.as_str(), patience)
+    // Takes the lock. Where no file of it is there, and none may be made, nobody else works here, as in a copy that may not be
+    // written: it is read without.
+    fn take(&self, home: &Folder, patience: Patience) -> io::Result<Option<Lock>> {
+        match take_lock(self.rt, self.alloc, home, patience) {
+            Ok(lock) => Ok(Some(lock)),
+            Err(e) if is_denied(&e) && home.look(self.rt, self.alloc, "lock")? == Found::Absent => {
+                Ok(None)
+            }
+            Err(e) => Err(e),
+        }
     }
 
     // Takes the lock of a store that is there. Who made it may have been stopped before its name was stable, but then it
     // holds no file.
-    fn hold(&self, patience: Patience, store: &str) -> io::Result<Standing> {
-        let lock = self.take(patience)?;
-        if is_empty_folder(self.rt, store)? {
-            self.sync_above()?;
+    fn hold(&self, home: &Folder, store: &Folder, patience: Patience) -> io::Result<Option<Lock>> {
+        let lock = self.take(home, patience)?;
+        if !home.has(self.rt, self.alloc, store.node(), NAME)? {
+            return Err(io::Error::from(ErrorKind::NotFound));
         }
-        Ok(Standing::Held(lock))
+        if lock.is_some() && store.is_empty(self.rt, self.alloc)? {
+            self.home.sync(self.rt, self.alloc)?;
+        }
+        Ok(lock)
+    }
+
+    // The folders of the store, where both are there.
+    fn folders(&self) -> io::Result<Option<(Folder, Folder)>> {
+        let home = match self.home.open(self.rt, self.alloc, false)? {
+            Inside::Folder(home) => home,
+            Inside::Other(Found::Absent) => return Ok(None),
+            Inside::Other(_) => return Err(refused()),
+        };
+        match home.open(self.rt, self.alloc, NAME)? {
+            Inside::Folder(store) => Ok(Some((home, store))),
+            Inside::Other(Found::Absent) => Ok(None),
+            Inside::Other(_) => Err(refused()),
+        }
     }
 
     // Looks for the store. Where it is there the lock is taken, unless it is only read.
     fn find(&mut self) -> io::Result<bool> {
-        let store = self.in_home("store")?;
-        match look(self.rt, store.as_str())? {
-            Found::Folder => {
-                self.standing = match self.access {
-                    Access::Alone(patience) => self.hold(patience, store.as_str())?,
-                    Access::Reading => Standing::Open,
-                };
-                Ok(true)
-            }
-            Found::Absent => {
-                self.standing = Standing::Absent;
-                Ok(false)
-            }
-            _ => Err(refused()),
-        }
+        let Some((home, store)) = self.folders()? else {
+            self.standing = Standing::Absent;
+            return Ok(false);
+        };
+        let lock = match self.access {
+            Access::Alone(patience) => self.hold(&home, &store, patience)?,
+            Access::Reading => None,
+        };
+        self.standing = Standing::There(There { home, store, lock });
+        Ok(true)
     }
 
     // Whether the store is there. Where it is, the lock is held from then on, unless it is only read.
     fn is_there(&mut self) -> io::Result<bool> {
         match self.standing {
-            Standing::Held(_) | Standing::Open => Ok(true),
+            Standing::There(_) => Ok(true),
             Standing::Absent => Ok(false),
+            Standing::Changed => Err(changed()),
             Standing::Unknown => self.find(),
         }
     }
 
-    // How long the lock is waited for. Where the store is only read, nothing may be written.
-    fn patience(&self) -> io::Result<Patience> {
+    // The store, where it was found.
+    fn there(&self) -> io::Result<&There> {
+        match &self.standing {
+            Standing::There(there) => Ok(there),
+            _ => Err(io::Error::from(ErrorKind::NotFound)),
+        }
+    }
+
+    /// How long the lock is waited for. Where the store is only read, nothing may be written.
+    pub fn patience(&self) -> io::Result<Patience> {
         match self.access {
             Access::Alone(patience) => Ok(patience),
-            Access::Reading => Err(io::Error::from(ErrorKind::PermissionDenied)),
+            Access::Reading => Err(not_allowed()),
         }
     }
 
@@ -149,28 +242,35 @@ impl<'a, R: Files<File = File> + Alloc + Clock + Clone + Drop + Eprint> Store<'a
         if self.is_there()? {
             return Ok(());
         }
-        let home = self.home.folder(self.alloc)?;
-        make_folders(self.rt, home.as_str())?;
-        let lock = self.take(patience)?;
-        let store = self.in_home("store")?;
-        fs::create_dir(self.rt, store.as_str())?;
-        share_folder(self.rt, store.as_str())?;
-        self.sync_above()?;
-        self.standing = Standing::Held(lock);
+        let Inside::Folder(home) = self.home.open(self.rt, self.alloc, true)? else {
+            return Err(refused());
+        };
+        let lock = take_lock(self.rt, self.alloc, &home, patience)?;
+        let store = home.make_new(self.rt, self.alloc, NAME)?;
+        self.home.sync(self.rt, self.alloc)?;
+        self.standing = Standing::There(There {
+            home,
+            store,
+            lock: Some(lock),
+        });
         Ok(())
     }
 
     // Whether the lock that is held is still the file of its name. Where it isn't, another process may hold the one that is, so
-    // nothing more may be written.
+    // nothing more may be written; nor where the store's folder isn't that of its name any more.
     fn keep_lock(&self) -> io::Result<()> {
-        self.patience()?;
-        let place = self.in_home("lock")?;
-        match &self.standing {
-            Standing::Held(lock) if !has_name(self.rt, lock, place.as_str())? => {
-                Err(io::Error::from(ErrorKind::NotFound))
-            }
-            _ => Ok(()),
+        let there = self.there()?;
+        let Some(lock) = &there.lock else {
+            return Err(not_allowed());
+        };
+        if lock.has_name(self.rt, self.alloc, &there.home)?
+            && there
+                .home
+                .has(self.rt, self.alloc, there.store.node(), NAME)?
+        {
+            return Ok(());
         }
+        Err(io::Error::from(ErrorKind::NotFound))
     }
 
     // Whether a call that fails now fails as it asks for the lock.
@@ -200,8 +300,12 @@ impl<'a, R: Files<File = File> + Alloc + Clock + Clone + Drop + Eprint> Store<'a
         if !self.is_there()? {
             return Ok(None);
         }
-        let place = self.place(name)?;
-        size_of_file(self.rt, place.as_str())
+        self.note_looked_at(name)?;
+        match self.there()?.store.look(self.rt, self.alloc, name)? {
+            Found::File(size) => Ok(Some(size)),
+            Found::Absent => Ok(None),
+            _ => Err(refused()),
+        }
     }
 
     /// The length of a file, and 0 of an absent one.
@@ -215,11 +319,18 @@ impl<'a, R: Files<File = File> + Alloc + Clock + Clone + Drop + Eprint> Store<'a
             return Ok(());
         }
         self.last_read = None;
-        let size = self.size(name)?;
-        if size > 0 {
-            let file = File::open(self.rt, self.place(name)?)?;
-            let name = String::from_str(self.alloc, name)?;
-            self.last_read = Some(LastRead { name, file, size });
+        if !self.is_there()? {
+            return Ok(());
+        }
+        self.note_looked_at(name)?;
+        let store = &self.there()?.store;
+        let opened = store.open_file(self.rt, self.alloc, name, OpenOptions::new().read(true))?;
+        if let Some(opened) = opened {
+            self.last_read = Some(LastRead {
+                name: String::from_str(self.alloc, name)?,
+                file: opened.file,
+                size: opened.size,
+            });
         }
         Ok(())
     }
@@ -246,20 +357,66 @@ impl<'a, R: Files<File = File> + Alloc + Clock + Clone + Drop + Eprint> Store<'a
         Ok(bytes)
     }
 
+    // Notes that this process has written a file.
+    fn note_written(&mut self, name: &str) -> io::Result<()> {
+        self.note_looked_at(name)?;
+        if !self.has_written(name) {
+            self.written.push(String::from_str(self.alloc, name)?)?;
+        }
+        Ok(())
+    }
+
+    // Makes a file again that has another name too, as in a snapshot by links, so that nothing is written through that name. The new
+    // one gets the name once it outlasts a stop; one that a stop left beside it goes first.
+    fn make_again(&self, name: &str) -> io::Result<File> {
+        let store = &self.there()?.store;
+        let beside = format!(in self.alloc; "{name}.again")?;
+        let beside = beside.as_str();
+        match store.remove_file(self.rt, self.alloc, beside) {
+            Err(e) if e.kind() != ErrorKind::NotFound => return Err(e),
+            _ => {}
+        }
+        let there = store.open_file(self.rt, self.alloc, name, OpenOptions::new().read(true))?;
+        let Some(mut there) = there else {
+            return Err(io::Error::from(ErrorKind::NotFound));
+        };
+        let mut made = store.make_file(self.rt, self.alloc, beside, false)?;
+        io::copy(&mut there.file, &mut made)?;
+        made.sync_all()?;
+        store.rename(self.rt, self.alloc, beside, store, name)?;
+        store.sync(self.rt, self.alloc)?;
+        if store.has(self.rt, self.alloc, node_of(&made.metadata()?), name)? {
+            return Ok(made);
+        }
+        Err(refused())
+    }
+
+    // Opens a file to be written, and makes it where it is absent. One that has another name too is made again.
+    fn open_to_write(&mut self, name: &str) -> io::Result<File> {
+        self.keep_lock()?;
+        let store = &self.there()?.store;
+        match store.open_file(self.rt, self.alloc, name, OpenOptions::new().write(true))? {
+            Some(opened) if opened.is_alone => {
+                store.share(&opened)?;
+                Ok(opened.file)
+            }
+            Some(_) => {
+                self.last_read = None;
+                self.make_again(name)
+            }
+            None => {
+                let made = store.make_file(self.rt, self.alloc, name, false)?;
+                self.has_stable_names = false;
+                Ok(made)
+            }
+        }
+    }
+
     /// Puts the bytes at `at`. The store and the file are made where they are absent.
     pub fn write_at(&mut self, name: &str, at: u64, bytes: &[u8]) -> io::Result<()> {
         self.make()?;
-        self.keep_lock()?;
-        let is_new = self.found(name)?.is_none();
-        if is_new {
-            self.has_stable_names = false;
-        }
-        let place = self.place(name)?;
-        let file = OpenOptions::new()
-            .write(true)
-            .create_new(is_new)
-            .open(self.rt, place.as_str())?;
-        share_file(self.rt, &file, place.as_str(), false)?;
+        let file = self.open_to_write(name)?;
+        self.note_written(name)?;
         file.write_all_at(bytes, at)
     }
 
@@ -267,13 +424,53 @@ impl<'a, R: Files<File = File> + Alloc + Clock + Clone + Drop + Eprint> Store<'a
     pub fn cut(&mut self, name: &str, len: u64) -> io::Result<()> {
         match self.found(name)? {
             Some(size) if len < size => {
-                self.keep_lock()?;
                 self.last_read = None;
-                let place = self.place(name)?;
-                let file = OpenOptions::new().write(true).open(self.rt, place)?;
+                let file = self.open_to_write(name)?;
+                self.note_written(name)?;
                 file.set_len(len)
             }
             _ => Ok(()),
+        }
+    }
+
+    // Puts the bytes of a file there again, if it may be written. A sync that failed in another process may have left pages that
+    // aren't on the disk and that the system takes for such that are: it syncs them no more, and answers that they are synced.
+    fn put_again(&mut self, name: &str) -> io::Result<()> {
+        let store = &self.there()?.store;
+        let opened = match store.open_file(
+            self.rt,
+            self.alloc,
+            name,
+            OpenOptions::new().read(true).write(true),
+        ) {
+            Ok(Some(opened)) if opened.is_alone => opened,
+            Ok(_) => return Ok(()),
+            Err(e) if is_denied(&e) => return Ok(()),
+            Err(e) => return Err(e),
+        };
+        self.keep_lock()?;
+        let mut bytes = Vec::new(self.alloc);
+        bytes.try_reserve_exact(opened.size as usize)?;
+        bytes.resize(opened.size as usize, 0)?;
+        opened.file.read_exact_at(bytes.as_mut_slice(), 0)?;
+        opened.file.write_all_at(bytes.as_slice(), 0)?;
+        self.note_written(name)
+    }
+
+    // Whether this process has written a file.
+    fn has_written(&self, name: &str) -> bool {
+        self.written.iter().any(|other| other.as_str() == name)
+    }
+
+    // Syncs a file that is there.
+    fn sync_file(&mut self, name: &str) -> io::Result<()> {
+        if !self.has_written(name) && self.there()?.lock.is_some() {
+            self.put_again(name)?;
+        }
+        let store = &self.there()?.store;
+        match store.open_file(self.rt, self.alloc, name, OpenOptions::new().read(true))? {
+            Some(opened) => opened.file.sync_all(),
+            None => Ok(()),
         }
     }
 
@@ -283,15 +480,148 @@ impl<'a, R: Files<File = File> + Alloc + Clock + Clone + Drop + Eprint> Store<'a
         if !self.is_there()? {
             return Ok(());
         }
-        if self.found(name)?.is_some() {
-            let place = self.place(name)?;
-            File::open(self.rt, place)?.sync_all()?;
-        }
+        self.sync_file(name)?;
+        self.note_synced(name)?;
         if !self.has_stable_names {
-            let store = self.in_home("store")?;
-            sync_folder(self.rt, store.as_str())?;
+            self.there()?.store.sync(self.rt, self.alloc)?;
             self.has_stable_names = true;
         }
         Ok(())
+    }
+
+    // Notes that this process has looked at a file, which has to be as it was once the lock is taken again.
+    fn note_looked_at(&mut self, name: &str) -> io::Result<()> {
+        let is_known = self.looked_at.iter().any(|other| other.as_str() == name);
+        if self.turn.lets_go && name != VERSIONS && !is_known {
+            self.looked_at.push(String::from_str(self.alloc, name)?)?;
+        }
+        Ok(())
+    }
+
+    // Notes that this process has synced a file, which is to be done again once the lock is taken again.
+    fn note_synced(&mut self, name: &str) -> io::Result<()> {
+        let is_known = self.synced.iter().any(|other| other.as_str() == name);
+        if self.turn.lets_go && name != VERSIONS && !is_known {
+            self.synced.push(String::from_str(self.alloc, name)?)?;
+        }
+        Ok(())
+    }
+
+    // Syncs again what was synced before the lock was let go: the sync of another process may have failed since.
+    fn sync_again(&mut self) -> io::Result<()> {
+        let synced = std::mem::replace(&mut self.synced, Vec::new(self.alloc));
+        self.written = Vec::new(self.alloc);
+        for name in &synced {
+            self.sync_file(name.as_str())?;
+        }
+        self.synced = synced;
+        Ok(())
+    }
+
+    // What a file holds, where it is there.
+    fn whole(&self, name: &str) -> io::Result<Option<Vec<u8>>> {
+        let store = &self.there()?.store;
+        match store.open_file(self.rt, self.alloc, name, OpenOptions::new().read(true))? {
+            None => Ok(None),
+            Some(opened) => {
+                let mut file = opened.file;
+                let mut bytes = Vec::new(self.alloc);
+                bytes.try_reserve_exact((opened.size as usize).saturating_add(1))?;
+                file.read_to_end(&mut bytes)?;
+                Ok(Some(bytes))
+            }
+        }
+    }
+
+    // What the files hold that were looked at so far.
+    fn seen(&self) -> io::Result<Vec<Seen>> {
+        let mut seen = Vec::new(self.alloc);
+        for name in &self.looked_at {
+            let bytes = self.whole(name.as_str())?;
+            let name = String::from_str(self.alloc, name.as_str())?;
+            seen.push(Seen { name, bytes })?;
+        }
+        Ok(seen)
+    }
+
+    // Whether each of these files holds what it held.
+    fn is_as_seen(&self, seen: &[Seen]) -> io::Result<bool> {
+        for file in seen {
+            let is_same = match (self.whole(file.name.as_str())?, &file.bytes) {
+                (Some(now), Some(before)) => now.as_slice() == before.as_slice(),
+                (None, None) => true,
+                _ => false,
+            };
+            if !is_same {
+                return Ok(false);
+            }
+        }
+        Ok(true)
+    }
+
+    /// Whether the lock may be let go while the command waits for something else: the call is a single command's, which holds it.
+    pub fn may_let_go(&self) -> bool {
+        self.turn.lets_go
+            && matches!(&self.standing, Standing::There(there) if there.lock.is_some())
+    }
+
+    /// Lets the lock go, where it may be. Answers what the files hold that were looked at so far, so that they can be compared once it
+    /// is taken again. Nothing else is remembered of them.
+    pub fn let_go(&mut self) -> io::Result<Option<Vec<Seen>>> {
+        if !self.may_let_go() {
+            return Ok(None);
+        }
+        self.keep_lock()?;
+        let seen = self.seen()?;
+        self.last_read = None;
+        self.has_stable_names = false;
+        if let Standing::There(there) = &mut self.standing {
+            there.lock = None;
+        }
+        Ok(Some(seen))
+    }
+
+    // Takes the lock again, however long another process holds it, and answers whether the store is as it was.
+    fn retake(&mut self, seen: &[Seen]) -> io::Result<bool> {
+        let patience = Patience {
+            seconds: u32::MAX,
+            ..self.patience()?
+        };
+        let there = self.there()?;
+        let lock = take_lock(self.rt, self.alloc, &there.home, patience)?;
+        let is_its_place = there
+            .home
+            .has(self.rt, self.alloc, there.store.node(), NAME)?;
+        let is_same = is_its_place && self.home_is_at_its_place()? && self.is_as_seen(seen)?;
+        if let Standing::There(there) = &mut self.standing {
+            there.lock = Some(lock);
+        }
+        if is_same {
+            self.sync_again()?;
+        }
+        Ok(is_same)
+    }
+
+    // Whether the project's folder is still the one of its place.
+    fn home_is_at_its_place(&self) -> io::Result<bool> {
+        let place = self.home.folder(self.alloc)?;
+        is_at(self.rt, self.there()?.home.node(), place.as_str())
+    }
+
+    /// Takes the lock again that was let go. Where a file that was looked at holds something else now the call is lost: each further
+    /// one fails, and the command is to be given again.
+    pub fn take_again(&mut self, seen: Option<Vec<Seen>>) -> io::Result<()> {
+        let Some(seen) = seen else {
+            return Ok(());
+        };
+        match self.retake(seen.as_slice()) {
+            Ok(true) => Ok(()),
+            taken => {
+                self.standing = Standing::Changed;
+                self.turn.is_lost.set(true);
+                taken?;
+                Err(changed())
+            }
+        }
     }
 }
