@@ -11,8 +11,10 @@ DESTDIR =
 INSTALL = install
 
 PROGRAM = crates/aegis/out/aegis
-SCRIPTS = share/aeexport share/aediff share/aewhy
-PAGES = share/aegis.1 share/aeexport.1 share/aediff.1 share/aewhy.1
+SCRIPTS = share/aeexport share/aediff share/aepass share/aewhy
+PAGES = share/aegis.1 share/aeexport.1 share/aediff.1 share/aepass.1 share/aewhy.1
+# what the scripts read
+READ = share/profile.sh share/store.sh share/shown.pl
 
 bin = $(DESTDIR)$(PREFIX)/bin
 share = $(DESTDIR)$(PREFIX)/share
@@ -33,13 +35,13 @@ install-built:
 	$(INSTALL) -m 644 $(PAGES) $(share)/man/man1
 	$(INSTALL) -m 644 share/aegis.5 $(share)/man/man5/aegis.5
 	$(INSTALL) -m 644 share/completion.bash $(share)/bash-completion/completions/aegis
-	$(INSTALL) -m 644 share/profile.sh $(share)/aegis/profile.sh
+	$(INSTALL) -m 644 $(READ) $(share)/aegis
 	echo "commit $$(git rev-parse HEAD 2>/dev/null || echo unknown)" >$(share)/aegis/commit
 	chmod 644 $(share)/aegis/commit
 
 uninstall:
 	rm -f $(bin)/aegis $(SCRIPTS:share/%=$(bin)/%) $(PAGES:share/%=$(share)/man/man1/%) $(share)/man/man5/aegis.5
-	rm -f $(share)/bash-completion/completions/aegis $(share)/aegis/profile.sh $(share)/aegis/commit
+	rm -f $(share)/bash-completion/completions/aegis $(READ:share/%=$(share)/aegis/%) $(share)/aegis/commit
 	-rmdir $(share)/aegis
 
 .PHONY: all test install install-built uninstall
