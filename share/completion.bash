@@ -31,15 +31,22 @@ _aegis_names() {
     done
 }
 
-# Offers a name where what is written begins it, whatever its case is.
+# Offers a name where what is written begins it, whatever its case is. Names of files come from whoever may write the folder, and bash
+# puts what is offered into the command line as it is: so what has other characters than names have is passed over.
 _aegis_offer() {
-    local written=${word,,}
+    local written=${word,,} LC_ALL=C
+    case $1 in '' | *[!A-Za-z0-9._+/-]*) return ;; esac
     case ${1,,} in "$written"*) COMPREPLY+=("$1") ;; esac
+}
+
+# Offers what could be a path or a number: such a word would be an option if it began with `-`.
+_aegis_offer_plain() {
+    case $1 in -*) ;; *) _aegis_offer "$1" ;; esac
 }
 
 _aegis_offer_all() {
     local name
-    while IFS= read -r name; do _aegis_offer "$name"; done
+    while IFS= read -r name; do _aegis_offer_plain "$name"; done
 }
 
 # The line of the function that a word spells in full or by its capitals.
@@ -132,7 +139,7 @@ _aegis_rows() {
 
 # The files in the directory of a change.
 _aegis_files() {
-    (cd "$top/$home/develop.$1" 2>/dev/null && find . -type f ! -path ./aegis.log | sed 's/^\.\///')
+    (cd "$top/$home/develop.$1" 2>/dev/null && find . -type f ! -path ./aegis.log ! -path $'*\n*' | sed 's/^\.\///')
 }
 
 # The plain words that a function's line asks for.
@@ -160,7 +167,7 @@ _aegis_words() {
     -c | --c | -change | --change) _aegis_offer_all < <(_aegis_changes) ;;
     -f | --f | -file | --file)
         compopt -o filenames 2>/dev/null
-        mapfile -t COMPREPLY < <(compgen -f -- "$word")
+        _aegis_offer_all < <(compgen -f -- "$word")
         ;;
     *)
         case $word in
@@ -221,6 +228,19 @@ _aegis_short() {
     [ -z "$line" ] || _aegis_words
 }
 
+# The number of a change after aediff and aepass, and the branch before it.
+_aegis_number() {
+    local word=${COMP_WORDS[COMP_CWORD]} home=aegis.d top=''
+    COMPREPLY=()
+    _aegis_take_branch
+    _aegis_find_top
+    case $COMP_CWORD-${COMP_WORDS[1]} in
+    1-*) _aegis_offer_all < <(_aegis_changes) ;;
+    2--br) _aegis_offer_all < <(_aegis_branches) ;;
+    esac
+}
+
 complete -F _aegis aegis
+complete -F _aegis_number aediff aepass
 complete -F _aegis_short aena aera aend aerd aenrv aerrv aeni aeri aenpr aepa aenc aeca aencu aedb aedbu aeb aede aedeu aerb aerbu \
     aerpass aerpu aerfail aeib aeibu aeipass aeifail aecp aecpu aenf aenfu aent aentu aerm aermu aet ael aescr aegen aeaud aerep aeds aedr

@@ -11,6 +11,15 @@
 # - Where a build or a test fails, the end of its log is shown; where a fault came, what aewhy finds.
 # - A listing that has waited in vain for another command is made from a copy of the project's records.
 
+# Where shown.pl is: beside aewhy, or where that is installed.
+_ae_lib=$(command -v aewhy) && _ae_lib=$(dirname "$(readlink -f "$_ae_lib")")
+[ -e "$_ae_lib/shown.pl" ] || _ae_lib=$(dirname "$_ae_lib")/share/aegis
+
+# What others wrote, on standard error: on a terminal what is no text of it is shown by its number.
+_ae_shown() {
+    if ! [ -t 2 ]; then cat; elif [ -e "$_ae_lib/shown.pl" ]; then perl "$_ae_lib/shown.pl"; else cat -v; fi >&2
+}
+
 # The folder of the project around the current one: what is below aegis.d belongs to the project around that.
 _ae_top() {
     case $PWD/ in
@@ -109,9 +118,9 @@ _ae() (
     case $name$status in
     b1 | t1)
         find "$home" -maxdepth 2 -name aegis.log -newer "$begun" | head -n 1 | while read -r log; do
-            echo "== the end of $log:"
+            printf '== the end of %s:\n' "$log"
             tail -n 20 "$log"
-        done >&2
+        done | _ae_shown
         ;;
     *3 | *4) if command -v aewhy >/dev/null 2>&1; then aewhy >&2; fi ;;
     esac
