@@ -27,7 +27,7 @@ test:
 
 install: all install-built
 
-# installs what was built before
+# Installs what was built before. `aegis --version` says the commit that was noted at the build of just this program, or none.
 install-built:
 	$(INSTALL) -d $(bin) $(share)/man/man1 $(share)/man/man5 $(share)/bash-completion/completions $(share)/aegis
 	$(INSTALL) -m 755 $(PROGRAM) $(bin)/aegis
@@ -36,7 +36,7 @@ install-built:
 	$(INSTALL) -m 644 share/aegis.5 $(share)/man/man5/aegis.5
 	$(INSTALL) -m 644 share/completion.bash $(share)/bash-completion/completions/aegis
 	$(INSTALL) -m 644 $(READ) $(share)/aegis
-	echo "commit $$(git rev-parse HEAD 2>/dev/null || echo unknown)" >$(share)/aegis/commit
+	.ci/note-build read $(PROGRAM) >$(share)/aegis/commit
 	chmod 644 $(share)/aegis/commit
 
 uninstall:
