@@ -4,6 +4,7 @@
 #   make test                  the test of everything
 #   make install               to PREFIX, which is /usr/local where nothing else is said; DESTDIR stands before it
 #   make install-built         the same, of a program that was built before
+#   make install-account       besides, what the GUIDE's account of its own needs; root puts the rules for sudo in place by hand
 #   make uninstall             takes it away again
 
 PREFIX = /usr/local
@@ -39,9 +40,21 @@ install-built:
 	.ci/note-build read $(PROGRAM) >$(share)/aegis/commit
 	chmod 644 $(share)/aegis/commit
 
+# The paths in these files are those of the PREFIX; what they run has to belong to root.
+account = $(DESTDIR)$(PREFIX)/lib/aegis
+install-account:
+	$(INSTALL) -d $(bin) $(share)/aegis $(account)/shell
+	$(INSTALL) -m 755 share/account/aeteam $(bin)
+	$(INSTALL) -m 755 share/account/aegis-for share/account/hand-over $(account)
+	$(INSTALL) -m 755 share/account/sh $(account)/shell
+	$(INSTALL) -m 644 share/account/sudoers $(share)/aegis
+	sed -i 's|/usr/local|$(PREFIX)|g' $(bin)/aeteam $(account)/aegis-for $(account)/shell/sh $(share)/aegis/sudoers
+
 uninstall:
+	rm -f $(bin)/aeteam $(account)/aegis-for $(account)/hand-over $(account)/shell/sh $(share)/aegis/sudoers
+	[ ! -d $(account) ] || rmdir $(account)/shell $(account)
 	rm -f $(bin)/aegis $(SCRIPTS:share/%=$(bin)/%) $(PAGES:share/%=$(share)/man/man1/%) $(share)/man/man5/aegis.5
 	rm -f $(share)/bash-completion/completions/aegis $(READ:share/%=$(share)/aegis/%) $(share)/aegis/commit
 	-rmdir $(share)/aegis
 
-.PHONY: all test install install-built uninstall
+.PHONY: all test install install-built install-account uninstall
