@@ -43,15 +43,17 @@ install-built:
 # The paths in these files are those of the PREFIX; what they run has to belong to root.
 account = $(DESTDIR)$(PREFIX)/lib/aegis
 install-account:
-	$(INSTALL) -d $(bin) $(share)/aegis $(account)/shell
+	$(INSTALL) -d $(bin) $(share)/aegis $(share)/man/man1 $(account)/shell
 	$(INSTALL) -m 755 share/account/aeteam $(bin)
 	$(INSTALL) -m 755 share/account/aegis-for share/account/hand-over $(account)
 	$(INSTALL) -m 755 share/account/sh $(account)/shell
 	$(INSTALL) -m 644 share/account/sudoers $(share)/aegis
-	sed -i 's|/usr/local|$(PREFIX)|g' $(bin)/aeteam $(account)/aegis-for $(account)/shell/sh $(share)/aegis/sudoers
+	$(INSTALL) -m 644 share/account/aeteam.1 $(share)/man/man1
+	sed -i 's|/usr/local|$(PREFIX)|g' $(bin)/aeteam $(account)/aegis-for $(account)/shell/sh $(share)/aegis/sudoers \
+		$(share)/man/man1/aeteam.1
 
 uninstall:
-	rm -f $(bin)/aeteam $(account)/aegis-for $(account)/hand-over $(account)/shell/sh $(share)/aegis/sudoers
+	rm -f $(bin)/aeteam $(account)/aegis-for $(account)/hand-over $(account)/shell/sh $(share)/aegis/sudoers $(share)/man/man1/aeteam.1
 	[ ! -d $(account) ] || rmdir $(account)/shell $(account)
 	rm -f $(bin)/aegis $(SCRIPTS:share/%=$(bin)/%) $(PAGES:share/%=$(share)/man/man1/%) $(share)/man/man5/aegis.5
 	rm -f $(share)/bash-completion/completions/aegis $(READ:share/%=$(share)/aegis/%) $(share)/aegis/commit
