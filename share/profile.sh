@@ -17,7 +17,7 @@ _ae_lib=$(command -v aewhy) && _ae_lib=$(dirname "$(readlink -f "$_ae_lib")")
 
 # What others wrote, on standard error: on a terminal what is no text of it is shown by its number.
 _ae_shown() {
-    if ! [ -t 2 ]; then cat; elif [ -e "$_ae_lib/shown.pl" ]; then perl "$_ae_lib/shown.pl"; else cat -v; fi >&2
+    if ! [ -t 2 ]; then cat; elif [ -e "$_ae_lib/shown.pl" ]; then LC_ALL=C perl "$_ae_lib/shown.pl"; else cat -v; fi >&2
 }
 
 # The folder of the project around the current one: what is below aegis.d belongs to the project around that.
