@@ -12,3 +12,7 @@ file_mode is_program folder = if is_program then bit_or 0o700 (shared_bits folde
 -- a folder that is made there; what is made in it keeps the group of the folder around where that one asks for it
 abbrev pub folder_mode : ℕ → ℕ
 folder_mode folder = bit_or (bit_or 0o700 (shared_bits folder)) (bit_and folder 0o2000)
+
+-- the lock that is made there: who may write in the folder may read and write it
+abbrev pub lock_mode : ℕ → ℕ
+lock_mode folder = bit_or (bit_or 0o600 (if nat_eq (bit_and folder 0o020) 0 then 0 else 0o060)) (if nat_eq (bit_and folder 0o002) 0 then 0 else 0o006)

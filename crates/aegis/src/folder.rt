@@ -1,15 +1,16 @@
 // A folder that is held open, and what is in it. What is in it is reached through its handle and not by its place, so that nobody
 // can put a link in the place of a part of the way between a look and a use.
-use crate::modes::{file_mode, folder_mode, give, has_mode};
+use crate::modes::{UNFINISHED, file_mode, folder_mode, give, is_mode, is_unfinished, lock_mode};
 use crate::places::{
-    Found, Node, entry_at, found_of, is_at, is_empty_folder, node_of, refused, seen_at, sync_folder,
+    Found, Node, entry_at, found_of, is_at, is_denied, is_empty_folder, maker, node_of, refused,
+    seen_at, sync_folder,
 };
 use std::alloc::{AllocError, Global};
 use std::cell::Cell;
-use std::fs::{File, Metadata, OpenOptions};
+use std::fs::{DirBuilder, File, Metadata, OpenOptions};
 use std::io::ErrorKind;
 use std::os::fd::AsRawFd;
-use std::os::unix::fs::{MetadataExt, OpenOptionsExt};
+use std::os::unix::fs::{DirBuilderExt, MetadataExt, OpenOptionsExt};
 use std::rt::Files;
 use std::{fs, io};
 
@@ -24,11 +25,14 @@ pub struct Folder {
     // What leads to it: its handle among the system's descriptors, or its place where the system shows none.
     way: String,
     node: Node,
+    owner: u32,
     mode: u32,
     // Whether the way is by a handle, or is the current folder.
     is_held: bool,
     // Whether what is made in it gets its mode of it. Else the mask of who makes it counts.
     is_shared: bool,
+    // Whether this process has just made it, so that there's hardly anything in it.
+    is_new: bool,
     // The mode that the last file that was made in it was asked for and had: the mask of who makes files doesn't change meanwhile.
     given: Cell<u32>,
 }
@@ -39,6 +43,15 @@ pub enum Inside {
     Folder(Folder),
     /// No folder.
     Other(Found),
+}
+
+/// What a file is made as, which says who may do what with it.
+#[derive(Clone, Copy, Debug, PartialEq, Eq)]
+pub enum Kind {
+    Plain,
+    /// It may be run, too.
+    Program,
+    Lock,
 }
 
 /// A regular file that is open, and what was known of it as it was opened.
@@ -52,8 +65,8 @@ pub struct Opened {
     pub is_alone: bool,
 }
 
-// The way to a folder by its handle; `None` where the system shows no descriptors of this process.
-fn way_by(
+/// The way to a folder by its handle; `None` where the system shows no descriptors of this process.
+pub fn way_by(
     files: &impl Files,
     alloc: Global,
     handle: &File,
@@ -70,6 +83,28 @@ fn way_by(
     }
 }
 
+/// The first folder on the way to a place that this process may not open, and the place itself where it is one.
+pub fn closed_on_the_way<R: Files<File = File> + Alloc + Clone + Drop>(
+    files: &R,
+    alloc: Global,
+    place: &str,
+) -> io::Result<Option<String>> {
+    let here = Folder::here(files, alloc, true)?;
+    let mut reached = String::new(alloc);
+    for part in place.split('/') {
+        if !reached.is_empty() {
+            reached.push_str("/")?;
+        }
+        reached.push_str(part)?;
+        match here.walk(files, alloc, reached.as_str(), false) {
+            Err(e) if is_denied(&e) => return Ok(Some(reached)),
+            Err(e) => return Err(e),
+            Ok(_) => {}
+        }
+    }
+    Ok(None)
+}
+
 impl Folder {
     /// The current folder. Nothing can be put in its place, however it is reached.
     pub fn here(
@@ -82,9 +117,11 @@ impl Folder {
             handle: None,
             way: String::from_str(alloc, ".")?,
             node: node_of(&known),
+            owner: known.uid(),
             mode: known.mode(),
             is_held: true,
             is_shared,
+            is_new: false,
             given: Cell::new(0),
         })
     }
@@ -100,6 +137,11 @@ impl Folder {
             Some(handle) => Ok(handle.try_lock()?),
             None => Ok(()),
         }
+    }
+
+    /// Whether this process has just made it.
+    pub fn is_new(&self) -> bool {
+        self.is_new
     }
 
     /// What leads to it itself.
@@ -164,14 +206,17 @@ impl Folder {
             handle: Some(handle),
             way,
             node,
+            owner: known.uid(),
             mode: known.mode(),
             is_held,
             is_shared: self.is_shared,
+            is_new: false,
             given: Cell::new(0),
         })
     }
 
-    /// Opens a folder in it. It fails where another one is opened than was looked at, as through a link that has appeared.
+    /// Opens a folder in it. What is no folder isn't opened, and nobody waited for. It's looked at again while it is open, so that its
+    /// number can't be another's: it fails where it isn't the one of that name, as through a link that has appeared.
     pub fn open(
         &self,
         files: &impl Files<File = File>,
@@ -185,9 +230,9 @@ impl Folder {
         if !there.is_dir() {
             return Ok(Inside::Other(found_of(&there)));
         }
-        let handle = File::open(files, place.as_str())?;
+        let handle = File::open(files, format!(in alloc; "{place}/.")?)?;
         let known = handle.metadata()?;
-        if !known.is_dir() || node_of(&known) != node_of(&there) {
+        if !is_at(files, node_of(&known), place.as_str())? {
             return Err(refused());
         }
         Ok(Inside::Folder(self.inner(files, alloc, name, handle, &known)?))
@@ -207,24 +252,28 @@ impl Folder {
     }
 
     /// Makes a folder in it, where nothing is.
-    pub fn make_new(
+    pub fn make_new<R: Files<File = File> + Alloc + Clone + Drop>(
         &self,
-        files: &impl Files<File = File>,
+        files: &R,
         alloc: Global,
         name: &str,
     ) -> io::Result<Folder> {
-        fs::create_dir(files, self.place(alloc, name)?)?;
-        let mut made = self.open_there(files, alloc, name)?;
-        if self.is_shared {
-            made.take_mode(folder_mode(self.mode))?;
+        let place = self.place(alloc, name)?;
+        if !self.is_shared {
+            fs::create_dir(files, place)?;
+            return self.open_there(files, alloc, name);
         }
+        DirBuilder::new().mode(UNFINISHED).create(files, place)?;
+        let mut made = self.open_there(files, alloc, name)?;
+        made.take_mode(files, alloc, folder_mode(self.mode))?;
+        made.is_new = true;
         Ok(made)
     }
 
     /// Has a folder in it. One that is there stays as it is, and anything else there is an error.
-    pub fn make(
+    pub fn make<R: Files<File = File> + Alloc + Clone + Drop>(
         &self,
-        files: &impl Files<File = File>,
+        files: &R,
         alloc: Global,
         name: &str,
     ) -> io::Result<Folder> {
@@ -234,8 +283,32 @@ impl Folder {
         }
     }
 
-    // Gives it a mode. Where it isn't ours, it keeps the one that it has.
-    fn take_mode(&mut self, mode: u32) -> io::Result<()> {
+    // Whether it is as this process makes one: it is ours, and nobody else may reach what is in it. Some file systems know no owners
+    // or modes.
+    fn is_as_made(&self, files: &impl Files, alloc: Global) -> io::Result<bool> {
+        if !is_unfinished(self.mode) {
+            return Ok(false);
+        }
+        match maker(files, alloc)? {
+            Some(maker) => Ok(maker == self.owner),
+            None => Ok(true),
+        }
+    }
+
+    // Gives it its mode, where it was just made. Another one may have got its name meanwhile, so it has to be empty, and one that isn't
+    // as this process makes them keeps the mode that it has.
+    fn take_mode<R: Files<File = File> + Alloc + Clone + Drop>(
+        &mut self,
+        files: &R,
+        alloc: Global,
+        mode: u32,
+    ) -> io::Result<()> {
+        if !self.is_empty(files, alloc)? {
+            return Err(refused());
+        }
+        if !self.is_as_made(files, alloc)? {
+            return Ok(());
+        }
         if let Some(handle) = &self.handle {
             give(handle, self.mode, mode)?;
             self.mode = handle.metadata()?.mode();
@@ -244,9 +317,9 @@ impl Folder {
     }
 
     // Opens a folder in it, or has it there.
-    fn enter(
+    fn enter<R: Files<File = File> + Alloc + Clone + Drop>(
         &self,
-        files: &impl Files<File = File>,
+        files: &R,
         alloc: Global,
         name: &str,
         makes: bool,
@@ -258,9 +331,9 @@ impl Folder {
     }
 
     /// Opens the folder at a path below it, part by part, or has it there; or says what is in the place of one that isn't.
-    pub fn walk(
+    pub fn walk<R: Files<File = File> + Alloc + Clone + Drop>(
         &self,
-        files: &impl Files<File = File>,
+        files: &R,
         alloc: Global,
         path: &str,
         makes: bool,
@@ -293,22 +366,22 @@ impl Folder {
             return Err(refused());
         }
         let file = how.open(files, place)?;
-        let known = file.metadata()?;
-        if !known.is_file() || node_of(&known) != node_of(&there) {
-            return Err(io::Error::from(ErrorKind::NotFound));
+        let node = node_of(&file.metadata()?);
+        match seen_at(files, place)? {
+            Some(known) if known.is_file() && node_of(&known) == node => Ok(Some(Opened {
+                file,
+                size: known.len(),
+                mode: known.mode(),
+                node,
+                is_alone: known.nlink() == 1,
+            })),
+            _ => Err(io::Error::from(ErrorKind::NotFound)),
         }
-        Ok(Some(Opened {
-            file,
-            size: known.len(),
-            mode: known.mode(),
-            node: node_of(&known),
-            is_alone: there.nlink() == 1 && known.nlink() == 1,
-        }))
     }
 
-    /// Opens a regular file in it, by options that neither make nor shorten one; `None` where nothing is there. What is opened is
-    /// compared with what was looked at, so that it's the file of that name and no other to which a link leads. Who saves a file
-    /// puts another in its place, so it's tried again.
+    /// Opens a regular file in it, by options that neither make nor shorten one; `None` where nothing is there. It's looked at again
+    /// while it is open, so that its number can't be another's: it is the file of that name, and no other to which a link leads. Who
+    /// saves a file puts another in its place, so it's tried again.
     pub fn open_file(
         &self,
         files: &impl Files<File = File>,
@@ -324,6 +397,28 @@ impl Folder {
             }
         }
         self.try_open_file(files, place.as_str(), how)
+    }
+
+    /// Opens a regular file in it to be read; `None` where nothing is there. Where it may be written it's opened for that too: nobody
+    /// is waited for then, should a pipe have got its name just before.
+    pub fn open_to_read(
+        &self,
+        files: &impl Files<File = File>,
+        alloc: Global,
+        name: &str,
+    ) -> io::Result<Option<Opened>> {
+        for _ in 0..TRIES {
+            match self.open_file(
+                files,
+                alloc,
+                name,
+                OpenOptions::new().read(true).write(true),
+            ) {
+                Err(e) if is_denied(&e) => {}
+                opened => return opened,
+            }
+        }
+        self.open_file(files, alloc, name, OpenOptions::new().read(true))
     }
 
     /// Opens a regular file in it to be read; `None` where there is none, also where something else is.
@@ -357,19 +452,25 @@ impl Folder {
         Err(refused())
     }
 
-    /// Makes a file in it, where nothing is, to be read and written.
+    // The mode that a file of that kind is made with in it.
+    fn mode_of(&self, kind: Kind) -> u32 {
+        match (self.is_shared, kind) {
+            (true, Kind::Lock) => lock_mode(self.mode),
+            (true, _) => file_mode(kind == Kind::Program, self.mode),
+            (false, Kind::Program) => 0o777,
+            (false, _) => 0o666,
+        }
+    }
+
+    /// Makes a file in it, where nothing is, to be read and written. Only a file that was just made is ever given a mode.
     pub fn make_file(
         &self,
         files: &impl Files<File = File>,
         alloc: Global,
         name: &str,
-        is_program: bool,
+        kind: Kind,
     ) -> io::Result<File> {
-        let mode = match (self.is_shared, is_program) {
-            (true, _) => file_mode(is_program, self.mode),
-            (false, true) => 0o777,
-            (false, false) => 0o666,
-        };
+        let mode = self.mode_of(kind);
         let place = self.place(alloc, name)?;
         let file = OpenOptions::new()
             .read(true)
@@ -384,17 +485,17 @@ impl Folder {
         self.look_again(files, alloc, &made, name)?;
         if self.is_shared {
             give(&file, made.mode(), mode)?;
-            self.given.set(if has_mode(&made, mode) { mode } else { 0 });
+            self.given
+                .set(if is_mode(made.mode(), mode) { mode } else { 0 });
         }
         Ok(file)
     }
 
-    /// Lets those use a file of it whom it lets, where no other name leads to the file.
-    pub fn share(&self, opened: &Opened) -> io::Result<()> {
-        if self.is_shared && opened.is_alone {
-            return give(&opened.file, opened.mode, file_mode(false, self.mode));
-        }
-        Ok(())
+    /// Whether a file of it that was found is to be made again before it's written: it has another name too, or nothing was written to
+    /// it yet, and who made it was stopped before it got its mode.
+    pub fn is_to_be_made_again(&self, opened: &Opened) -> bool {
+        let has_its_mode = !self.is_shared || is_mode(opened.mode, self.mode_of(Kind::Plain));
+        !opened.is_alone || (opened.size == 0 && !has_its_mode)
     }
 
     /// Removes what is in it by a name and is no folder.

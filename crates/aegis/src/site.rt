@@ -6,10 +6,10 @@ ghost use Rattle.ae_outside.specs.Untold.{untold_site};
 ghost use Rattle.aegis.specs.Runs.{HasNoEnd, IsExitOf, IsShell};
 
 use crate::around::{Around, below};
-use crate::folder::{Folder, Inside, Opened};
+use crate::folder::{Folder, Inside, Kind, Opened, closed_on_the_way};
 use crate::home::Home;
 use crate::kept::{Place, keep_file, keep_folder, put_away};
-use crate::places::{Found, refused};
+use crate::places::{Found, is_denied, refused};
 use crate::run_log;
 use crate::store::{Seen, Store};
 use crate::taken::Taken;
@@ -164,6 +164,16 @@ impl<'s, 'a, R: Files<File = File> + Alloc + Clock + Clone + Drop + Eprint + Pro
         }
     }
 
+    // The folder on the way to a directory, or to a file of it, that may not be opened.
+    fn closed(&self, dir: &Dir, path: Option<&Path>) -> Option<String> {
+        let place = self.place_of_fault(dir, path)?;
+        let around = match path {
+            Some(_) => place.rsplit_once('/')?.0,
+            None => place.as_str(),
+        };
+        closed_on_the_way(self.rt, self.alloc, around).ok()?
+    }
+
     fn count(
         &mut self,
         call: &'static str,
@@ -173,7 +183,10 @@ impl<'s, 'a, R: Files<File = File> + Alloc + Clock + Clone + Drop + Eprint + Pro
     ) -> Failed
         ensures { Counted self.old.faults.count self.new.faults.count ⊤ }
     {
-        let place = self.place_of_fault(dir, path);
+        let place = match self.closed(dir, path) {
+            Some(folder) if is_denied(&error) => Some(folder),
+            _ => self.place_of_fault(dir, path),
+        };
         self.faults.add(call, place, error)
     }
 
@@ -257,13 +270,24 @@ impl<'s, 'a, R: Files<File = File> + Alloc + Clock + Clone + Drop + Eprint + Pro
             _ => return Err(refused()),
         }
         let folder = around.last()?;
+        if folder.is_new() {
+            match self.make_file(folder, way.name, bytes) {
+                Err(e) if e.kind() == ErrorKind::AlreadyExists => {}
+                made => return made,
+            }
+        }
+        self.put(dir, folder, &way, bytes)
+    }
+
+    // Puts a file into a folder, in which there may be one of its name.
+    fn put(&self, dir: &Dir, folder: &Folder, way: &Way, bytes: &[u8]) -> io::Result<()> {
         match folder.look(self.rt, self.alloc, way.name)? {
             Found::Absent => {}
             Found::File(size) => {
                 if size == bytes.len() as u64 && self.holds(folder, way.name, bytes) {
                     return Ok(());
                 }
-                self.take_away(dir, folder, &way, size)?;
+                self.take_away(dir, folder, way, size)?;
             }
             _ => return Err(refused()),
         }
@@ -319,8 +343,12 @@ impl<'s, 'a, R: Files<File = File> + Alloc + Clock + Clone + Drop + Eprint + Pro
 
     // Makes a file where nothing is.
     fn make_file(&self, folder: &Folder, name: &str, bytes: &[u8]) -> io::Result<()> {
-        let is_program = bytes.starts_with(PROGRAM);
-        let mut file = folder.make_file(self.rt, self.alloc, name, is_program)?;
+        let kind = if bytes.starts_with(PROGRAM) {
+            Kind::Program
+        } else {
+            Kind::Plain
+        };
+        let mut file = folder.make_file(self.rt, self.alloc, name, kind)?;
         file.write_all(bytes)
     }
 
@@ -380,7 +408,8 @@ impl<'s, 'a, R: Files<File = File> + Alloc + Clock + Clone + Drop + Eprint + Pro
         }
     }
 
-    fn try_clear(&self, dir: &Dir) -> io::Result<()> {
+    fn try_clear(&self, around: &mut Around, dir: &Dir) -> io::Result<()> {
+        around.forget();
         if *dir == Dir::Here {
             return Err(refused());
         }
@@ -396,7 +425,8 @@ impl<'s, 'a, R: Files<File = File> + Alloc + Clock + Clone + Drop + Eprint + Pro
             Found::Absent => {}
             _ => return Err(refused()),
         }
-        home.make_new(self.rt, self.alloc, name)?;
+        let made = home.make_new(self.rt, self.alloc, name)?;
+        around.hold(place, made);
         Ok(())
     }
 
@@ -550,8 +580,9 @@ impl<'s, 'a, R: Files<File = File> + Alloc + Clock + Clone + Drop + Eprint + Pro
         if let Err(e) = self.have(&dir) {
             return Err(self.count("clear", &dir, None, e));
         }
-        self.around.forget();
-        let cleared = self.try_clear(&dir);
+        let mut around = std::mem::replace(&mut self.around, Around::unknown());
+        let cleared = self.try_clear(&mut around, &dir);
+        self.around = around;
         if let Ok(place) = self.folder_of(&dir) {
             self.taken.forget(place.as_str());
         }

@@ -1,10 +1,10 @@
 // The files of a store, which lie in the folder `store` of its project's own.
 ghost use Rattle.std.specs.Prelude.{◌≤◌, length, IfOk};
 
-use crate::folder::{Folder, Inside};
+use crate::folder::{Folder, Inside, Kind, Opened, closed_on_the_way};
 use crate::home::Home;
 use crate::lock::{Lock, Patience, take_lock};
-use crate::places::{Found, is_at, node_of, refused};
+use crate::places::{Found, is_at, is_denied, node_of, refused};
 use std::alloc::Global;
 use std::cell::Cell;
 use std::fs::{File, OpenOptions};
@@ -21,12 +21,17 @@ const NAME: &str = "store";
 pub enum Access {
     /// It reads and writes it, alone: it takes the lock, which is waited for so long.
     Alone(Patience),
+    /// The same, but it promises nothing that a stop could undo: it writes only what a command that was stopped had begun.
+    Listing(Patience),
     /// It reads it as it is, without the lock, and writes nothing.
     Reading,
 }
 
 // The file with the bytes of versions. Those that a record names are never overwritten while it does.
 const VERSIONS: &str = "pack";
+
+// The file whose first byte says whether a commit was begun.
+const GATE: &str = "gate";
 
 /// Whether the lock may be let go while a command's child runs, and whether what was read before has changed meanwhile.
 #[derive(Drop)]
@@ -116,11 +121,6 @@ fn changed() -> io::Error {
     io::Error::from(ErrorKind::Interrupted)
 }
 
-// Whether a file may not be written, or none be made.
-fn is_denied(error: &io::Error) -> bool {
-    error.kind() == ErrorKind::PermissionDenied || error.kind() == ErrorKind::ReadOnlyFilesystem
-}
-
 impl<'a, R: Files<File = File> + Alloc + Clock + Clone + Drop + Eprint> Store<'a, R> {
     /// A store that hasn't been looked for yet.
     pub fn new(
@@ -203,7 +203,9 @@ impl<'a, R: Files<File = File> + Alloc + Clock + Clone + Drop + Eprint> Store<'a
             return Ok(false);
         };
         let lock = match self.access {
-            Access::Alone(patience) => self.hold(&home, &store, patience)?,
+            Access::Alone(patience) | Access::Listing(patience) => {
+                self.hold(&home, &store, patience)?
+            }
             Access::Reading => None,
         };
         self.standing = Standing::There(There { home, store, lock });
@@ -231,7 +233,7 @@ impl<'a, R: Files<File = File> + Alloc + Clock + Clone + Drop + Eprint> Store<'a
     /// How long the lock is waited for. Where the store is only read, nothing may be written.
     pub fn patience(&self) -> io::Result<Patience> {
         match self.access {
-            Access::Alone(patience) => Ok(patience),
+            Access::Alone(patience) | Access::Listing(patience) => Ok(patience),
             Access::Reading => Err(not_allowed()),
         }
     }
@@ -275,23 +277,49 @@ impl<'a, R: Files<File = File> + Alloc + Clock + Clone + Drop + Eprint> Store<'a
 
     // Whether a call that fails now fails as it asks for the lock.
     fn asks_for_lock(&self) -> bool {
-        matches!(
-            (&self.standing, self.access),
-            (Standing::Unknown, Access::Alone(_))
-        )
+        matches!(self.standing, Standing::Unknown) && self.access != Access::Reading
     }
 
-    /// What fails where this call does: taking the lock, as long as that isn't held, and then the call.
+    // The folder on the way to the lock that may not be opened, where that is why it isn't held.
+    fn closed(&self) -> Option<String> {
+        let store = self.in_home(NAME).ok()?;
+        closed_on_the_way(self.rt, self.alloc, store.as_str()).ok()?
+    }
+
+    /// What fails where this call does: opening a folder on the way, or taking the lock, as long as that isn't held, and then the call.
     pub fn call_of_fault(&self, call: &'static str) -> &'static str {
-        if self.asks_for_lock() { "lock" } else { call }
+        if !self.asks_for_lock() {
+            return call;
+        }
+        match self.closed() {
+            Some(_) => "open",
+            None => "lock",
+        }
     }
 
-    /// Where a call for this file fails: at the lock, as long as that isn't held, and then at the file.
+    /// Where a call for this file fails: at a folder on the way, or at the lock, as long as that isn't held, and then at the file.
     pub fn place_of_fault(&self, name: &str) -> io::Result<String> {
-        if self.asks_for_lock() {
-            self.in_home("lock")
-        } else {
-            self.place(name)
+        if !self.asks_for_lock() {
+            return self.place(name);
+        }
+        match self.closed() {
+            Some(folder) => Ok(folder),
+            None => self.in_home("lock"),
+        }
+    }
+
+    /// Takes the lock, where the store is there, before any call does. Answers whether nothing was in the way.
+    pub fn take_first(&mut self) -> bool {
+        self.is_there().is_ok()
+    }
+
+    /// From now on the lock isn't waited for.
+    pub fn hurry(&mut self) {
+        if let Access::Alone(patience) = self.access {
+            self.access = Access::Alone(Patience {
+                seconds: 0,
+                ..patience
+            });
         }
     }
 
@@ -313,6 +341,17 @@ impl<'a, R: Files<File = File> + Alloc + Clock + Clone + Drop + Eprint> Store<'a
         Ok(self.found(name)?.unwrap_or(0))
     }
 
+    // Opens a file to be read, where it is there. Where the store is only read nothing is opened to be written.
+    fn open(&self, name: &str) -> io::Result<Option<Opened>> {
+        let store = &self.there()?.store;
+        match self.access {
+            Access::Reading => {
+                store.open_file(self.rt, self.alloc, name, OpenOptions::new().read(true))
+            }
+            _ => store.open_to_read(self.rt, self.alloc, name),
+        }
+    }
+
     // Has a file open for reading, where it is there and holds something. It is looked for once, unless another is read meanwhile.
     fn open_to_read(&mut self, name: &str) -> io::Result<()> {
         if matches!(&self.last_read, Some(last) if last.name.as_str() == name) {
@@ -323,9 +362,7 @@ impl<'a, R: Files<File = File> + Alloc + Clock + Clone + Drop + Eprint> Store<'a
             return Ok(());
         }
         self.note_looked_at(name)?;
-        let store = &self.there()?.store;
-        let opened = store.open_file(self.rt, self.alloc, name, OpenOptions::new().read(true))?;
-        if let Some(opened) = opened {
+        if let Some(opened) = self.open(name)? {
             self.last_read = Some(LastRead {
                 name: String::from_str(self.alloc, name)?,
                 file: opened.file,
@@ -366,8 +403,8 @@ impl<'a, R: Files<File = File> + Alloc + Clock + Clone + Drop + Eprint> Store<'a
         Ok(())
     }
 
-    // Makes a file again that has another name too, as in a snapshot by links, so that nothing is written through that name. The new
-    // one gets the name once it outlasts a stop; one that a stop left beside it goes first.
+    // Makes a file again. Where it has another name too, as in a snapshot by links, nothing is written through that one. The new file
+    // gets the name once it outlasts a stop; one that a stop left beside it goes first.
     fn make_again(&self, name: &str) -> io::Result<File> {
         let store = &self.there()?.store;
         let beside = format!(in self.alloc; "{name}.again")?;
@@ -376,11 +413,10 @@ impl<'a, R: Files<File = File> + Alloc + Clock + Clone + Drop + Eprint> Store<'a
             Err(e) if e.kind() != ErrorKind::NotFound => return Err(e),
             _ => {}
         }
-        let there = store.open_file(self.rt, self.alloc, name, OpenOptions::new().read(true))?;
-        let Some(mut there) = there else {
+        let Some(mut there) = self.open(name)? else {
             return Err(io::Error::from(ErrorKind::NotFound));
         };
-        let mut made = store.make_file(self.rt, self.alloc, beside, false)?;
+        let mut made = store.make_file(self.rt, self.alloc, beside, Kind::Plain)?;
         io::copy(&mut there.file, &mut made)?;
         made.sync_all()?;
         store.rename(self.rt, self.alloc, beside, store, name)?;
@@ -391,21 +427,23 @@ impl<'a, R: Files<File = File> + Alloc + Clock + Clone + Drop + Eprint> Store<'a
         Err(refused())
     }
 
-    // Opens a file to be written, and makes it where it is absent. One that has another name too is made again.
+    // Opens a file to be written, and makes it where it is absent, or again where another name would be written, too.
     fn open_to_write(&mut self, name: &str) -> io::Result<File> {
         self.keep_lock()?;
         let store = &self.there()?.store;
-        match store.open_file(self.rt, self.alloc, name, OpenOptions::new().write(true))? {
-            Some(opened) if opened.is_alone => {
-                store.share(&opened)?;
-                Ok(opened.file)
-            }
-            Some(_) => {
+        match store.open_file(
+            self.rt,
+            self.alloc,
+            name,
+            OpenOptions::new().read(true).write(true),
+        )? {
+            Some(opened) if store.is_to_be_made_again(&opened) => {
                 self.last_read = None;
                 self.make_again(name)
             }
+            Some(opened) => Ok(opened.file),
             None => {
-                let made = store.make_file(self.rt, self.alloc, name, false)?;
+                let made = store.make_file(self.rt, self.alloc, name, Kind::Plain)?;
                 self.has_stable_names = false;
                 Ok(made)
             }
@@ -433,8 +471,14 @@ impl<'a, R: Files<File = File> + Alloc + Clock + Clone + Drop + Eprint> Store<'a
         }
     }
 
-    // Puts the bytes of a file there again, if it may be written. A sync that failed in another process may have left pages that
-    // aren't on the disk and that the system takes for such that are: it syncs them no more, and answers that they are synced.
+    // Whether a listing leaves a file as it is: the gate, where no commit was begun. The next command that writes puts it there again.
+    fn is_left_alone(&self, name: &str, first: Option<&u8>) -> bool {
+        matches!(self.access, Access::Listing(_)) && name == GATE && first != Some(&1)
+    }
+
+    // Puts the bytes of a file there again, if it may be written; of the gate the one that counts. A sync that failed in another process
+    // may have left pages that aren't on the disk and that the system takes for such that are: it syncs them no more, and answers
+    // that they are synced.
     fn put_again(&mut self, name: &str) -> io::Result<()> {
         let store = &self.there()?.store;
         let opened = match store.open_file(
@@ -448,11 +492,15 @@ impl<'a, R: Files<File = File> + Alloc + Clock + Clone + Drop + Eprint> Store<'a
             Err(e) if is_denied(&e) => return Ok(()),
             Err(e) => return Err(e),
         };
-        self.keep_lock()?;
+        let most = if name == GATE { 1 } else { opened.size };
         let mut bytes = Vec::new(self.alloc);
-        bytes.try_reserve_exact(opened.size as usize)?;
-        bytes.resize(opened.size as usize, 0)?;
+        bytes.try_reserve_exact(opened.size.min(most) as usize)?;
+        bytes.resize(opened.size.min(most) as usize, 0)?;
         opened.file.read_exact_at(bytes.as_mut_slice(), 0)?;
+        if self.is_left_alone(name, bytes.as_slice().first()) {
+            return Ok(());
+        }
+        self.keep_lock()?;
         opened.file.write_all_at(bytes.as_slice(), 0)?;
         self.note_written(name)
     }
@@ -467,8 +515,7 @@ impl<'a, R: Files<File = File> + Alloc + Clock + Clone + Drop + Eprint> Store<'a
         if !self.has_written(name) && self.there()?.lock.is_some() {
             self.put_again(name)?;
         }
-        let store = &self.there()?.store;
-        match store.open_file(self.rt, self.alloc, name, OpenOptions::new().read(true))? {
+        match self.open(name)? {
             Some(opened) => opened.file.sync_all(),
             None => Ok(()),
         }
@@ -520,8 +567,7 @@ impl<'a, R: Files<File = File> + Alloc + Clock + Clone + Drop + Eprint> Store<'a
 
     // What a file holds, where it is there.
     fn whole(&self, name: &str) -> io::Result<Option<Vec<u8>>> {
-        let store = &self.there()?.store;
-        match store.open_file(self.rt, self.alloc, name, OpenOptions::new().read(true))? {
+        match self.open(name)? {
             None => Ok(None),
             Some(opened) => {
                 let mut file = opened.file;
