@@ -1,4 +1,7 @@
-// The descriptors of the standard streams.
+// The descriptors of the standard streams, and whether the system shows those of this process.
+use crate::folder::way_by;
+use crate::places::node_of;
+use std::alloc::Global;
 use std::fs::File;
 use std::io;
 use std::os::fd::{AsRawFd, IntoRawFd, RawFd};
@@ -22,4 +25,11 @@ pub fn fill(files: &impl Files<File = File>) -> io::Result<()> {
         folder.into_raw_fd();
     }
     Ok(())
+}
+
+/// Whether the system shows descriptors, so that folders are held and reached by them.
+pub fn are_shown(files: &impl Files<File = File>, alloc: Global) -> io::Result<bool> {
+    let folder = File::open(files, FOLDER)?;
+    let node = node_of(&folder.metadata()?);
+    Ok(way_by(files, alloc, &folder, node)?.is_some())
 }

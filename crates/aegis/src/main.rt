@@ -80,12 +80,15 @@ fn tell(rt: &impl Eprint, device: &str, trouble: Option<&Trouble>) {
     }
 }
 
-// What a command of these words does with its store: an audit only reads it.
+// What a command of these words does with its store: an audit only reads it, and what shows something promises nothing of a stop.
 fn access(rt: &HostRuntime, words: &[String]) -> Access {
-    if first_function(words) == Some(Function::Audit) {
-        Access::Reading
-    } else {
-        Access::Alone(who::patience(rt, rt.stderr().is_terminal()))
+    let patience = who::patience(rt, rt.stderr().is_terminal());
+    match first_function(words) {
+        Some(Function::Audit) => Access::Reading,
+        Some(Function::List | Function::Report | Function::DistributionSend) => {
+            Access::Listing(patience)
+        }
+        _ => Access::Alone(patience),
     }
 }
 
@@ -107,11 +110,35 @@ fn is_single(words: &[String]) -> bool {
         )
 }
 
-// Where a call works: in the project, or in this branch of it, and how it comes by the lock.
+// Where a call works: in the project, or in this branch of it, or between the two; and how it comes by the locks.
 #[derive(Clone, Copy)]
 struct Where<'a> {
     branch: Home<'a>,
+    is_between: bool,
     access: Access,
+}
+
+// Takes the lock of the trunk before a call between it and a branch asks for that of the branch, so that no two of them wait for each
+// other. Where it can't be taken, neither is waited for any more.
+fn take_trunk_first<'a>(
+    trunk: &RefCell<Store<'a, HostRuntime>>,
+    branch: &RefCell<Store<'a, HostRuntime>>,
+) {
+    let (Ok(mut trunk), Ok(mut branch)) = (trunk.try_borrow_mut(), branch.try_borrow_mut()) else {
+        return;
+    };
+    if !trunk.take_first() {
+        trunk.hurry();
+        branch.hurry();
+    }
+}
+
+// Says why folders aren't held, where they aren't.
+fn tell_of_places(rt: &HostRuntime) {
+    if let Ok(false) = descriptors::are_shown(rt, rt.alloc()) {
+        let why = "the system shows no descriptors (/proc), so folders are reached by their places";
+        rt.eprintln(format_args!("aegis: directory: {why}")).ok();
+    }
 }
 
 // Makes one call, with the real devices: those of the project, and those of this branch of it.
@@ -124,6 +151,9 @@ fn call<'x>(
 ) -> Outcome {
     let trunk_store = RefCell::new(Store::new(rt, rt.alloc(), Home::Trunk, place.access, turn));
     let store = RefCell::new(Store::new(rt, rt.alloc(), place.branch, place.access, turn));
+    if place.is_between {
+        take_trunk_first(&trunk_store, &store);
+    }
     let mut trunk = RealDisk::new(&trunk_store);
     let mut trunk_site = RealSite::new(rt, rt.alloc(), Home::Trunk, &trunk_store);
     let mut disk = RealDisk::new(&store);
@@ -145,6 +175,7 @@ fn call<'x>(
         &mut errors,
     );
     if who::is_traced(rt) && !turn.is_lost() {
+        tell_of_places(rt);
         tell(rt, "disk", trunk.trouble());
         tell(rt, "disk", disk.trouble());
         tell(rt, "directory", trunk_site.trouble());
@@ -180,6 +211,7 @@ fn work(rt: &HostRuntime, words: &[String], who: &str) -> Outcome {
         (Ok(Some(said)), [_, _, command @ ..]) => {
             let place = Where {
                 branch: Home::Branch(&said.name),
+                is_between: said.rest != Rest::Plain,
                 access: access(rt, command),
             };
             work_at(
@@ -193,6 +225,7 @@ fn work(rt: &HostRuntime, words: &[String], who: &str) -> Outcome {
         _ => {
             let place = Where {
                 branch: Home::Nowhere,
+                is_between: false,
                 access: access(rt, words),
             };
             work_at(rt, words, who, place, is_single(words))
