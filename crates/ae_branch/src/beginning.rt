@@ -1,8 +1,10 @@
 // A branch is begun.
 ghost use Rattle.std.specs.Prelude.{◌≡◌, ◌≤◌, ◌⊎◌, ◌++◌, All, IfOk, IfErr, List, OnOk, Result};
+ghost use Rattle.std.specs.Result.{IsErrAnd};
 ghost use Rattle.ae_base.specs.declared.outcome.Outcome.{Outcome};
 ghost use Rattle.ae_base.specs.declared.outcome.Outcome.TheVariants.{Memory};
 ghost use Rattle.ae_dist.specs.Answers.{IsAnswered};
+ghost use Rattle.ae_exec.specs.Opened.{HasOpened, IsOpenedUnless, MayBeUnopened};
 ghost use Rattle.ae_exec.specs.Performs.{LeavesDisk};
 ghost use Rattle.ae_lines.specs.Acts.{MayBeDone};
 ghost use Rattle.ae_lines.specs.declared.act.Act.{Act};
@@ -43,6 +45,7 @@ fn check_vacant<B: Disk>(alloc: Global, disk: &mut B) -> Result<(), Outcome>
         (DiskFailed B.Disk disk.old disk.new) result }
     ensures disk { B.tells → LeavesDisk (B.state disk.old) (B.state disk.new) (Unit {0}) }
     ensures clean { OnOk result (IsCleanDisk B.Disk disk.new) }
+    ensures opened { B.tells → IsOpenedUnless (IsErrAnd result MayBeUnopened) (B.state disk.old) (B.state disk.new) }
     ensures later { B.faults disk.old ≤ B.faults disk.new }
 {
     match load_project(alloc, disk, Want::Nothing) {
@@ -165,6 +168,7 @@ fn begin_with<D: Disk, B: Disk>(
     ensures trunk_later { D.faults trunk.old ≤ D.faults trunk.new }
     ensures disk { B.tells → LeavesDisk (B.state disk.old) (B.state disk.new) (Unit {0}) }
     ensures clean { OnOk result (IsCleanDisk B.Disk disk.new) }
+    ensures opened { OnOk result (B.tells → HasOpened (B.state disk.old) (B.state disk.new)) }
     ensures disk_later { B.faults disk.old ≤ B.faults disk.new }
 {
     match check_vacant(alloc, disk) {
@@ -200,6 +204,9 @@ pub(crate) fn prepare_begin<D: Disk, B: Disk>(
     ensures trunk_later { D.faults trunk.old ≤ D.faults trunk.new }
     ensures disk { B.tells → LeavesDisk (B.state disk.old) (B.state disk.new) (Unit {0}) }
     ensures clean { OnOk result (IsCleanDisk B.Disk disk.new) }
+    // Unless a disk failed, a file is damaged or memory ran out the trunk's store is opened, and before there are acts the branch's is, too.
+    ensures trunk_opened { D.tells → IsOpenedUnless (IsErrAnd result MayBeUnopened) (D.state trunk.old) (D.state trunk.new) }
+    ensures opened { OnOk result (B.tells → HasOpened (B.state disk.old) (B.state disk.new)) }
     ensures disk_later { B.faults disk.old ≤ B.faults disk.new }
 {
     match open_source(alloc, trunk, name, delta, who) {

@@ -1,9 +1,11 @@
 // What the end of a branch brings to the trunk.
 ghost use Rattle.std.specs.Prelude.{◌≡◌, ◌≤◌, ◌++◌, ◌∷◌, [], filter, map, option_copied, IfOk, OnOk, length};
+ghost use Rattle.std.specs.Result.{IsErrAnd};
 ghost use Rattle.std.specs.List.{find};
 ghost use Rattle.ae_outside.specs.State.{reads};
 ghost use Rattle.ae_types.specs.Phases.{is_completed};
 ghost use Rattle.ae_vault.specs.Disk.{DiskFailed, IsCleanDisk, OnlyReads};
+ghost use Rattle.ae_exec.specs.Opened.{IsOpenedUnless, MayBeUnopened};
 ghost use Rattle.ae_exec.specs.Performs.{LeavesDisk};
 ghost use Rattle.ae_branch.specs.Carried.{carried_row, carried_rows, changed_rows, is_changed, is_later, last_usage};
 ghost use Rattle.ae_branch.specs.Carrying.{AreReadable};
@@ -173,6 +175,7 @@ pub(crate) fn carry<B: Disk>(alloc: Global, disk: &mut B) -> Result<Carried, Out
     ensures readable { IfOk result (λ carried. AreReadable carried.rows) }
     ensures disk { B.tells → LeavesDisk (B.state disk.old) (B.state disk.new) (Unit {0}) }
     ensures clean { OnOk result (IsCleanDisk B.Disk disk.new) }
+    ensures opened { B.tells → IsOpenedUnless (IsErrAnd result MayBeUnopened) (B.state disk.old) (B.state disk.new) }
     ensures later { B.faults disk.old ≤ B.faults disk.new }
 {
     match open_project(alloc, disk, Want::All, None) {

@@ -1,8 +1,10 @@
 // The end of a branch: the plan on the trunk of what the branch changed.
-ghost use Rattle.std.specs.Prelude.{◌≡◌, ◌≤◌, ◌⊎◌, ◌++◌, All, codes, IfOk, List, Result};
+ghost use Rattle.std.specs.Prelude.{◌≡◌, ◌≤◌, ◌⊎◌, ◌++◌, All, codes, IfOk, OnOk, List, Result};
+ghost use Rattle.std.specs.Result.{IsErrAnd};
 ghost use Rattle.ae_base.specs.declared.outcome.Outcome.{Outcome};
 ghost use Rattle.ae_outside.specs.State.{reads};
 ghost use Rattle.ae_vault.specs.Disk.{DiskFailed, IsCleanDisk, OnlyReads};
+ghost use Rattle.ae_exec.specs.Opened.{HasOpened, IsOpenedUnless, MayBeUnopened};
 ghost use Rattle.ae_exec.specs.Performs.{LeavesDisk};
 ghost use Rattle.ae_lines.specs.Acts.{MayBeDone};
 ghost use Rattle.ae_lines.specs.declared.act.Act.{Act};
@@ -89,6 +91,7 @@ fn bring<D: Disk, B: Disk>(
         (DiskFailed D.Disk trunk.old trunk.new ⊎ DiskFailed B.Disk disk.old disk.new) result }
     ensures formed { IfOk result (All MayBeDone) }
     ensures trunk { D.tells → LeavesDisk (D.state trunk.old) (D.state trunk.new) (Unit {0}) }
+    ensures trunk_opened { OnOk result (D.tells → HasOpened (D.state trunk.old) (D.state trunk.new)) }
     ensures same { OnlyReads B.Disk disk.old disk.new }
     ensures trunk_later { D.faults trunk.old ≤ D.faults trunk.new }
     ensures later { B.faults disk.old ≤ B.faults disk.new }
@@ -122,6 +125,9 @@ pub(crate) fn prepare_finish<D: Disk, B: Disk>(
     // It leaves both disks as a command does that changes nothing.
     ensures trunk { D.tells → LeavesDisk (D.state trunk.old) (D.state trunk.new) (Unit {0}) }
     ensures disk { B.tells → LeavesDisk (B.state disk.old) (B.state disk.new) (Unit {0}) }
+    // Unless a disk failed, a file is damaged or memory ran out the branch's store is opened, and before there are acts the trunk's is, too.
+    ensures opened { B.tells → IsOpenedUnless (IsErrAnd result MayBeUnopened) (B.state disk.old) (B.state disk.new) }
+    ensures trunk_opened { OnOk result (D.tells → HasOpened (D.state trunk.old) (D.state trunk.new)) }
     ensures trunk_later { D.faults trunk.old ≤ D.faults trunk.new }
     ensures later { B.faults disk.old ≤ B.faults disk.new }
 {

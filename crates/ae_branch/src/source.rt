@@ -1,6 +1,8 @@
 // The trunk, of which a branch is made.
 ghost use Rattle.std.specs.Prelude.{◌≡◌, ◌≤◌, ◌++◌, map, IfOk, IfErr, OnOk};
+ghost use Rattle.std.specs.Result.{IsErrAnd};
 ghost use Rattle.ae_base.specs.declared.outcome.Outcome.TheVariants.{Memory};
+ghost use Rattle.ae_exec.specs.Opened.{IsOpenedUnless, MayBeUnopened};
 ghost use Rattle.ae_exec.specs.Performs.{LeavesDisk};
 ghost use Rattle.ae_outside.specs.State.{reads};
 ghost use Rattle.ae_vault.specs.Disk.{DiskFailed, IsCleanDisk};
@@ -71,6 +73,7 @@ fn open_trunk<D: Disk>(
     ensures answer { AnswersAs D.tells (Opens Want.Nothing (refuses_trunk who.now delta) (reads (D.state trunk.old)))
         (DiskFailed D.Disk trunk.old trunk.new) result }
     ensures disk { D.tells → LeavesDisk (D.state trunk.old) (D.state trunk.new) (Unit {0}) }
+    ensures opened { D.tells → IsOpenedUnless (IsErrAnd result MayBeUnopened) (D.state trunk.old) (D.state trunk.new) }
     ensures clean { OnOk result (IsCleanDisk D.Disk trunk.new) }
     ensures later { D.faults trunk.old ≤ D.faults trunk.new }
 {
@@ -187,6 +190,7 @@ pub(crate) fn open_source<D: Disk>(
         (DiskFailed D.Disk trunk.old trunk.new) result }
     ensures good { IfOk result IsGoodSource }
     ensures disk { D.tells → LeavesDisk (D.state trunk.old) (D.state trunk.new) (Unit {0}) }
+    ensures opened { D.tells → IsOpenedUnless (IsErrAnd result MayBeUnopened) (D.state trunk.old) (D.state trunk.new) }
     ensures clean { OnOk result (IsCleanDisk D.Disk trunk.new) }
     ensures later { D.faults trunk.old ≤ D.faults trunk.new }
 {

@@ -223,8 +223,8 @@ module _ (d : Disks) (s : Sites) (b : Disks) (t : Sites) (e : Streams) (words : 
 
   ended-so : (begun : Stand d s) (done : List (Did d s)) → FinishDone d s b t words.name on beside trunk_new trunk_site_new disk_new (written_from e err err_new) Done begun done → (logged : IsLogged d s Plan on done trunk_new held log)
       → WasBrought branch words.name log who logged.holds.read (s.state trunk_site_new)
-  ended-so _ _ (branched.unplanned why none looks same why_told) logged = absurd (why-not-done why (written_from e err err_new) (no-acts-not-done _ _ _ (Err why) why none.caused refl) why_told)
-  ended-so _ _ (branched.ended acts begun said looks did) logged = acts-ended acts begun (brings_back words.name (reads (d.state trunk)) branch acts (said seen sees)) looks.same did logged
+  ended-so _ _ (branched.unplanned why none opened looks same why_told) logged = absurd (why-not-done why (written_from e err err_new) (no-acts-not-done _ _ _ (Err why) why none.caused refl) why_told)
+  ended-so _ _ (branched.ended acts begun said branch_opened trunk_opened looks did) logged = acts-ended acts begun (brings_back words.name (reads (d.state trunk)) branch acts (said seen sees)) looks.same did logged
 
   asked-so : words.rest ≡ rest.Finish → (on_trunk : List (Did d s)) (on_branch : List (Did b t)) → IsAsked d s b t words on beside trunk_new trunk_site_new disk_new site_new (written_from e err err_new) Done on_trunk on_branch
       → (logged : IsLogged d s Plan on on_trunk trunk_new held log) → WasBrought branch words.name log who logged.holds.read (s.state trunk_site_new)

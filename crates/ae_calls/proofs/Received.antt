@@ -117,8 +117,8 @@ module _ (d : Disks) (s : Sites) (i o e : Streams) (from : Stand d s) (disk : d.
   received-so : (name : Option (List ℕ)) (begun : Stand d s) (done : List (Did d s)) → ReceiveDone d s name from disk site (read_from i input input_new) (written_from e err err_new) Done begun done → (logged : IsLogged d s Plan from done disk held log)
       → WasReceived (i.bytes input) log from.who logged.holds.read (s.state site)
   received-so name _ _ (unread why is disk_is site_is why_told) logged = absurd (why-not-done why (written_from e err err_new) (unread-not-done _ _ _ why is) why_told)
-  received-so name _ _ (unplanned bundle why received none look site_is why_told) logged = absurd (why-not-done why (written_from e err err_new) (failed-not-done _ _ _ why none.caused) why_told)
-  received-so name _ _ (planned bundle begun acts received look plans did) logged = planned-as-sent name bundle begun acts received look plans did logged
+  received-so name _ _ (unplanned bundle why received none look opened site_is why_told) logged = absurd (why-not-done why (written_from e err err_new) (failed-not-done _ _ _ why none.caused) why_told)
+  received-so name _ _ (planned bundle begun acts received look opened plans did) logged = planned-as-sent name bundle begun acts received look plans did logged
 
 module _ (d : Disks) (s : Sites) (i o e : Streams) (asked : Asked) (workspace : Workspace d s) (streams : Standard i o e) (seen : d.told) (shown : s.told) (told : i.told) (held : List Log) (log : Log) (holds : HoldsLegal (d.state workspace.disk.old) held log)
     (name : Option (List ℕ)) (asks : AsksForReceiving asked name) where

@@ -1,7 +1,9 @@
 // The project that stands is opened.
 ghost use Rattle.std.specs.Prelude.{◌≡◌, ◌≤◌, option_copied, OnOk};
+ghost use Rattle.std.specs.Result.{IsErrAnd};
 ghost use Rattle.ae_outside.specs.State.{reads};
 ghost use Rattle.ae_vault.specs.Disk.{DiskFailed, IsCleanDisk};
+ghost use Rattle.ae_exec.specs.Opened.{IsOpenedUnless, MayBeUnopened};
 ghost use Rattle.ae_exec.specs.Performs.{LeavesDisk};
 ghost use Rattle.ae_dist.specs.Sending.{is_other};
 ghost use Rattle.ae_dist.specs.Steps.{IsTaken, Opens};
@@ -46,6 +48,9 @@ pub fn open_project<D: Disk>(
     ensures answer { Opens D.tells want (reads (D.state disk.old)) (option_copied name.entry)
         (DiskFailed D.Disk disk.old disk.new) result }
     ensures disk { D.tells → LeavesDisk (D.state disk.old) (D.state disk.new) (Unit {0}) }
+    // And the store is opened as by a command, unless the disk failed, a file is damaged or memory ran out: the disk holds one log then,
+    // in the second format.
+    ensures opened { D.tells → IsOpenedUnless (IsErrAnd result MayBeUnopened) (D.state disk.old) (D.state disk.new) }
     ensures clean { OnOk result (IsCleanDisk D.Disk disk.new) }
     ensures later { D.faults disk.old ≤ D.faults disk.new }
 {

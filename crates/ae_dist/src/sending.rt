@@ -1,5 +1,6 @@
 // What is sent of a completed change.
 ghost use Rattle.std.specs.Prelude.{◌≡◌, ◌≤◌, ◌++◌, ◌∷◌, [], map, length, option_copied, IfOk, IfErr, IfSome, OnOk, Result};
+ghost use Rattle.std.specs.Result.{IsErrAnd};
 ghost use Rattle.std.specs.List.{AllByRecursion, cons_option};
 ghost use Rattle.std.specs.Option.{option_map_or};
 ghost use Rattle.ae_base.specs.Names.{IsPath};
@@ -10,6 +11,7 @@ ghost use Rattle.ae_types.specs.Phases.{is_completed};
 ghost use Rattle.ae_vault.specs.Disk.{DiskFailed, IsCleanDisk, OnlyReads, files_of};
 ghost use Rattle.ae_history.specs.Packed.{AreOf};
 ghost use Rattle.ae_exec.specs.Bytes.{bytes_at};
+ghost use Rattle.ae_exec.specs.Opened.{IsOpenedUnless, MayBeUnopened};
 ghost use Rattle.ae_exec.specs.Performs.{LeavesDisk};
 ghost use Rattle.ae_exec.specs.Reading.{AreKept, IsInside, IsLostAmong};
 ghost use Rattle.ae_bundle.specs.Bundled.{Fits};
@@ -89,6 +91,7 @@ fn find<D: Disk>(
     ensures good { IfOk result (λ found. AreGood found.0 found.1.items) }
     ensures clean { OnOk result (IsCleanDisk D.Disk disk.new) }
     ensures disk { D.tells → LeavesDisk (D.state disk.old) (D.state disk.new) (Unit {0}) }
+    ensures opened { D.tells → IsOpenedUnless (IsErrAnd result MayBeUnopened) (D.state disk.old) (D.state disk.new) }
     ensures later { D.faults disk.old ≤ D.faults disk.new }
 {
     match open_project(alloc, disk, Want::One(change), project) {
@@ -264,6 +267,9 @@ pub fn bundle_of<D: Disk>(
     // What is answered has a text.
     ensures fits { IfOk result Fits }
     ensures disk { D.tells → LeavesDisk (D.state disk.old) (D.state disk.new) (Unit {0}) }
+    // And the store is opened as by a command, unless the disk failed, a file is damaged or memory ran out: the disk holds one log then,
+    // in the second format.
+    ensures opened { D.tells → IsOpenedUnless (IsErrAnd result MayBeUnopened) (D.state disk.old) (D.state disk.new) }
     ensures later { D.faults disk.old ≤ D.faults disk.new }
 {
     match find(alloc, disk, project, change) {

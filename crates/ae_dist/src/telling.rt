@@ -3,6 +3,7 @@ ghost use Rattle.std.specs.Prelude.{◌≤◌, option_copied};
 ghost use Rattle.ae_outside.specs.State.{reads};
 ghost use Rattle.ae_vault.specs.Disk.{DiskFailed};
 ghost use Rattle.ae_telling.specs.Telling.{use_of_sink};
+ghost use Rattle.ae_exec.specs.Opened.{IsOpenedUnless, MayBeUnopened};
 ghost use Rattle.ae_exec.specs.Performs.{LeavesDisk};
 ghost use Rattle.ae_dist.specs.Telling.{IsSentTold};
 
@@ -27,6 +28,9 @@ pub fn tell_sent<D: Disk, O: Sink, E: Sink>(
         (use_of_sink O.Sink out.old out.new) (use_of_sink E.Sink err.old err.new) result }
     // It leaves the disk as a command does that changes nothing.
     ensures disk { D.tells → LeavesDisk (D.state disk.old) (D.state disk.new) (Unit {0}) }
+    // And the store is opened as by a command, unless the disk failed, a file is damaged or memory ran out: the disk holds one log then,
+    // in the second format.
+    ensures opened { D.tells → IsOpenedUnless (MayBeUnopened result) (D.state disk.old) (D.state disk.new) }
     ensures disk_faults { D.faults disk.old ≤ D.faults disk.new }
     ensures out_faults { O.faults out.old ≤ O.faults out.new }
     ensures err_faults { E.faults err.old ≤ E.faults err.new }

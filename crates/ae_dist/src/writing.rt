@@ -1,9 +1,11 @@
 // The text of a change.
 ghost use Rattle.std.specs.Prelude.{◌≡◌, ◌≤◌, option_copied, IfErr, IfOk};
+ghost use Rattle.std.specs.Result.{IsErrAnd};
 ghost use Rattle.ae_base.specs.declared.outcome.Outcome.TheVariants.{Memory};
 ghost use Rattle.ae_bundle.specs.Bundled.{Bundled, Fits};
 ghost use Rattle.ae_outside.specs.State.{reads};
 ghost use Rattle.ae_vault.specs.Disk.{DiskFailed};
+ghost use Rattle.ae_exec.specs.Opened.{IsOpenedUnless, MayBeUnopened};
 ghost use Rattle.ae_exec.specs.Performs.{LeavesDisk};
 ghost use Rattle.ae_dist.specs.Answers.{AnswersWriting};
 
@@ -37,6 +39,7 @@ pub(crate) fn write_change<D: Disk>(
     ensures answer { AnswersWriting D.tells (reads (D.state disk.old)) (option_copied project.entry) change
         (DiskFailed D.Disk disk.old disk.new) result }
     ensures disk { D.tells → LeavesDisk (D.state disk.old) (D.state disk.new) (Unit {0}) }
+    ensures opened { D.tells → IsOpenedUnless (IsErrAnd result MayBeUnopened) (D.state disk.old) (D.state disk.new) }
     ensures later { D.faults disk.old ≤ D.faults disk.new }
 {
     match bundle_of(alloc, disk, project, change) {

@@ -6,10 +6,10 @@ ghost use Rattle.ae_outside.specs.State.{reads};
 ghost use Rattle.ae_vault.specs.Disk.{DiskFailed};
 ghost use Rattle.ae_exec.specs.Devices.{SiteFailed};
 ghost use Rattle.ae_exec.specs.Endings.{IsDamagedAt};
+ghost use Rattle.ae_exec.specs.Opened.{IsOpenedUnless, MayBeUnopened};
 ghost use Rattle.ae_exec.specs.Performs.{LeavesDisk};
 ghost use Rattle.ae_reporting.specs.Answers.{FailsAs, FailsOn, IsAnswered, IsFoundDamaged, IsReported, file_at};
 ghost use Rattle.ae_reporting.specs.Asked.{asked_by};
-ghost use Rattle.ae_reporting.specs.Opened.{IsOpenedUnless, MayBeUnopened};
 ghost use Rattle.ae_reporting.specs.Reports.{Answer, Reports, is_asked};
 
 use crate::asked::AskedReport;

@@ -3,6 +3,7 @@ ghost use Rattle.std.specs.Prelude.{◌≡◌, ◌≤◌};
 ghost use Rattle.ae_outside.specs.State.{reads};
 ghost use Rattle.ae_vault.specs.Disk.{DiskFailed};
 ghost use Rattle.ae_exec.specs.Devices.{SiteFailed};
+ghost use Rattle.ae_exec.specs.Opened.{IsOpenedUnless, MayBeUnopened};
 ghost use Rattle.ae_exec.specs.Performs.{LeavesDisk};
 ghost use Rattle.ae_telling.specs.Telling.{use_of_sink};
 ghost use Rattle.ae_reporting.specs.Asked.{asked_by};
@@ -33,6 +34,9 @@ pub fn tell_report<D: Disk, S: Site, O: Sink, E: Sink>(
         (use_of_sink O.Sink out.old out.new) result }
     // It leaves the disk as a command does that changes nothing, and the directories as they are.
     ensures disk { D.tells → LeavesDisk (D.state disk.old) (D.state disk.new) (Unit {0}) }
+    // And the store is opened as by a command, unless the disk failed, a file is damaged or memory ran out: the disk holds one log then,
+    // in the second format.
+    ensures opened { D.tells → IsOpenedUnless (MayBeUnopened result) (D.state disk.old) (D.state disk.new) }
     ensures site { S.tells → S.state site.new ≡ S.state site.old }
     ensures disk_faults { D.faults disk.old ≤ D.faults disk.new }
     ensures site_faults { S.faults site.old ≤ S.faults site.new }

@@ -1,6 +1,7 @@
 -- A change set that is received, or why none is.
 use Rattle.std.specs.Prelude.{◌≡◌, ◌≤◌, ℕ, All, List, [], Option, Result, Ok, Err, IfOk, IfErr}
 use Rattle.std.proofs.Common.{inl, inr, refl, sym, subst}
+use Rattle.std.specs.Result.{IsErrAnd}
 use Rattle.ae_base.specs.declared.outcome.Outcome.{Outcome}
 use Rattle.ae_base.specs.declared.outcome.Outcome.TheVariants.{SourceFault}
 use Rattle.ae_base.specs.declared.refusal.Refusal.{Refusal}
@@ -11,7 +12,10 @@ use Rattle.ae_outside.specs.State.{reads}
 use Rattle.ae_bundle.specs.declared.bundle.Bundle.{Bundle}
 use Rattle.ae_exec.specs.Endings.{EndsAs, IsDamagedAt}
 use Rattle.ae_exec.specs.Endings as ending
+use Rattle.ae_exec.specs.Opened.{HasOpened, MayBeUnopened}
 use Rattle.ae_exec.specs.Performs.{LeavesDisk}
+use Rattle.ae_exec.proofs.Opened.{unopened_is}
+use Rattle.ae_telling.proofs.Answered.{why_outlasts}
 use Rattle.ae_lines.specs.Acts.{MayBeDone}
 use Rattle.ae_lines.specs.declared.act.Act.{Act}
 use Rattle.ae_dist.specs.Answers.{Answers, IsAnswered, IsPlanning, Plans, RefusesPlan}
@@ -36,11 +40,11 @@ module _ (disk_told input_told : Type 0) (image : Image) (name : Option (List �
   has_plan received (Ok acts) plans may = record { bundle = bundle; received = received; plans = plans; may = may }
   has_plan received (Err why) plans may = tt
 
-  pub has_none : (disk_same source_rose : Type 0) → IsReceived input_told before after bundle → (result : Result (List Act) Outcome) → Planned result
-      → (disk_told → (said : Result (List Act) Outcome) → IsPlanning image name bundle said → IsAnswered said result)
-      → IfErr result (IsUnplanned disk_told input_told image name before after disk_same disk_rose source_rose)
-  has_none disk_same source_rose received (Ok acts) caused only = tt
-  has_none disk_same source_rose received (Err why) caused only = unplanned bundle received (record { caused = caused; only = only })
+  pub has_none : (disk_same disk_opened source_rose : Type 0) → IsReceived input_told before after bundle → (result : Result (List Act) Outcome) → Planned result
+      → (disk_told → (said : Result (List Act) Outcome) → IsPlanning image name bundle said → IsAnswered said result) → ((IsErrAnd result MayBeUnopened → ⊥) → disk_opened)
+      → IfErr result (IsUnplanned disk_told input_told image name before after disk_same disk_opened disk_rose source_rose)
+  has_none disk_same disk_opened source_rose received (Ok acts) caused only opened = tt
+  has_none disk_same disk_opened source_rose received (Err why) caused only opened = unplanned bundle received (record { caused = caused; only = only }) opened
 
 -- ---- how that is told
 
@@ -58,10 +62,10 @@ told_none R M X _ (ending.disk_fault rose) = inl tt
 told_none R M X _ (ending.site_fault rose) = absurd rose
 told_none R M X _ ending.memory = inl tt
 
-pub of_receiving : (disk_told input_told : Type 0) (image : Image) (name : Option (List ℕ)) (before after : List ℕ) (disk_same disk_rose source_rose : Type 0) (why : Outcome)
-    → IsUnplanned disk_told input_told image name before after disk_same disk_rose source_rose why → IsOfReceiving why
-of_receiving disk_told input_told image name before after disk_same disk_rose source_rose why (unread is same) = told_unread input_told before source_rose why is
-of_receiving disk_told input_told image name before after disk_same disk_rose source_rose why (unplanned bundle received none) = told_none _ _ _ why none.caused
+pub of_receiving : (disk_told input_told : Type 0) (image : Image) (name : Option (List ℕ)) (before after : List ℕ) (disk_same disk_opened disk_rose source_rose : Type 0) (why : Outcome)
+    → IsUnplanned disk_told input_told image name before after disk_same disk_opened disk_rose source_rose why → IsOfReceiving why
+of_receiving disk_told input_told image name before after disk_same disk_opened disk_rose source_rose why (unread is same) = told_unread input_told before source_rose why is
+of_receiving disk_told input_told image name before after disk_same disk_opened disk_rose source_rose why (unplanned bundle received none opened) = told_none _ _ _ why none.caused
 
 -- what isn't a fault of the source is a command's outcome
 pub of_command : (why : Outcome) → IsOfReceiving why → (why ≡ SourceFault → ⊥) → IsOfCommand why
@@ -72,16 +76,20 @@ of_command why (inr is) other = absurd (other is)
 
 module _ (d : Disks) (s : Sites) (name : Option (List ℕ)) (from : Stand d s) (disk : d.Disk) (site : s.Site) (input : SourceUse) (err : SinkUse) (result : Outcome) where
   pub received_by : (mid : d.Disk) (acts slice : List Act) → HasPlan d.told input.told (reads (d.state from.disk)) name input.before input.after acts → slice ≡ acts → (d.told → LeavesDisk (d.state from.disk) (d.state mid) (Unit {0}))
-      → d.faults from.disk ≤ d.faults mid → ActsDone d s Plan slice (stand d s from.who from.now mid from.site) (stand d s from.who from.now disk site) err result → Receives d s name from disk site input err result
-  received_by mid acts slice plan same leaves later did = record {
+      → (d.told → HasOpened (d.state from.disk) (d.state mid)) → d.faults from.disk ≤ d.faults mid → ActsDone d s Plan slice (stand d s from.who from.now mid from.site) (stand d s from.who from.now disk site) err result → Receives d s name from disk site input err result
+  received_by mid acts slice plan same leaves opened later did = record {
     begun = stand d s from.who from.now mid from.site;
     done = did.done;
-    is = planned plan.bundle (stand d s from.who from.now mid from.site) slice plan.received (record { same = refl; later = later; leaves = leaves })
+    is = planned plan.bundle (stand d s from.who from.now mid from.site) slice plan.received (record { same = refl; later = later; leaves = leaves }) opened
         (λ told. subst (λ (a : List Act). Plans (reads (d.state from.disk)) name plan.bundle a) (sym same) (plan.plans told)) did;
   }
 
-  pub unreceived_by : (why : Outcome) → IsUnplanned d.told input.told (reads (d.state from.disk)) name input.before input.after (disk ≡ from.disk) (HasRisen (d.faults from.disk) (d.faults disk)) input.rose why → site ≡ from.site
+  pub unreceived_by : (why : Outcome) → IsUnplanned d.told input.told (reads (d.state from.disk)) name input.before input.after (disk ≡ from.disk) (d.told → HasOpened (d.state from.disk) (d.state disk)) (HasRisen (d.faults from.disk) (d.faults disk)) input.rose why → site ≡ from.site
       → (d.told → LeavesDisk (d.state from.disk) (d.state disk) (Unit {0})) → d.faults from.disk ≤ d.faults disk → IsWhyTold why err result → Receives d s name from disk site input err result
   unreceived_by why (unread is same) site_is leaves later told = record { begun = from; done = []; is = called.unread why is same site_is told }
-  unreceived_by why (unplanned bundle received none) site_is leaves later told =
-      record { begun = from; done = []; is = called.unplanned bundle why received none (record { same = refl; later = later; leaves = leaves }) site_is told }
+  unreceived_by why (unplanned bundle received none opened) site_is leaves later told = record {
+    begun = from;
+    done = [];
+    is = called.unplanned bundle why received none (record { same = refl; later = later; leaves = leaves })
+        (λ seen unless. opened (λ failed. unless (why_outlasts MayBeUnopened tt tt (λ name. tt) unopened_is why result err told failed)) seen) site_is told;
+  }

@@ -3,7 +3,9 @@ use Rattle.std.specs.Prelude.{◌≡◌, ◌⊎◌, ◌++◌, ℕ, All, List, Op
 use Rattle.ae_base.specs.declared.outcome.Outcome.{Outcome}
 use Rattle.ae_base.specs.declared.outcome.Outcome.TheVariants.{SourceFault}
 use Rattle.ae_outside.specs.Image.{Image}
+use Rattle.ae_outside.specs.declared.disk.Disk.{Ghosts}
 use Rattle.ae_bundle.specs.declared.bundle.Bundle.{Bundle}
+use Rattle.ae_exec.specs.Opened.{HasOpened, MayBeUnopened}
 use Rattle.ae_lines.specs.Acts.{MayBeDone}
 use Rattle.ae_lines.specs.declared.act.Act.{Act}
 use Rattle.ae_dist.specs.Answers.{HasNoPlan, Plans, Writes}
@@ -27,11 +29,17 @@ pub record HasPlan (disk_told input_told : Type 0) (image : Image) (name : Optio
   pub plans : disk_told → Plans image name bundle acts
   pub may : All MayBeDone acts
 
--- why the input came to no plan: it is the text of no change set, and the disk isn't called; or it is one, which has no plan
-pub data IsUnplanned (disk_told input_told : Type 0) (image : Image) (name : Option (List ℕ)) (before after : List ℕ) (disk_same disk_rose source_rose : Type 0) (why : Outcome) : Type 0 where
-  unread : IsUnread input_told before source_rose why → disk_same → IsUnplanned disk_told input_told image name before after disk_same disk_rose source_rose why
-  unplanned : (bundle : Bundle) → IsReceived input_told before after bundle → HasNoPlan disk_told image name bundle disk_rose why
-      → IsUnplanned disk_told input_told image name before after disk_same disk_rose source_rose why
+-- the store on a disk that tells what it holds is opened as by a command
+abbrev pub OpensStore : {Disk : Type 0} → Ghosts Disk → (old new : Disk) → Type 0
+OpensStore device old new = device.tells → HasOpened (device.state old) (device.state new)
+
+-- why the input came to no plan: it is the text of no change set, and the disk isn't called; or it is one, which has no
+-- plan, and the store is opened, unless the disk failed, a file is damaged or memory ran out
+pub data IsUnplanned (disk_told input_told : Type 0) (image : Image) (name : Option (List ℕ)) (before after : List ℕ) (disk_same disk_opened disk_rose source_rose : Type 0) (why : Outcome) : Type 0 where
+  unread : IsUnread input_told before source_rose why → disk_same
+      → IsUnplanned disk_told input_told image name before after disk_same disk_opened disk_rose source_rose why
+  unplanned : (bundle : Bundle) → IsReceived input_told before after bundle → HasNoPlan disk_told image name bundle disk_rose why → ((MayBeUnopened why → ⊥) → disk_opened)
+      → IsUnplanned disk_told input_told image name before after disk_same disk_opened disk_rose source_rose why
 
 -- an outcome that a call may have that receives
 abbrev pub IsOfReceiving : Outcome → Type 0

@@ -1,5 +1,5 @@
 // A change set is received: the input is read, a plan made of it, and its acts done.
-ghost use Rattle.std.specs.Prelude.{◌≡◌, ◌≤◌, IfOk, IfErr, option_copied};
+ghost use Rattle.std.specs.Prelude.{◌≡◌, ◌≤◌, IfOk, IfErr, OnOk, option_copied};
 ghost use Rattle.ae_outside.specs.Causes.{HasRisen};
 ghost use Rattle.ae_outside.specs.State.{reads};
 ghost use Rattle.ae_vault.specs.Disk.{DiskFailed};
@@ -10,7 +10,7 @@ ghost use Rattle.ae_telling.specs.Telling.{use_of_sink};
 ghost use Rattle.ae_script.specs.Lines.{stand};
 ghost use Rattle.ae_script.specs.Uses.{use_of_source, disks, sites};
 ghost use Rattle.ae_session.specs.Called.{Receives};
-ghost use Rattle.ae_session.specs.Received.{HasPlan, IsOfReceiving, IsUnplanned};
+ghost use Rattle.ae_session.specs.Received.{HasPlan, IsOfReceiving, IsUnplanned, OpensStore};
 
 use ae_base::{Outcome, ProjectName};
 use ae_dist::{ActList, plan, receive_bundle};
@@ -30,7 +30,9 @@ fn read_plan<D: Disk, I: Source>(
         (I.left input.old) (I.left input.new)) }
     ensures none { IfErr result (IsUnplanned D.tells I.tells (reads (D.state disk.old)) (option_copied project.entry)
         (I.left input.old) (I.left input.new) (disk.new ≡ disk.old)
+        (OpensStore D.Disk disk.old disk.new)
         (DiskFailed D.Disk disk.old disk.new) (HasRisen (I.faults input.old) (I.faults input.new))) }
+    ensures opened { OnOk result (OpensStore D.Disk disk.old disk.new) }
     ensures no_more { I.tells → TakesNoMore (I.left input.old) (I.left input.new) }
     ensures disk { D.tells → LeavesDisk (D.state disk.old) (D.state disk.new) (Unit {0}) }
     ensures disk_faults { D.faults disk.old ≤ D.faults disk.new }

@@ -6,6 +6,7 @@ use Rattle.ae_outside.specs.Causes.{HasRisen}
 use Rattle.ae_outside.specs.State.{reads}
 use Rattle.ae_outside.proofs.Rising.{risen_later}
 use Rattle.ae_exec.proofs.Ended.{only-read, still-disk}
+use Rattle.ae_exec.proofs.Opened.{opened_still}
 use Rattle.ae_exec.proofs.Upward.{unchanged_alike}
 use Rattle.ae_branch.specs.Begin.{Begins}
 use Rattle.ae_branch.proofs.BeginsOnce.{begins_one}
@@ -47,3 +48,7 @@ returns-in-Err-clause-only g c = λ tells told said so.
 
 pub returns-in-Err-clause-disk : goal.returns-in-Err-clause-disk
 returns-in-Err-clause-disk g c = λ tells. only-read (g.B.Disk.state c.args.disk.now) (g.B.Disk.state c.args.disk.now) (goes_on_refl IsSame (g.B.Disk.state c.args.disk.now) (λ image. refl))
+
+pub returns-in-Ok-clause-trunk_opened : goal.returns-in-Ok-clause-trunk_opened
+returns-in-Ok-clause-trunk_opened g c = λ tells unless.
+    opened_still ⊥ (g.D.Disk.state c.args.trunk.now) (g.D.Disk.state c.open_source.new.trunk) (g.D.Disk.state c.begin_with.new.trunk) (c.in-Ok.ensures.opened tells) (c.begin_with.ensures.trunk tells) (λ none. none)

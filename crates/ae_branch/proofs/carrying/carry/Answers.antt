@@ -9,6 +9,7 @@ use Rattle.ae_types.specs.Observation.{Observation}
 use Rattle.ae_vault.specs.Commit.{IsClean}
 use Rattle.ae_exec.proofs.Ended.{still-disk}
 use Rattle.ae_exec.proofs.Loading.{clean_still}
+use Rattle.ae_exec.proofs.Opened.{opened_still}
 use Rattle.ae_dist.specs.Sending.{refuses_project}
 use Rattle.ae_branch.specs.Finish.{CarriesAs}
 use Rattle.ae_branch.specs.Origin.{origin_bytes}
@@ -43,3 +44,7 @@ returns-in-Err-clause-answer g c =
     let old = reads (g.B.Disk.state c.args.disk.now) in
     stops_first g.B.Disk.tells g.B.Disk.tells (Opens want.All (refuses_project None) old) (λ (o : Observation). CarriesAs o (origin_bytes old)) _ _ (λ tells. tells) (λ rose. rose) c.in-Err.why
     (opens_err g.B.Disk.tells want.All old None (HasRisen (g.B.Disk.faults c.args.disk.now) (g.B.Disk.faults c.open_project.new.disk)) c.in-Err.why c.in-Err.ensures.answer)
+
+pub returns-in-Ok-clause-opened : goal.returns-in-Ok-clause-opened
+returns-in-Ok-clause-opened g c = λ tells unless.
+    opened_still ⊥ (g.B.Disk.state c.args.disk.now) (g.B.Disk.state c.open_project.new.disk) (g.B.Disk.state c.carry_of-carried.new.disk) (c.in-Ok.ensures.opened tells) (c.carry_of-carried.ensures.same tells) (λ none. none)

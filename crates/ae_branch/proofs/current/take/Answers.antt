@@ -25,3 +25,6 @@ returns-in-Err-clause-answer g c =
     let old = reads (g.D.Disk.state c.args.disk.now) in
     stops_first g.D.Disk.tells g.D.Disk.tells (Opens want.Nothing (refuses_project None) old) (λ (o : Observation). TakesAs o c.args.carried.now) _ _ (λ tells. tells) (λ rose. rose) c.in-Err.why
     (opens_err g.D.Disk.tells want.Nothing old None (HasRisen (g.D.Disk.faults c.args.disk.now) (g.D.Disk.faults c.open_project.new.disk)) c.in-Err.why c.in-Err.ensures.answer)
+
+pub returns-in-Ok-clause-opened : goal.returns-in-Ok-clause-opened
+returns-in-Ok-clause-opened g c = λ tells unless. c.in-Ok.ensures.opened tells (λ none. none)

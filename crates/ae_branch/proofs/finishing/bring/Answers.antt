@@ -1,4 +1,6 @@
 use Rattle.std.proofs.Common.{◌≡◌, List, inl, inr, rules, subst}
+use Rattle.ae_base.proofs.Results.{on_ok}
+use Rattle.ae_exec.specs.Opened.{HasOpened}
 use Rattle.ae_outside.specs.Causes.{HasRisen}
 use Rattle.ae_outside.specs.State.{reads}
 use Rattle.ae_types.specs.Observation.{Observation}
@@ -27,3 +29,7 @@ returns-in-Err-clause-answer g c =
     let branch = reads (g.B.Disk.state c.args.disk.now) in
     stops_first g.D.Disk.tells (g.D.Disk.tells × g.B.Disk.tells) (Takes trunk c.args.carried.now) (λ (o : Observation). PlansRows c.args.name.now o branch c.args.carried.now.rows)
     (HasRisen (g.D.Disk.faults c.args.trunk.now) (g.D.Disk.faults c.take.new.disk)) _ (λ told. told.0) (λ rose. inl rose) c.in-Err.why c.in-Err.ensures.answer
+
+pub returns-in-Ok-clause-trunk_opened : goal.returns-in-Ok-clause-trunk_opened
+returns-in-Ok-clause-trunk_opened g c =
+    on_ok c.plan_rows-acts.result (g.D.Disk.tells → HasOpened (g.D.Disk.state c.args.trunk.now) (g.D.Disk.state c.take.new.disk)) (λ tells. c.in-Ok.ensures.opened tells (λ none. none))

@@ -1,9 +1,12 @@
-use Rattle.std.proofs.Common.{Err, inr}
+use Rattle.std.proofs.Common.{Err, inr, refl}
 use Rattle.std.specs.Prelude.{◌⊎◌}
 use Rattle.ae_outside.proofs.Rising.{risen_later}
 use Rattle.ae_outside.specs.Causes.{HasRisen}
+use Rattle.ae_outside.specs.Image.{IsSame}
+use Rattle.ae_outside.specs.Time.{goes_on_refl}
 use Rattle.ae_outside.specs.State.{reads}
-use Rattle.ae_exec.proofs.Ended.{still-disk}
+use Rattle.ae_exec.proofs.Ended.{only-read, still-disk}
+use Rattle.ae_exec.proofs.Opened.{opened_still}
 use Rattle.ae_exec.proofs.Upward.{unchanged_alike}
 use Rattle.ae_branch.specs.declared.carrying.Carried.{Carried}
 use Rattle.ae_branch.specs.Finish.{Brings, Carries, Finishes}
@@ -46,3 +49,10 @@ returns-in-Err-clause-only g c = λ trunk_tells disk_tells said so.
     let old = reads (g.B.Disk.state c.args.disk.now) in
     only_one (g.D.Disk.tells × g.B.Disk.tells) (Finishes c.args.name.now trunk old)
     (HasRisen (g.D.Disk.faults c.args.trunk.now) (g.D.Disk.faults c.args.trunk.now) ⊎ HasRisen (g.B.Disk.faults c.args.disk.now) (g.B.Disk.faults c.carry.new.disk)) (finishes_one c.args.name.now trunk old) (trunk_tells, disk_tells) (Err c.in-Err.why) (returns-in-Err-clause-answer g c) said so
+
+pub returns-in-Ok-clause-opened : goal.returns-in-Ok-clause-opened
+returns-in-Ok-clause-opened g c = λ tells unless.
+    opened_still ⊥ (g.B.Disk.state c.args.disk.now) (g.B.Disk.state c.carry.new.disk) (g.B.Disk.state c.bring.new.disk) (c.in-Ok.ensures.opened tells) (c.bring.ensures.same tells) (λ none. none)
+
+pub returns-in-Err-clause-trunk : goal.returns-in-Err-clause-trunk
+returns-in-Err-clause-trunk g c = λ tells. only-read (g.D.Disk.state c.args.trunk.now) (g.D.Disk.state c.args.trunk.now) (goes_on_refl IsSame (g.D.Disk.state c.args.trunk.now) (λ image. refl))

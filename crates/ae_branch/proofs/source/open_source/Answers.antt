@@ -21,3 +21,6 @@ returns-in-Ok-clause-clean g c = on_ok c.source_from.result (g.D.Disk.tells → 
 pub returns-in-Err-clause-answer : goal.returns-in-Err-clause-answer
 returns-in-Err-clause-answer g c =
     not_found_as g.D.Disk.tells (reads (g.D.Disk.state c.args.trunk.now)) c.args.name.now c.args.delta c.args.who.now (HasRisen (g.D.Disk.faults c.args.trunk.now) (g.D.Disk.faults c.open_trunk.new.trunk)) c.in-Err.why c.in-Err.ensures.answer
+
+pub returns-in-Ok-clause-opened : goal.returns-in-Ok-clause-opened
+returns-in-Ok-clause-opened g c = λ tells unless. c.in-Ok.ensures.opened tells (λ none. none)

@@ -36,3 +36,6 @@ pub returns-in-Err-clause-only : goal.returns-in-Err-clause-only
 returns-in-Err-clause-only g c = λ tells.
     only_said (Plans (reads (g.D.Disk.state c.args.disk.now)) (option_copied c.args.project) c.args.bundle) (RefusesPlan (reads (g.D.Disk.state c.args.disk.now)) (option_copied c.args.project)) (IsDamagedAt want.Nothing (reads (g.D.Disk.state c.args.disk.now)))
     (planning_once (reads (g.D.Disk.state c.args.disk.now)) (option_copied c.args.project) c.args.bundle) g.D.Disk.tells (HasRisen (g.D.Disk.faults c.args.disk.now) (g.D.Disk.faults c.open_project.new.disk)) tells _ (returns-in-Err-clause-answer g c)
+
+pub returns-in-Ok-clause-opened : goal.returns-in-Ok-clause-opened
+returns-in-Ok-clause-opened g c = λ tells unless. c.in-Ok.ensures.opened tells (λ none. none)

@@ -8,6 +8,7 @@ use Rattle.ae_bundle.specs.declared.bundle.Bundle.{Bundle}
 use Rattle.ae_exec.specs.Reading.{IsLostAmong}
 use Rattle.ae_exec.proofs.Ended.{still-disk}
 use Rattle.ae_exec.proofs.Endings.{ends_for}
+use Rattle.ae_exec.proofs.Opened.{opened_still}
 use Rattle.ae_exec.proofs.Upward.{unchanged_alike}
 use Rattle.ae_dist.specs.declared.rows.Row.{Row}
 use Rattle.ae_dist.specs.Answers.{DamagedSending, RefusesSending, Sends, Stops, store}
@@ -45,3 +46,7 @@ returns-in-Err-clause-only g c = λ tells.
     only_said (Sends (reads (g.D.Disk.state c.args.disk.now)) (option_copied c.args.project) c.args.change) (RefusesSending (reads (g.D.Disk.state c.args.disk.now)) (option_copied c.args.project) c.args.change)
     (DamagedSending (reads (g.D.Disk.state c.args.disk.now)) (option_copied c.args.project) c.args.change) (sending_once (reads (g.D.Disk.state c.args.disk.now)) (option_copied c.args.project) c.args.change) g.D.Disk.tells
     (HasRisen (g.D.Disk.faults c.args.disk.now) (g.D.Disk.faults c.find.new.disk)) tells _ (returns-in-Err-clause-answer g c)
+
+pub returns-in-Ok-clause-opened : goal.returns-in-Ok-clause-opened
+returns-in-Ok-clause-opened g c = λ tells unless.
+    opened_still ⊥ (g.D.Disk.state c.args.disk.now) (g.D.Disk.state c.find.new.disk) (g.D.Disk.state c.filled.new.disk) (c.in-Ok.ensures.opened tells) (c.filled.ensures.same tells) (λ none. none)

@@ -14,3 +14,6 @@ pub returns-in-Err-clause-answer : goal.returns-in-Err-clause-answer
 returns-in-Err-clause-answer g c =
     ends_for c.in-Err.why c.in-Err.ensures.answer (λ none. none) (λ refusal refused tells. sending_refused (reads (g.D.Disk.state c.args.disk.now)) (option_copied c.args.project) c.args.change refusal (refused tells))
     (λ name damaged. damaged) (λ rose. rose) (λ none. none)
+
+pub returns-in-Ok-clause-opened : goal.returns-in-Ok-clause-opened
+returns-in-Ok-clause-opened g c = λ tells unless. c.in-Ok.ensures.opened tells (λ none. none)

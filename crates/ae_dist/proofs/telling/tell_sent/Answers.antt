@@ -3,6 +3,10 @@ use Rattle.ae_base.specs.declared.refusal.Refusal.{Refusal}
 use Rattle.ae_outside.specs.Causes.{HasRisen}
 use Rattle.ae_outside.specs.State.{reads}
 use Rattle.ae_dist.specs.Answers.{DamagedSending, RefusesSending, Writes}
+use Rattle.ae_exec.specs.Opened.{MayBeUnopened}
+use Rattle.ae_exec.proofs.Opened.{unopened_is}
+use Rattle.ae_telling.specs.Telling.{use_of_sink}
+use Rattle.ae_telling.proofs.Answered.{answer_outlasts}
 use Rattle.ae_dist.proofs.Answering.{fails_of_command, only_said}
 use Rattle.ae_dist.proofs.Once.{writing_once}
 use Rattle.ae_dist.proofs.telling.tell_sent.Goals as goal
@@ -24,3 +28,7 @@ returns-clause-told g c = record {
       (HasRisen (g.D.Disk.faults c.args.disk.now) (g.D.Disk.faults c.write_change-answer.new.disk)) tells c.write_change-answer.result c.write_change-answer.ensures.answer;
   is_told = c.tell_answer.ensures.told;
 }
+
+pub returns-clause-opened : goal.returns-clause-opened
+returns-clause-opened g c = λ tells unless. c.write_change-answer.ensures.opened tells (λ failed. unless
+    (answer_outlasts MayBeUnopened tt tt (λ name. tt) unopened_is c.write_change-answer.result (use_of_sink g.O.Sink c.args.out.now c.tell_answer.new.out) (use_of_sink g.E.Sink c.args.err.now c.tell_answer.new.err) c.tell_answer.result c.tell_answer.ensures.told failed))

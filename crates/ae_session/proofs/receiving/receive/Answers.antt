@@ -15,10 +15,10 @@ returns-in-Ok-clause-done g c =
     let d : Disks = disks g.D.Disk in
     let s : Sites = sites g.S.Site in
     received_by d s (option_copied c.args.project) (stand d s c.args.standing.who c.args.standing.now c.args.disk.now c.args.site.now) c.do_acts.new.disk c.do_acts.new.site _ _ c.do_acts.result c.read_plan.new.disk _ _ c.in-Ok.ensures.plan c.as_slice.ensures
-    c.read_plan.ensures.disk c.read_plan.ensures.disk_faults c.do_acts.ensures.done
+    c.read_plan.ensures.disk c.in-Ok.ensures.opened c.read_plan.ensures.disk_faults c.do_acts.ensures.done
 
 pub tell_unreceived-requires : goal.tell_unreceived-requires
-tell_unreceived-requires g c = of_receiving _ _ _ _ _ _ _ _ _ c.in-Err.why c.in-Err.ensures.none
+tell_unreceived-requires g c = of_receiving _ _ _ _ _ _ _ _ _ _ c.in-Err.why c.in-Err.ensures.none
 
 pub returns-in-Err-clause-done : goal.returns-in-Err-clause-done
 returns-in-Err-clause-done g c =
