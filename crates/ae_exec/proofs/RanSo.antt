@@ -21,6 +21,7 @@ use Rattle.ae_machine.specs.Call.{call_of, change_named, given_of}
 use Rattle.ae_machine.specs.Called.{Called, given_at, view}
 use Rattle.ae_evidence.specs.Directories.{dirs_after}
 use Rattle.ae_evidence.specs.declared.runs.RunRow.{RunRow}
+use Rattle.ae_machine.specs.Directories.{dir_changes}
 use Rattle.ae_machine.specs.Fits.{makes_runs}
 use Rattle.ae_machine.specs.Real.{IsLeft, dir_of_runs}
 use Rattle.ae_machine.specs.Space.{placing}
@@ -47,6 +48,11 @@ module _ (files : Option Image) (o : Observation) (called : Called) where
       → IsAnswer files (Some o) called v
   unrun-answer seen v still is shows decided = λ bytes have.
       ap (verdict placing (Some o) bytes called.command called.who called.when) (unrun-view o bytes called (ap (λ (s : SiteState). s.runs) still) ∙ sym (is bytes have)) ∙ decided bytes (shows bytes have)
+
+  -- the changes of directories before any run are those by what it sees then
+  pub seen-changes : (bytes : ℕ → List ℕ) (seen : View) (changes : List DirChange) (tracked : Rows) (jobs : List Job) → seen ≡ (given_at o bytes called).view
+      → AreForRuns (given_of placing o bytes called.command called.who called.when seen) changes tracked jobs → changes ≡ dir_changes (given_at o bytes called)
+  seen-changes bytes seen changes tracked jobs is are = are.changes_are ∙ ap (λ (v : View). dir_changes (given_of placing o bytes called.command called.who called.when v)) is
 
   -- where its files refuse it
   pub refused-so : makes_runs called.command.function ≡ true → refused_before (Some o) called.command called.who ≡ None → called.after ≡ called.before → (refusal : Refusal)

@@ -6,6 +6,7 @@ ghost use Rattle.ae_outside.specs.State.{reads};
 ghost use Rattle.ae_types.specs.Trees.{TreeRow, tree_path};
 ghost use Rattle.ae_vault.specs.Disk.{DiskFailed, IsCleanDisk, OnlyReads, files_of};
 ghost use Rattle.ae_dirs.specs.declared.error.DirsError.{DirsError};
+ghost use Rattle.ae_dirs.specs.Parts.{AreInPart};
 ghost use Rattle.ae_dirs.specs.Runs.{IsGroup, MakesByteRuns};
 ghost use Rattle.ae_dirs.specs.Reads.{tracked_in};
 ghost use Rattle.ae_evidence.specs.declared.runs.Job.{Job};
@@ -126,6 +127,8 @@ pub(crate) fn make_runs<S: Site>(
     ensures whole { IfOk result (λ rows. IsGroup plan.now.tracked plan.now.jobs rows) }
     // Where it made none, and it isn't that the directories failed, only those of the changes are changed.
     ensures unrun { S.tells → (IsErrOf result DirsError.SiteFault → ⊥) → (S.state site.new).runs ≡ (S.state site.old).runs → ChangesThese plan.now.changes (S.state site.old) (S.state site.new) }
+    // And each path is as it was, or as the changes have it.
+    ensures part { S.tells → (IsErrOf result DirsError.SiteFault → ⊥) → (S.state site.new).runs ≡ (S.state site.old).runs → AreInPart plan.now.changes (S.state site.old).trees (S.state site.new).trees }
     // However it ends, the runs that it made are of bytes.
     ensures bytes { S.tells → MakesByteRuns (S.state site.old) (S.state site.new) }
     ensures cause { Counted (S.faults site.old) (S.faults site.new) (IsErrOf result DirsError.SiteFault) }

@@ -10,7 +10,7 @@ ghost use Rattle.ae_machine.specs.Space.{placing};
 ghost use Rattle.ae_machine.specs.Verdict.{refused_before, verdict};
 ghost use Rattle.ae_machine.specs.Versions.{ShowsVersions};
 ghost use Rattle.ae_exec.specs.Devices.{SiteFailed};
-ghost use Rattle.ae_exec.specs.Directories.{LeavesDirs};
+ghost use Rattle.ae_exec.specs.Directories.{ChangesAsAsked, DirsAsAsked, LeavesDirs};
 ghost use Rattle.ae_exec.specs.Endings.{StopsPlanning, outcome_of, outcome_of_stop};
 ghost use Rattle.ae_exec.specs.Requested.{called_by};
 ghost use Rattle.ae_exec.specs.Plan.{IsMade, IsPlanned};
@@ -42,6 +42,7 @@ pub(crate) fn plan_runs<D: Disk, S: Site>(
     ensures planned { IfOk result (λ plan. IsPlanned (D.tells × S.tells) (files_of D.Disk disk.old) (option_copied old.entry) (called_by request.now (S.state site.old) (S.state site.new)) request.now.status_line plan.batch plan.finished) }
     ensures stopped { IfErr result (StopsPlanning D.tells S.tells (reads (D.state disk.old)) (option_copied old.entry) (called_by request.now (S.state site.old) (S.state site.new)) (DiskFailed D.Disk disk.old disk.new) (SiteFailed S.Site site.old site.new)) }
     ensures directories { S.tells → LeavesDirs request.now.command.now (S.state site.old) (S.state site.new) (outcome_of result) }
+    ensures asked { S.tells → DirsAsAsked D.tells (files_of D.Disk disk.old) request.now.command.now (option_copied old.entry) (S.state site.old) (S.state site.new) (outcome_of result) }
     ensures early { S.tells → IfErr result (λ stop. outcome_of_stop stop ≡ Outcome.DiskFault → S.state site.new ≡ S.state site.old) }
     ensures same { OnlyReads D.Disk disk.old disk.new }
     ensures disk_later { D.faults disk.old ≤ D.faults disk.new }
@@ -100,6 +101,7 @@ fn plan_runs_on<D: Disk, S: Site>(
     ensures planned { IfOk result (λ plan. IsPlanned (D.tells × S.tells) (files_of D.Disk disk.old) (Some state.now) (called_by request.now (S.state site.old) (S.state site.new)) request.now.status_line plan.batch plan.finished) }
     ensures stopped { IfErr result (StopsPlanning D.tells S.tells (reads (D.state disk.old)) (Some state.now) (called_by request.now (S.state site.old) (S.state site.new)) (DiskFailed D.Disk disk.old disk.new) (SiteFailed S.Site site.old site.new)) }
     ensures directories { S.tells → LeavesDirs request.now.command.now (S.state site.old) (S.state site.new) (outcome_of result) }
+    ensures asked { S.tells → ChangesAsAsked D.tells (files_of D.Disk disk.old) request.now.command.now state.now (S.state site.old) (S.state site.new) (outcome_of result) }
     ensures early { S.tells → IfErr result (λ stop. outcome_of_stop stop ≡ Outcome.DiskFault → S.state site.new ≡ S.state site.old) }
     ensures same { OnlyReads D.Disk disk.old disk.new }
     ensures disk_later { D.faults disk.old ≤ D.faults disk.new }

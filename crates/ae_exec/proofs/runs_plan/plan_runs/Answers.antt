@@ -24,3 +24,6 @@ returns-clause-disk_later g c = c.plan_runs_on.ensures.disk_later
 
 pub returns-clause-site_later : goal.returns-clause-site_later
 returns-clause-site_later g c = c.plan_runs_on.ensures.site_later
+
+pub returns-clause-asked : goal.returns-clause-asked
+returns-clause-asked g c = let same : option_copied c.args.old ≡ Some c.in-Some.state.now = search rules in rw same c.plan_runs_on.ensures.asked

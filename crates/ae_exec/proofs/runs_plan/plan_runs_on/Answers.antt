@@ -18,7 +18,9 @@ use Rattle.ae_dirs.specs.Runs.{MakesByteRuns}
 use Rattle.ae_base.specs.Rows.{paths_of}
 use Rattle.ae_machine.specs.Space.{placing}
 use Rattle.ae_machine.specs.Versions.{ShowsVersions}
+use Rattle.ae_base.specs.declared.outcome.Outcome.{Outcome}
 use Rattle.ae_exec.specs.Bytes.{HaveBytes}
+use Rattle.ae_exec.specs.Directories.{ChangesAsAsked}
 use Rattle.ae_machine.specs.Verdict.{verdict}
 use Rattle.ae_exec.specs.Reading.{AreKept, versions_for_runs}
 use Rattle.ae_exec.specs.Runs.{HaveRun}
@@ -28,11 +30,11 @@ use Rattle.ae_exec.specs.Seen as seen_specs
 use Rattle.ae_exec.specs.Seen.{FilesRefuse, IsDecidedSo, answering, reading}
 use Rattle.ae_exec.specs.Stopping.{stop_of_dirs}
 use Rattle.ae_exec.proofs.Endings.{ends_for}
-use Rattle.ae_exec.proofs.Ended.{dirs_err}
-use Rattle.ae_exec.proofs.OwnDirs.{dirs_ends, dirs_touch, early-so, early-still, no-disk-fault, leaves-runs, leaves-still, site-stops}
+use Rattle.ae_exec.proofs.Ended.{dirs_err, for_err}
+use Rattle.ae_exec.proofs.OwnDirs.{asked-ran, asked-still, dirs_ends, dirs_touch, early-so, early-still, no-disk-fault, leaves-runs, leaves-still, site-stops}
 use Rattle.ae_exec.proofs.Following.{same_answer}
 use Rattle.ae_exec.proofs.RunAnswers.{accepted-configured, accepted-with}
-use Rattle.ae_exec.proofs.RanSo.{all-kept, lost-later, ran-both, refused-so, unrun-answer}
+use Rattle.ae_exec.proofs.RanSo.{all-kept, lost-later, ran-both, refused-so, seen-changes, unrun-answer}
 use Rattle.ae_exec.proofs.runs_plan.plan_runs_on.Goals as goal
 
 pub returns-in_err-view-clause-stopped : goal.returns-in_err-view-clause-stopped
@@ -257,3 +259,55 @@ plan_accepted-planned-requires-clause-passed g c = c.requires.passed
 
 pub ready-requires-clause-runs : goal.ready-requires-clause-runs
 ready-requires-clause-runs g c = c.requires.runs
+
+-- ---- what was asked of the directories, and no more
+
+pub returns-in_err-view-clause-asked : goal.returns-in_err-view-clause-asked
+returns-in_err-view-clause-asked g c = λ told.
+    asked-still g.D.Disk.tells (effective (reads (g.D.Disk.state c.args.disk.now))) c.args.request.now.command.now (Some c.args.state.now) (g.S.Site.state c.args.site.now) (g.S.Site.state c.see.new.site) _ (c.see.ensures.site_same told)
+
+pub returns-in_err-refusal-clause-asked : goal.returns-in_err-refusal-clause-asked
+returns-in_err-refusal-clause-asked g c = λ told.
+    asked-still g.D.Disk.tells (effective (reads (g.D.Disk.state c.args.disk.now))) c.args.request.now.command.now (Some c.args.state.now) (g.S.Site.state c.args.site.now) (g.S.Site.state c.see.new.site) _ (c.see.ensures.site_same told)
+
+pub returns-in-Refuse-clause-asked : goal.returns-in-Refuse-clause-asked
+returns-in-Refuse-clause-asked g c = λ told.
+    asked-still g.D.Disk.tells (effective (reads (g.D.Disk.state c.args.disk.now))) c.args.request.now.command.now (Some c.args.state.now) (g.S.Site.state c.args.site.now) (g.S.Site.state c.see.new.site) _ (c.see.ensures.site_same told)
+
+pub returns-in_err-plan-clause-asked : goal.returns-in_err-plan-clause-asked
+returns-in_err-plan-clause-asked g c = λ told.
+    asked-still g.D.Disk.tells (effective (reads (g.D.Disk.state c.args.disk.now))) c.args.request.now.command.now (Some c.args.state.now) (g.S.Site.state c.args.site.now) (g.S.Site.state c.see.new.site) _ (c.see.ensures.site_same told)
+
+pub returns-in_err-runs-clause-asked : goal.returns-in_err-runs-clause-asked
+returns-in_err-runs-clause-asked g c = λ told.
+    for_err (λ (outcome : Outcome). ChangesAsAsked g.D.Disk.tells (effective (reads (g.D.Disk.state c.args.disk.now))) c.args.request.now.command.now c.args.state.now (g.S.Site.state c.args.site.now) (g.S.Site.state c.make_runs-made.new.site) outcome)
+    _ (stop_of_dirs c.in_err-runs.field-0.0) (err_is _ _ c.from_residual-in_err-runs.ensures.1)
+    (asked-ran g.D.Disk.tells (effective (reads (g.D.Disk.state c.args.disk.now))) c.args.request.now.command.now c.args.state.now c.in_ok-plan.plan.changes (g.S.Site.state c.args.site.now) (g.S.Site.state c.see.new.site) (g.S.Site.state c.make_runs-made.new.site) _ c.requires.runs (c.see.ensures.site_same told)
+    (λ other still. c.in_err-runs.ensures.part told (site-stops c.in_err-runs.field-0.0 other) still)
+    (λ tells bytes have who when.
+    let call : Called = called c.args.request.now.command.now who when (g.S.Site.state c.args.site.now) (g.S.Site.state c.make_runs-made.new.site) in
+    let same : effective (reads (g.D.Disk.state c.see.new.disk)) ≡ effective (reads (g.D.Disk.state c.args.disk.now)) = ap effective (same_reads (g.D.Disk.state c.args.disk.now) (g.D.Disk.state c.see.new.disk) (c.see.ensures.same tells)) in
+    seen-changes (effective (reads (g.D.Disk.state c.args.disk.now))) c.args.state.now call bytes c.in_ok-view.view c.in_ok-plan.plan.changes c.in_ok-plan.plan.tracked c.in_ok-plan.plan.jobs (c.in_ok-view.ensures.seen tells told bytes who when have)
+    (c.in_ok-plan.ensures.are tells bytes who when (subst (λ (x : Option Image). HaveBytes x (Some c.args.state.now) bytes) (sym same) have) (c.in_ok-view.ensures.shows tells bytes who have))))
+
+pub returns-in_err-planned-clause-asked : goal.returns-in_err-planned-clause-asked
+returns-in_err-planned-clause-asked g c = λ told.
+    for_err (λ (outcome : Outcome). ChangesAsAsked g.D.Disk.tells (effective (reads (g.D.Disk.state c.args.disk.now))) c.args.request.now.command.now c.args.state.now (g.S.Site.state c.args.site.now) (g.S.Site.state c.make_runs-made.new.site) outcome)
+    _ stop.Memory (err_is _ _ c.from_residual-in_err-planned.ensures.1)
+    (asked-ran g.D.Disk.tells (effective (reads (g.D.Disk.state c.args.disk.now))) c.args.request.now.command.now c.args.state.now c.in_ok-plan.plan.changes (g.S.Site.state c.args.site.now) (g.S.Site.state c.see.new.site) (g.S.Site.state c.make_runs-made.new.site) _ c.requires.runs (c.see.ensures.site_same told)
+    (λ other still. c.in_ok-runs.ensures.part told (ok_is_no_err _ _) still)
+    (λ tells bytes have who when.
+    let call : Called = called c.args.request.now.command.now who when (g.S.Site.state c.args.site.now) (g.S.Site.state c.make_runs-made.new.site) in
+    let same : effective (reads (g.D.Disk.state c.see.new.disk)) ≡ effective (reads (g.D.Disk.state c.args.disk.now)) = ap effective (same_reads (g.D.Disk.state c.args.disk.now) (g.D.Disk.state c.see.new.disk) (c.see.ensures.same tells)) in
+    seen-changes (effective (reads (g.D.Disk.state c.args.disk.now))) c.args.state.now call bytes c.in_ok-view.view c.in_ok-plan.plan.changes c.in_ok-plan.plan.tracked c.in_ok-plan.plan.jobs (c.in_ok-view.ensures.seen tells told bytes who when have)
+    (c.in_ok-plan.ensures.are tells bytes who when (subst (λ (x : Option Image). HaveBytes x (Some c.args.state.now) bytes) (sym same) have) (c.in_ok-view.ensures.shows tells bytes who have))))
+
+pub returns-clause-asked : goal.returns-clause-asked
+returns-clause-asked g c = λ told.
+    (asked-ran g.D.Disk.tells (effective (reads (g.D.Disk.state c.args.disk.now))) c.args.request.now.command.now c.args.state.now c.in_ok-plan.plan.changes (g.S.Site.state c.args.site.now) (g.S.Site.state c.see.new.site) (g.S.Site.state c.make_runs-made.new.site) _ c.requires.runs (c.see.ensures.site_same told)
+    (λ other still. c.in_ok-runs.ensures.part told (ok_is_no_err _ _) still)
+    (λ tells bytes have who when.
+    let call : Called = called c.args.request.now.command.now who when (g.S.Site.state c.args.site.now) (g.S.Site.state c.make_runs-made.new.site) in
+    let same : effective (reads (g.D.Disk.state c.see.new.disk)) ≡ effective (reads (g.D.Disk.state c.args.disk.now)) = ap effective (same_reads (g.D.Disk.state c.args.disk.now) (g.D.Disk.state c.see.new.disk) (c.see.ensures.same tells)) in
+    seen-changes (effective (reads (g.D.Disk.state c.args.disk.now))) c.args.state.now call bytes c.in_ok-view.view c.in_ok-plan.plan.changes c.in_ok-plan.plan.tracked c.in_ok-plan.plan.jobs (c.in_ok-view.ensures.seen tells told bytes who when have)
+    (c.in_ok-plan.ensures.are tells bytes who when (subst (λ (x : Option Image). HaveBytes x (Some c.args.state.now) bytes) (sym same) have) (c.in_ok-view.ensures.shows tells bytes who have))))
