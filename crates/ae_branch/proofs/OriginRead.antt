@@ -13,11 +13,12 @@ use Rattle.ae_base.specs.Numbers.{delta_number, in_range, number_from}
 use Rattle.ae_base.specs.declared.outcome.Outcome.{Outcome}
 use Rattle.ae_base.specs.declared.outcome.Outcome.TheVariants as outcome
 use Rattle.ae_outside.specs.Image.{Image}
+use Rattle.ae_outside.specs.State.{DiskState}
 use Rattle.ae_types.proofs.Places.{no-items}
 use Rattle.ae_vault.specs.Vault.{effective}
-use Rattle.ae_exec.specs.Endings.{OthersSame}
+use Rattle.ae_exec.specs.Endings.{OthersSame, OthersStay}
 use Rattle.ae_bundle.proofs.ReadBack.{decimal-read}
-use Rattle.ae_branch.specs.Origin.{IsDamagedOrigin, NamesOrigin, named, no_branch, not_understood, origin_bytes, origin_file, origin_text}
+use Rattle.ae_branch.specs.Origin.{HaveOrigin, IsDamagedOrigin, NamesOrigin, named, no_branch, not_understood, origin_bytes, origin_file, origin_text}
 use Rattle.ae_branch.specs.Steps.{AnswersAs, SaysOne, damaged, memory}
 
 -- ---- its number
@@ -132,3 +133,7 @@ origin_stays base disk others = go (effective base) (effective disk) others
     go (Some a) (Some b) is =
         is origin_file (different 116 112 _ _ (λ e. absurd (omega (arith, e)))) (different 116 112 _ _ (λ e. absurd (omega (arith, e)))) (different 116 102 _ _ (λ e. absurd (omega (arith, e))))
         (λ number. different 116 99 _ _ (λ e. absurd (omega (arith, e))))
+
+-- nor does any stop lose it, where it loses no other file
+pub origin_kept : (delta : ℕ) (base disk : DiskState) → base.moment ≤ disk.moment → OthersStay base disk → HaveOrigin delta base → HaveOrigin delta disk
+origin_kept delta base disk later stay have image may = (let one = stay disk.moment image later (omega arith) may in origin_stays one.0 image one.2 ∙ have one.0 one.1)

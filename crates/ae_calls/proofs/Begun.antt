@@ -299,7 +299,7 @@ module _ (d : Disks) (s : Sites) (b : Disks) (t : Sites) (e : Streams) (words : 
       → WasBegun trunk_log words.name delta who logged.holds.read ((t.state site_new).trees (Develop first_change))
   begun-so delta _ _ (branched.unready why none opened looks same why_told) logged = absurd (why-not-done why (written_from e err err_new) (no-acts-not-done _ _ _ (Err why) why none.caused refl) why_told)
   begun-so delta _ _ (branched.unput why due opened fault put looked stays same why_told) logged = absurd (why-not-done why (written_from e err err_new) (fault-not-done _ why fault) why_told)
-  begun-so delta _ _ (branched.begun acts begun said opened stays put origin did) logged =
+  begun-so delta _ _ (branched.begun acts begun said opened stays put origin still did) logged =
       acts-begun delta acts begun (said-begin (reads (d.state trunk)) (reads (b.state disk)) words.name delta who acts (said sees seen)) stays.same did logged
 
   asked-so : (delta : ℕ) → words.rest ≡ rest.Begin delta → (on_trunk : List (Did d s)) (on_branch : List (Did b t)) → IsAsked d s b t words on beside trunk_new trunk_site_new disk_new site_new (written_from e err err_new) Done on_trunk on_branch

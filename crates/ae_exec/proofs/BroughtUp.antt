@@ -20,6 +20,7 @@ use Rattle.ae_exec.proofs.Leaving.{leaves_then, open_then}
 use Rattle.ae_exec.proofs.Migrating.{in_first_same}
 use Rattle.ae_exec.proofs.Refining.{opened_on}
 use Rattle.ae_exec.proofs.Standing.{alike, by_files}
+use Rattle.ae_exec.proofs.OthersStaying.{brought_stay}
 use Rattle.ae_exec.proofs.Stores.{others_same, others_then}
 
 -- what an opening leaves
@@ -40,6 +41,7 @@ opened_disk base disk opened = record {
   settled = opened.settled;
   in_format = opened.in_format;
   others = others_same (effective (reads base)) (effective (reads disk)) opened.files;
+  others_stay = λ settled. brought_stay base disk (opening_up base disk (opened.any_moment settled));
 }
 
 -- ---- the files
@@ -70,6 +72,7 @@ module _ (base mid disk : DiskState) (opened : Opened base mid) where
     settled = λ settled. up.settled (opened.settled settled);
     in_format = λ settled agrees. up.in_format (opened.settled settled) (opened.in_format settled agrees);
     others = others_then (effective (reads base)) (effective (reads mid)) (effective (reads disk)) (others_same (effective (reads base)) (effective (reads mid)) opened.files) up.others;
+    others_stay = λ settled. brought_stay base disk (up_then base mid disk opened.files up.time (opened.any_moment settled) opened.time.later (up.any_moment tt (opened.settled settled)));
   }
 
   each-then : (P : Option Image → Option Image → Type 0) (Q : Option Image → Option Image → Type 0) → ((old other new : Option Image) → other ≡ old → P other new → Q old new) → IsSettledNow base

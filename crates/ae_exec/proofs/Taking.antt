@@ -31,6 +31,7 @@ use Rattle.ae_exec.proofs.Migrating.{first_log, others_migrated, second-needless
 use Rattle.ae_exec.proofs.Putting.{over_nothing}
 use Rattle.ae_exec.proofs.Refining.{same_kept, stands_for}
 use Rattle.ae_exec.proofs.Standing.{alike, by_files, in_some_format, second_alike}
+use Rattle.ae_exec.proofs.OthersStaying.{brought_stay}
 use Rattle.ae_exec.proofs.Stores.{others_same, same_files}
 
 -- what the one log of a disk is
@@ -66,6 +67,7 @@ module _ (base disk : DiskState) (clean : IsClean base) (goes : GoesOn IsSame ba
     settled = λ was. same_settled base disk goes was;
     in_format = λ was agrees. still_format base disk goes agrees;
     others = others_same (effective (reads base)) (effective (reads disk)) (same_files base disk goes);
+    others_stay = λ was. brought_stay base disk (opening_up base disk (open_still base base disk (omega arith) (open_now base settled) goes));
   }
 
   pub still_keeps : (log : Log) → Holds StandsForLog base (log ∷ []) → KeepsLog base disk log
@@ -230,6 +232,7 @@ module _ (base mid disk : DiskState) (batch : BatchRecord) (p : IsPut base mid d
     settled = λ was. (p.any_moment disk.moment p.time.later (omega arith)).settled;
     in_format = λ was agrees. put_format batch mid disk mid-clean p.time p.any_moment (still_format base mid p.goes agrees);
     others = may-others (put-read p.one_of_two);
+    others_stay = λ was. brought_stay base disk moments;
   }
 
   pub put_keeps : (log : Log) → Holds StandsForLog base (log ∷ []) → KeepsLog base disk log

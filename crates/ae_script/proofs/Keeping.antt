@@ -2,11 +2,14 @@
 use Rattle.std.specs.Prelude.{List, [], ◌∷◌}
 use Rattle.std.proofs.Common.{refl, sym, subst}
 use Rattle.ae_outside.specs.State.{DiskState, reads}
-use Rattle.ae_outside.specs.Time.{continues_refl, continues_then}
+use Rattle.ae_outside.specs.Image.{IsSame}
+use Rattle.ae_outside.specs.Time.{continues_refl, continues_then, goes_on_refl}
 use Rattle.ae_lines.specs.declared.line.Line.{Line}
 use Rattle.ae_lines.specs.declared.line.Line.TheVariants.{Nothing, As, At, Do, Put, Fill, Remove}
 use Rattle.ae_vault.specs.Vault.{effective}
 use Rattle.ae_exec.specs.Performs.{LeavesDisk}
+use Rattle.ae_exec.proofs.Ended.{only-read}
+use Rattle.ae_exec.proofs.OthersStaying.{stay_then}
 use Rattle.ae_exec.proofs.Stores.{others_same, others_then}
 use Rattle.ae_script.specs.Lines.{AreDone, Did, Does, DoesLine, Stand, last_stand}
 use Rattle.ae_script.specs.Step.{KeepsDisk}
@@ -15,7 +18,7 @@ use Rattle.ae_script.specs.declared.manner.Manner.{Manner}
 
 -- no call
 pub keeps_still : (disk : DiskState) → KeepsDisk disk disk
-keeps_still disk = record { time = continues_refl disk; settled = λ settled. settled; others = others_same (effective (reads disk)) (effective (reads disk)) refl }
+keeps_still disk = record { time = continues_refl disk; settled = λ settled. settled; others = others_same (effective (reads disk)) (effective (reads disk)) refl; others_stay = λ settled. (only-read disk disk (goes_on_refl IsSame disk (λ image. refl))).others_stay settled }
 
 -- one call after another
 pub keeps_then : (base mid disk : DiskState) → KeepsDisk base mid → KeepsDisk mid disk → KeepsDisk base disk
@@ -23,11 +26,12 @@ keeps_then base mid disk first second = record {
   time = continues_then base mid disk first.time second.time;
   settled = λ settled. second.settled (first.settled settled);
   others = others_then (effective (reads base)) (effective (reads mid)) (effective (reads disk)) first.others second.others;
+  others_stay = λ settled. stay_then base mid disk first.time.later (first.others_stay settled) second.time (second.others_stay (first.settled settled));
 }
 
 -- a command
 pub keeps_by : (base disk : DiskState) (nothing : Type 0) → LeavesDisk base disk nothing → KeepsDisk base disk
-keeps_by base disk nothing left = record { time = left.time; settled = left.settled; others = left.others }
+keeps_by base disk nothing left = record { time = left.time; settled = left.settled; others = left.others; others_stay = left.others_stay }
 
 -- ---- lines
 

@@ -5,7 +5,7 @@ use Rattle.ae_base.specs.Names.{is_user}
 use Rattle.ae_base.specs.declared.outcome.Outcome.{Outcome}
 use Rattle.ae_outside.specs.State.{DiskState, reads, Continues}
 use Rattle.ae_vault.specs.Vault.{effective}
-use Rattle.ae_exec.specs.Endings.{OthersSame}
+use Rattle.ae_exec.specs.Endings.{OthersSame, OthersStay}
 use Rattle.ae_exec.specs.Stops.{IsSettledNow}
 use Rattle.ae_telling.specs.Telling.{SinkUse, IsSaid, unless_told, written}
 use Rattle.ae_telling.specs.declared.told.Told.{Told}
@@ -17,11 +17,12 @@ abbrev pub may_give : List ℕ → ℕ → Bool
 may_give who now = is_user who && nat_le now last_moment
 
 -- What calls leave of a disk, whatever it held: time goes on, it is settled if it was, and no files but the state files and the
--- packed one are changed.
+-- packed one are changed, neither of what is read, nor of what any stop leaves.
 pub record KeepsDisk (base disk : DiskState) : Type 0 where
   pub time : Continues base disk
   pub settled : IsSettledNow base → IsSettledNow disk
   pub others : OthersSame (effective (reads base)) (effective (reads disk))
+  pub others_stay : IsSettledNow base → OthersStay base disk
 
 -- what is written of it
 abbrev pub told_by : Manner → Told → List ℕ
