@@ -3,9 +3,8 @@ use Rattle.std.specs.Prelude.{◌≡◌, ◌⊎◌, ◌++◌, ℕ, All, List, Op
 use Rattle.ae_base.specs.declared.outcome.Outcome.{Outcome}
 use Rattle.ae_base.specs.declared.outcome.Outcome.TheVariants.{SourceFault}
 use Rattle.ae_outside.specs.Image.{Image}
-use Rattle.ae_outside.specs.declared.disk.Disk.{Ghosts}
 use Rattle.ae_bundle.specs.declared.bundle.Bundle.{Bundle}
-use Rattle.ae_exec.specs.Opened.{HasOpened, MayBeUnopened}
+use Rattle.ae_exec.specs.Opened.{MayBeUnopened}
 use Rattle.ae_lines.specs.Acts.{MayBeDone}
 use Rattle.ae_lines.specs.declared.act.Act.{Act}
 use Rattle.ae_dist.specs.Answers.{HasNoPlan, Plans, Writes}
@@ -28,10 +27,6 @@ pub record HasPlan (disk_told input_told : Type 0) (image : Image) (name : Optio
   pub received : IsReceived input_told before after bundle
   pub plans : disk_told → Plans image name bundle acts
   pub may : All MayBeDone acts
-
--- the store on a disk that tells what it holds is opened as by a command
-abbrev pub OpensStore : {Disk : Type 0} → Ghosts Disk → (old new : Disk) → Type 0
-OpensStore device old new = device.tells → HasOpened (device.state old) (device.state new)
 
 -- why the input came to no plan: it is the text of no change set, and the disk isn't called; or it is one, which has no
 -- plan, and the store is opened, unless the disk failed, a file is damaged or memory ran out

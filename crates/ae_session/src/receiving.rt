@@ -4,13 +4,14 @@ ghost use Rattle.ae_outside.specs.Causes.{HasRisen};
 ghost use Rattle.ae_outside.specs.State.{reads};
 ghost use Rattle.ae_vault.specs.Disk.{DiskFailed};
 ghost use Rattle.ae_dist.specs.Receiving.{TakesNoMore};
+ghost use Rattle.ae_exec.specs.Opened.{OpensStore};
 ghost use Rattle.ae_exec.specs.Performs.{LeavesDisk};
 ghost use Rattle.ae_telling.specs.Answered.{IsWhyTold};
 ghost use Rattle.ae_telling.specs.Telling.{use_of_sink};
 ghost use Rattle.ae_script.specs.Lines.{stand};
 ghost use Rattle.ae_script.specs.Uses.{use_of_source, disks, sites};
 ghost use Rattle.ae_session.specs.Called.{Receives};
-ghost use Rattle.ae_session.specs.Received.{HasPlan, IsOfReceiving, IsUnplanned, OpensStore};
+ghost use Rattle.ae_session.specs.Received.{HasPlan, IsOfReceiving, IsUnplanned};
 
 use ae_base::{Outcome, ProjectName};
 use ae_dist::{ActList, plan, receive_bundle};
