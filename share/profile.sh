@@ -9,7 +9,7 @@
 #   `aegis -b -c 10` in the project's folder. In aegis.d/branch.b1 and below it they are of that branch: `aegis -br b1 -b -c 10`.
 # - There, paths are relative to where you stand. Elsewhere a path that begins with aegis.d/develop.N/ is taken without that.
 # - Where a build or a test fails, the end of its log is shown; where a fault came, what aewhy finds.
-# - A listing that has waited in vain for another command is made from a copy of the project's records.
+# - A listing that has waited in vain for another command, or that may not read the lock, is made from a copy of the project's records.
 
 # Where shown.pl is: beside aewhy, or where that is installed.
 _ae_lib=$(command -v aewhy) && _ae_lib=$(dirname "$(readlink -f "$_ae_lib")")

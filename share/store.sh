@@ -18,13 +18,15 @@ plain_number() {
 }
 
 # Takes the project's lock. First the program looks at all records, by a listing: it says what is wrong with them, and puts right what
-# a stop left.
+# a stop left. Where there is no lock's file and none may be made, as in a copy of the store, it reads without, and so is it done here.
 take_lock() {
     "$program" ${branch:+-br "$branch"} -l project_changes >/dev/null || fail "the project can't be read"
-    { [ -f "$home/lock" ] && [ -r "$home/lock" ]; } || fail "$home/lock can't be read"
-    case ${AEGIS_WAIT:-5} in *[!0-9]*) patience=5 ;; *) patience=${AEGIS_WAIT:-5} ;; esac
-    exec 9<"$home/lock"
-    flock -w "$patience" 9 || fail "another command works in this project"
+    if [ -e "$home/lock" ] || [ -L "$home/lock" ] || [ -w "$home" ]; then
+        { [ -f "$home/lock" ] && [ -r "$home/lock" ]; } || fail "$home/lock can't be read"
+        case ${AEGIS_WAIT:-5} in *[!0-9]*) patience=5 ;; *) patience=${AEGIS_WAIT:-5} ;; esac
+        exec 9<"$home/lock"
+        flock -w "$patience" 9 || fail "another command works in this project"
+    fi
     [ "$(head -c 1 "$home/store/gate" 2>/dev/null | od -An -tu1 | tr -d ' ')" != 1 ] || fail "a command was stopped: give any other first"
 }
 
