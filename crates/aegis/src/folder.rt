@@ -1,9 +1,12 @@
 // A folder that is held open, and what is in it. What is in it is reached through its handle and not by its place, so that nobody
 // can put a link in the place of a part of the way between a look and a use.
-use crate::modes::{UNFINISHED, file_mode, folder_mode, give, is_mode, is_unfinished, lock_mode};
+use crate::modes::{
+    PRIVATE, UNFINISHED, copied_mode, file_mode, folder_mode, give, is_mode, is_unfinished,
+    lock_mode,
+};
 use crate::places::{
-    Found, Node, entry_at, found_of, is_at, is_denied, is_empty_folder, maker, node_of, refused,
-    seen_at, sync_folder,
+    Found, Node, entry_at, found_of, is_at, is_denied, is_empty_folder, is_full, maker, node_of,
+    refused, seen_at, sync_folder,
 };
 use std::alloc::{AllocError, Global};
 use std::cell::Cell;
@@ -52,6 +55,8 @@ pub enum Kind {
     /// It may be run, too.
     Program,
     Lock,
+    /// Nobody else may do anything with it.
+    Private,
 }
 
 /// A regular file that is open, and what was known of it as it was opened.
@@ -60,6 +65,7 @@ pub struct Opened {
     pub file: File,
     pub size: u64,
     pub mode: u32,
+    pub group: u32,
     pub node: Node,
     /// No other name leads to it.
     pub is_alone: bool,
@@ -264,13 +270,20 @@ impl Folder {
             return self.open_there(files, alloc, name);
         }
         DirBuilder::new().mode(UNFINISHED).create(files, place)?;
-        let mut made = self.open_there(files, alloc, name)?;
+        let mut made = match self.open_there(files, alloc, name) {
+            Ok(made) => made,
+            Err(e) => {
+                self.remove_folder(files, alloc, name).ok();
+                return Err(e);
+            }
+        };
         made.take_mode(files, alloc, folder_mode(self.mode))?;
         made.is_new = true;
         Ok(made)
     }
 
-    /// Has a folder in it. One that is there stays as it is, and anything else there is an error.
+    /// Has a folder in it. One that is there stays as it is, unless its maker was stopped before it had its mode, and anything else there
+    /// is an error.
     pub fn make<R: Files<File = File> + Alloc + Clone + Drop>(
         &self,
         files: &R,
@@ -278,7 +291,11 @@ impl Folder {
         name: &str,
     ) -> io::Result<Folder> {
         match self.make_new(files, alloc, name) {
-            Err(e) if e.kind() == ErrorKind::AlreadyExists => self.open_there(files, alloc, name),
+            Err(e) if e.kind() == ErrorKind::AlreadyExists => {
+                let mut there = self.open_there(files, alloc, name)?;
+                there.finish(files, alloc, self)?;
+                Ok(there)
+            }
             made => made,
         }
     }
@@ -293,6 +310,19 @@ impl Folder {
             Some(maker) => Ok(maker == self.owner),
             None => Ok(true),
         }
+    }
+
+    /// Gives it the mode that it is to have in the folder around it, where its maker was stopped before it had that.
+    pub fn finish<R: Files<File = File> + Alloc + Clone + Drop>(
+        &mut self,
+        files: &R,
+        alloc: Global,
+        around: &Folder,
+    ) -> io::Result<()> {
+        if around.is_shared && self.is_as_made(files, alloc)? && self.is_empty(files, alloc)? {
+            return self.take_mode(files, alloc, folder_mode(around.mode));
+        }
+        Ok(())
     }
 
     // Gives it its mode, where it was just made. Another one may have got its name meanwhile, so it has to be empty, and one that isn't
@@ -372,6 +402,7 @@ impl Folder {
                 file,
                 size: known.len(),
                 mode: known.mode(),
+                group: known.gid(),
                 node,
                 is_alone: known.nlink() == 1,
             })),
@@ -414,7 +445,7 @@ impl Folder {
                 name,
                 OpenOptions::new().read(true).write(true),
             ) {
-                Err(e) if is_denied(&e) => {}
+                Err(e) if is_denied(&e) || is_full(&e) => {}
                 opened => return opened,
             }
         }
@@ -455,6 +486,7 @@ impl Folder {
     // The mode that a file of that kind is made with in it.
     fn mode_of(&self, kind: Kind) -> u32 {
         match (self.is_shared, kind) {
+            (_, Kind::Private) => PRIVATE,
             (true, Kind::Lock) => lock_mode(self.mode),
             (true, _) => file_mode(kind == Kind::Program, self.mode),
             (false, Kind::Program) => 0o777,
@@ -489,6 +521,25 @@ impl Folder {
                 .set(if is_mode(made.mode(), mode) { mode } else { 0 });
         }
         Ok(file)
+    }
+
+    /// Makes a file in it, where nothing is, for the bytes of another one that is open. It lets nobody do what that one doesn't let him,
+    /// at no moment, unless there are no bytes.
+    pub fn make_copy(
+        &self,
+        files: &impl Files<File = File>,
+        alloc: Global,
+        name: &str,
+        opened: &Opened,
+    ) -> io::Result<File> {
+        if opened.size == 0 {
+            return self.make_file(files, alloc, name, Kind::Plain);
+        }
+        let made = self.make_file(files, alloc, name, Kind::Private)?;
+        let known = made.metadata()?;
+        let mode = copied_mode(opened.mode, known.gid() == opened.group);
+        give(&made, known.mode(), self.mode_of(Kind::Plain) & mode)?;
+        Ok(made)
     }
 
     /// Whether a file of it that was found is to be made again before it's written: it has another name too, or nothing was written to

@@ -300,13 +300,13 @@ impl<'s, 'a, R: Files<File = File> + Alloc + Clock + Clone + Drop + Eprint + Pro
         matches!(found, Ok(found) if found.as_slice() == bytes)
     }
 
-    // The bytes of a file that had so many.
+    // The bytes of a file that had so many, or one more where it has become longer.
     fn read_whole(&self, folder: &Folder, name: &str, len: usize) -> io::Result<Vec<u8>> {
         let mut found = Vec::new(self.alloc);
         if let Some(opened) = folder.open_if_file(self.rt, self.alloc, name)? {
-            let mut file = opened.file;
-            found.try_reserve_exact(len.saturating_add(1))?;
-            file.read_to_end(&mut found)?;
+            let most = len.saturating_add(1);
+            found.try_reserve_exact(most)?;
+            opened.file.take(most as u64).read_to_end(&mut found)?;
         }
         Ok(found)
     }

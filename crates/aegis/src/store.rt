@@ -169,14 +169,20 @@ impl<'a, R: Files<File = File> + Alloc + Clock + Clone + Drop + Eprint> Store<'a
         }
     }
 
-    // Takes the lock of a store that is there. Who made it may have been stopped before its name was stable, but then it
-    // holds no file.
-    fn hold(&self, home: &Folder, store: &Folder, patience: Patience) -> io::Result<Option<Lock>> {
+    // Takes the lock of a store that is there. Who made it may have been stopped before it had its mode, and its name was stable, but
+    // then it holds no file.
+    fn hold(
+        &self,
+        home: &Folder,
+        store: &mut Folder,
+        patience: Patience,
+    ) -> io::Result<Option<Lock>> {
         let lock = self.take(home, patience)?;
         if !home.has(self.rt, self.alloc, store.node(), NAME)? {
             return Err(io::Error::from(ErrorKind::NotFound));
         }
         if lock.is_some() && store.is_empty(self.rt, self.alloc)? {
+            store.finish(self.rt, self.alloc, home)?;
             self.home.sync(self.rt, self.alloc)?;
         }
         Ok(lock)
@@ -198,13 +204,13 @@ impl<'a, R: Files<File = File> + Alloc + Clock + Clone + Drop + Eprint> Store<'a
 
     // Looks for the store. Where it is there the lock is taken, unless it is only read.
     fn find(&mut self) -> io::Result<bool> {
-        let Some((home, store)) = self.folders()? else {
+        let Some((home, mut store)) = self.folders()? else {
             self.standing = Standing::Absent;
             return Ok(false);
         };
         let lock = match self.access {
             Access::Alone(patience) | Access::Listing(patience) => {
-                self.hold(&home, &store, patience)?
+                self.hold(&home, &mut store, patience)?
             }
             Access::Reading => None,
         };
@@ -404,7 +410,7 @@ impl<'a, R: Files<File = File> + Alloc + Clock + Clone + Drop + Eprint> Store<'a
     }
 
     // Makes a file again. Where it has another name too, as in a snapshot by links, nothing is written through that one. The new file
-    // gets the name once it outlasts a stop; one that a stop left beside it goes first.
+    // gets the name once it outlasts a stop; one that a stop left beside it goes first. What comes to the file meanwhile isn't copied.
     fn make_again(&self, name: &str) -> io::Result<File> {
         let store = &self.there()?.store;
         let beside = format!(in self.alloc; "{name}.again")?;
@@ -413,11 +419,12 @@ impl<'a, R: Files<File = File> + Alloc + Clock + Clone + Drop + Eprint> Store<'a
             Err(e) if e.kind() != ErrorKind::NotFound => return Err(e),
             _ => {}
         }
-        let Some(mut there) = self.open(name)? else {
+        let Some(there) = self.open(name)? else {
             return Err(io::Error::from(ErrorKind::NotFound));
         };
-        let mut made = store.make_file(self.rt, self.alloc, beside, Kind::Plain)?;
-        io::copy(&mut there.file, &mut made)?;
+        let mut made = store.make_copy(self.rt, self.alloc, beside, &there)?;
+        let most = if name == GATE { 1 } else { u64::MAX };
+        io::copy(&mut there.file.take(there.size.min(most)), &mut made)?;
         made.sync_all()?;
         store.rename(self.rt, self.alloc, beside, store, name)?;
         store.sync(self.rt, self.alloc)?;
