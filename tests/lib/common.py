@@ -18,13 +18,15 @@ DISK_FAULT = "aegis: disk fault\n"
 WITHOUT_TRACE = os.environ.get("AEGIS_WITHOUT_TRACE") == "1"
 
 # The numbers of system calls.
-WRITE, PREAD, PWRITE, FLOCK, FSYNC, FDATASYNC, FTRUNCATE = 1, 17, 18, 73, 74, 75, 77
+READ, WRITE, PREAD, PWRITE, FLOCK, FSYNC, FDATASYNC, FTRUNCATE = 0, 1, 17, 18, 73, 74, 75, 77
 MKDIR, GETDENTS, OPENAT, STATX = 83, 217, 257, 332
 # What a write to standard error counts as, which is that of the reply; no system call has this number.
 REPLY = 10000
+# What a read of standard input counts as.
+INPUT = 10001
 # What a stop at a call has besides the signal.
 AT_A_CALL = 0x80
-WATCHED = {WRITE, PREAD, PWRITE, FLOCK, FSYNC, FDATASYNC, FTRUNCATE, MKDIR, GETDENTS, OPENAT, STATX, REPLY}
+WATCHED = {WRITE, PREAD, PWRITE, FLOCK, FSYNC, FDATASYNC, FTRUNCATE, MKDIR, GETDENTS, OPENAT, STATX, REPLY, INPUT}
 
 TRACEME, PEEKUSER, POKEUSER, SYSCALL, SETOPTIONS = 0, 3, 6, 24, 0x4200
 SEES_CALLS_ENDS_WITH_TRACER = 0x00100001
@@ -111,11 +113,12 @@ def finish_call(child, failure):
 def call_of(child):
     """The number of the system call at which the child stands."""
     number = ptrace(PEEKUSER, child, NUMBER, None)
-    return REPLY if number == WRITE and ptrace(PEEKUSER, child, FIRST_WORD, None) == 2 else number
+    marked = {(READ, 0): INPUT, (WRITE, 2): REPLY}
+    return marked.get((number, ptrace(PEEKUSER, child, FIRST_WORD, None)), number)
 
 
 def follow(child, watch, from_the_start=False):
-    """Follows a child to its end. `watch` is asked at each watched call from the first STATX on, or from the start."""
+    """Follows a child to its end. `watch` is asked at each watched call from the first STATX or INPUT on, or from the start."""
     status = os.waitpid(child, 0)[1]
     if os.WIFEXITED(status):
         sys.exit("a process can't be traced here")
@@ -125,7 +128,7 @@ def follow(child, watch, from_the_start=False):
     while os.WIFSTOPPED(status):
         number = call_of(child)
         failure = None
-        if number in WATCHED and (count or number == STATX or from_the_start):
+        if number in WATCHED and (count or number in [STATX, INPUT] or from_the_start):
             count += 1
             failure = watch(count, number)
         if failure is STOP:
