@@ -1,4 +1,4 @@
--- Each act of a plan may be done.
+-- Each act of a plan may be done, and builds and tests nothing.
 use Rattle.std.specs.Prelude.{◌≡◌, ◌<◌, ◌≤◌, ◌+◌, ◌&&◌, ℕ, Bool, true, false, if◌then◌else◌, All, List, [], ◌∷◌, ◌++◌, Option, Some, None, Result, Ok, Err, IfOk, find, nat_le}
 use Rattle.std.specs.List.{cons_option, filter_map}
 use Rattle.std.proofs.Common.{zero, suc, refl, sym, subst, ◌∙◌, arith}
@@ -13,7 +13,7 @@ use Rattle.ae_types.specs.Phases.{is_remove, is_test}
 use Rattle.ae_log.specs.Settings.{upward}
 use Rattle.ae_words.specs.Formed.{IsFormed, are_plain, has, is_change_number, is_no_config}
 use Rattle.ae_words.specs.Meaning.{is_whole}
-use Rattle.ae_words.specs.Table.{allows, is_one_command, row}
+use Rattle.ae_words.specs.Table.{allows, row}
 use Rattle.ae_words.proofs.Formed.{none_if, some_if}
 use Rattle.ae_words.specs.declared.table.Function.{Function}
 use Rattle.ae_words.specs.declared.table.Function.TheVariants as function
@@ -21,7 +21,7 @@ use Rattle.ae_words.specs.declared.table.Setting.{Setting}
 use Rattle.ae_words.specs.declared.table.Setting.TheVariants as setting
 use Rattle.ae_bundle.specs.declared.bundle.Bundle.{Bundle}
 use Rattle.ae_bundle.specs.declared.bundle.BundleFile.{BundleFile}
-use Rattle.ae_lines.specs.Acts.{MayBeDone}
+use Rattle.ae_lines.specs.Acts.{MayBePlanned}
 use Rattle.ae_lines.specs.declared.act.Act.{Act}
 use Rattle.ae_lines.specs.declared.act.Act.TheVariants.{Put, Run}
 use Rattle.ae_outside.specs.declared.dir.Dir.TheVariants.{Develop, Here}
@@ -103,9 +103,9 @@ module _ (number : ℕ) (fits : is_change_number number ≡ true) where
   path_options f path change setting.Regression there = absurd (let both : false ≡ true = there in cc)
   path_options f path change setting.Reason there = absurd (let both : false ≡ true = there in cc)
 
-  -- it may be done
+  -- it may be done in a plan
   abbrev IsOnPath : Function → List ℕ → Type 0
-  IsOnPath f path = IsFormed (on_path f number path) × (is_one_command f ≡ true)
+  IsOnPath f path = MayBePlanned (Run (on_path f number path))
 
   module _ (path : List ℕ) (good : is_path path ≡ true) where
     whole_path : (f : Function) → is_whole (on_path f number path) ≡ true → are_plain (row f) (on_path f number path) ≡ true → allows f None setting.Change ≡ true → IsFormed (on_path f number path)
@@ -133,16 +133,16 @@ module _ (number : ℕ) (fits : is_change_number number ≡ true) where
     test_whole = refl
 
     removes : IsOnPath function.RemoveFile path
-    removes = (whole_path function.RemoveFile remove_whole (λ i. (((good i && true) && true) && true) && true) refl, refl)
+    removes = ((whole_path function.RemoveFile remove_whole (λ i. (((good i && true) && true) && true) && true) refl, refl), (λ is. let both : function.RemoveFile ≡ function.Build = is in cc), (λ is. let both : function.RemoveFile ≡ function.Test = is in cc))
 
     copies : IsOnPath function.CopyFile path
-    copies = (whole_path function.CopyFile copy_whole (λ i. (((good i && true) && true) && true) && true) refl, refl)
+    copies = ((whole_path function.CopyFile copy_whole (λ i. (((good i && true) && true) && true) && true) refl, refl), (λ is. let both : function.CopyFile ≡ function.Build = is in cc), (λ is. let both : function.CopyFile ≡ function.Test = is in cc))
 
     files : IsOnPath function.NewFile path
-    files = (whole_path function.NewFile file_whole (λ i. (((good i && true) && true) && true) && true) refl, refl)
+    files = ((whole_path function.NewFile file_whole (λ i. (((good i && true) && true) && true) && true) refl, refl), (λ is. let both : function.NewFile ≡ function.Build = is in cc), (λ is. let both : function.NewFile ≡ function.Test = is in cc))
 
     tests : is_no_config path ≡ true → IsOnPath function.NewTest path
-    tests other = (whole_path function.NewTest test_whole (λ i. (((other i && true) && ((good i && true) && true)) && true) && true) refl, refl)
+    tests other = ((whole_path function.NewTest test_whole (λ i. (((other i && true) && ((good i && true) && true)) && true) && true) refl, refl), (λ is. let both : function.NewTest ≡ function.Build = is in cc), (λ is. let both : function.NewTest ≡ function.Test = is in cc))
 
   -- ---- the acts of files
 
@@ -153,51 +153,51 @@ module _ (number : ℕ) (fits : is_change_number number ≡ true) where
   adds false false other path good is = files path good
 
   module _ (tree : List TreeRow) where
-    removal_may : (file : BundleFile) → IsPath file.path → (act : Act) → removal tree number file ≡ Some act → MayBeDone act
+    removal_may : (file : BundleFile) → IsPath file.path → (act : Act) → removal tree number file ≡ Some act → MayBePlanned act
     removal_may file is_path_of act is =
-        subst MayBeDone (some_if (is_remove file.action && is_there tree file.path) (Run (on_path function.RemoveFile number file.path)) act is).1 (removes file.path is_path_of)
+        subst MayBePlanned (some_if (is_remove file.action && is_there tree file.path) (Run (on_path function.RemoveFile number file.path)) act is).1 (removes file.path is_path_of)
 
-    addition_may : (file : BundleFile) → IsPath file.path → (act : Act) → addition tree number file ≡ Some act → MayBeDone act
+    addition_may : (file : BundleFile) → IsPath file.path → (act : Act) → addition tree number file ≡ Some act → MayBePlanned act
     addition_may file is_path_of act is =
         let made : Some (Run (on_path (adding tree file) number file.path)) ≡ Some act = (none_if (is_remove file.action) (Some (Run (on_path (adding tree file) number file.path))) act is).1 in
-        subst MayBeDone (same_Some (Run (on_path (adding tree file) number file.path)) act made) (adds (is_there tree file.path) (is_test file.usage) (is_no_config file.path) file.path is_path_of refl)
+        subst MayBePlanned (same_Some (Run (on_path (adding tree file) number file.path)) act made) (adds (is_there tree file.path) (is_test file.usage) (is_no_config file.path) file.path is_path_of refl)
 
-  put_may : (file : BundleFile) → IsPath file.path → (act : Act) → put number file ≡ Some act → MayBeDone act
+  put_may : (file : BundleFile) → IsPath file.path → (act : Act) → put number file ≡ Some act → MayBePlanned act
   put_may file is_path_of act is =
       let made : Some (Put (Develop number) file.path file.bytes) ≡ Some act = (none_if (is_remove file.action) (Some (Put (Develop number) file.path file.bytes)) act is).1 in
-      subst MayBeDone (same_Some (Put (Develop number) file.path file.bytes) act made) tt
+      subst MayBePlanned (same_Some (Put (Develop number) file.path file.bytes) act made) tt
 
 -- ---- all acts
 
-module _ (f : BundleFile → Option Act) (may : (file : BundleFile) → IsPath file.path → (act : Act) → f file ≡ Some act → MayBeDone act) where
-  each_may : (bundled : List BundleFile) → ArePaths bundled → All MayBeDone (filter_map f bundled)
-  each_may [] fit = All-nil MayBeDone
+module _ (f : BundleFile → Option Act) (may : (file : BundleFile) → IsPath file.path → (act : Act) → f file ≡ Some act → MayBePlanned act) where
+  each_may : (bundled : List BundleFile) → ArePaths bundled → All MayBePlanned (filter_map f bundled)
+  each_may [] fit = All-nil MayBePlanned
   each_may (file ∷ bundled) fit = go (each_may bundled fit.1) (f file) refl
     where
-      go : All MayBeDone (filter_map f bundled) → (o : Option Act) → f file ≡ o → All MayBeDone (cons_option o (filter_map f bundled))
-      go rest (Some act) is = All-cons MayBeDone act (filter_map f bundled) (may file fit.0 act is) rest
+      go : All MayBePlanned (filter_map f bundled) → (o : Option Act) → f file ≡ o → All MayBePlanned (cons_option o (filter_map f bundled))
+      go rest (Some act) is = All-cons MayBePlanned act (filter_map f bundled) (may file fit.0 act is) rest
       go rest None is = rest
 
 -- so is each of a plan for a number of a change
-pub plan_formed : (tree : List TreeRow) (number : ℕ) (bundle : Bundle) → is_change_number number ≡ true → ArePaths bundle.files → All MayBeDone (plan_of tree number bundle)
+pub plan_formed : (tree : List TreeRow) (number : ℕ) (bundle : Bundle) → is_change_number number ≡ true → ArePaths bundle.files → All MayBePlanned (plan_of tree number bundle)
 plan_formed tree number bundle good of_file =
     let removals : List Act = filter_map (removal tree number) bundle.files in
     let additions : List Act = filter_map (addition tree number) bundle.files in
     let puts : List Act = filter_map (put number) bundle.files in
-    let begins : MayBeDone (Run (begin number)) = (begin_formed number good, refl) in
-    let makes : MayBeDone (Run new_change) = (new_change_formed, refl) in
-    All-cons MayBeDone (Put Here attributes_path (attributes_text bundle)) (Run new_change ∷ Run (begin number) ∷ (removals ++ (additions ++ puts))) tt
-    (All-cons MayBeDone (Run new_change) (Run (begin number) ∷ (removals ++ (additions ++ puts))) makes
-    (All-cons MayBeDone (Run (begin number)) (removals ++ (additions ++ puts)) begins
-    (All-append MayBeDone removals (additions ++ puts) (each_may (removal tree number) (removal_may number good tree) bundle.files of_file)
-    (All-append MayBeDone additions puts (each_may (addition tree number) (addition_may number good tree) bundle.files of_file)
+    let begins : MayBePlanned (Run (begin number)) = ((begin_formed number good, refl), (λ is. let both : function.DevelopBegin ≡ function.Build = is in cc), (λ is. let both : function.DevelopBegin ≡ function.Test = is in cc)) in
+    let makes : MayBePlanned (Run new_change) = ((new_change_formed, refl), (λ is. let both : function.NewChange ≡ function.Build = is in cc), (λ is. let both : function.NewChange ≡ function.Test = is in cc)) in
+    All-cons MayBePlanned (Put Here attributes_path (attributes_text bundle)) (Run new_change ∷ Run (begin number) ∷ (removals ++ (additions ++ puts))) tt
+    (All-cons MayBePlanned (Run new_change) (Run (begin number) ∷ (removals ++ (additions ++ puts))) makes
+    (All-cons MayBePlanned (Run (begin number)) (removals ++ (additions ++ puts)) begins
+    (All-append MayBePlanned removals (additions ++ puts) (each_may (removal tree number) (removal_may number good tree) bundle.files of_file)
+    (All-append MayBePlanned additions puts (each_may (addition tree number) (addition_may number good tree) bundle.files of_file)
     (each_may (put number) (put_may number good) bundle.files of_file)))))
 
 -- and of one that is answered
-pub answer_formed : (o : Observation) (bundle : Bundle) (result : Result (List Act) Outcome) → IsPlanned o bundle result → ArePaths bundle.files → IfOk result (All MayBeDone)
-answer_formed o bundle (Ok acts) is paths = subst (All MayBeDone) (sym is.2) (plan_formed (baseline_of o) is.0 bundle (number_fits o is.0 is.1) paths)
+pub answer_formed : (o : Observation) (bundle : Bundle) (result : Result (List Act) Outcome) → IsPlanned o bundle result → ArePaths bundle.files → IfOk result (All MayBePlanned)
+answer_formed o bundle (Ok acts) is paths = subst (All MayBePlanned) (sym is.2) (plan_formed (baseline_of o) is.0 bundle (number_fits o is.0 is.1) paths)
 answer_formed o bundle (Err why) is paths = tt
 
-pub first_formed : {E : Type 0} (bundle : Bundle) (result : Result (List Act) E) → IfOk result (λ acts. acts ≡ plan_of [] 10 bundle) → ArePaths bundle.files → IfOk result (All MayBeDone)
-first_formed bundle (Ok acts) is paths = subst (All MayBeDone) (sym is) (plan_formed [] 10 bundle refl paths)
+pub first_formed : {E : Type 0} (bundle : Bundle) (result : Result (List Act) E) → IfOk result (λ acts. acts ≡ plan_of [] 10 bundle) → ArePaths bundle.files → IfOk result (All MayBePlanned)
+first_formed bundle (Ok acts) is paths = subst (All MayBePlanned) (sym is) (plan_formed [] 10 bundle refl paths)
 first_formed bundle (Err why) is paths = tt

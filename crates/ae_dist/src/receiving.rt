@@ -1,5 +1,5 @@
 // The input is read as the text of a change set.
-ghost use Rattle.std.specs.Prelude.{◌≡◌, ◌≤◌, ◌<◌, [], List, ℕ, Ok, length, IfOk, IfErr, OnOk};
+ghost use Rattle.std.specs.Prelude.{◌≡◌, ◌≤◌, ◌<◌, [], List, ℕ, Ok, length, IfOk, IfErr, IsErrOf, OnOk};
 ghost use Rattle.ae_outside.specs.Causes.{HasRisen};
 ghost use Rattle.ae_bundle.specs.Bundled.{Bundled, Fits};
 ghost use Rattle.ae_bundle.specs.declared.bundle.Bundle.{Bundle};
@@ -52,6 +52,7 @@ fn fill_reader<I: Source>(
     ensures unread { IfErr result (IsUnread I.tells (I.left input.old)
         (HasRisen (I.faults input.old) (I.faults input.new))) }
     ensures no_more { I.tells → TakesNoMore (I.left input.old) (I.left input.new) }
+    ensures quiet { (IsErrOf result Outcome.SourceFault → ⊥) → I.faults input.new ≡ I.faults input.old }
     ensures later { I.faults input.old ≤ I.faults input.new }
 {
     let mut taken: usize = 0;
@@ -80,6 +81,8 @@ pub fn receive_bundle<I: Source>(alloc: Global, input: &mut I) -> Result<Bundle,
     ensures unread { IfErr result (IsUnread I.tells (I.left input.old)
         (HasRisen (I.faults input.old) (I.faults input.new))) }
     ensures no_more { I.tells → TakesNoMore (I.left input.old) (I.left input.new) }
+    // An input that failed isn't asked again, as if it hadn't.
+    ensures quiet { (IsErrOf result Outcome.SourceFault → ⊥) → I.faults input.new ≡ I.faults input.old }
     ensures later { I.faults input.old ≤ I.faults input.new }
 {
     let Ok(mut piece) = vec![in alloc; 0; PIECE_BYTES] else {

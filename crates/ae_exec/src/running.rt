@@ -6,11 +6,10 @@ ghost use Rattle.ae_outside.specs.State.{reads};
 ghost use Rattle.ae_types.specs.Trees.{TreeRow, tree_path};
 ghost use Rattle.ae_vault.specs.Disk.{DiskFailed, IsCleanDisk, OnlyReads, files_of};
 ghost use Rattle.ae_dirs.specs.declared.error.DirsError.{DirsError};
-ghost use Rattle.ae_dirs.specs.Parts.{AreInPart};
 ghost use Rattle.ae_dirs.specs.Runs.{IsGroup, MakesByteRuns};
 ghost use Rattle.ae_dirs.specs.Reads.{tracked_in};
 ghost use Rattle.ae_evidence.specs.declared.runs.Job.{Job};
-ghost use Rattle.ae_evidence.specs.Directories.{dirs_after, ChangesThese};
+ghost use Rattle.ae_evidence.specs.Directories.{dirs_after};
 ghost use Rattle.ae_machine.specs.Call.{given_of};
 ghost use Rattle.ae_machine.specs.Fits.{makes_runs};
 ghost use Rattle.ae_machine.specs.Jobs.{AnswersJobs};
@@ -19,7 +18,7 @@ ghost use Rattle.ae_machine.specs.Sight.{with_bytes};
 ghost use Rattle.ae_machine.specs.Space.{placing};
 ghost use Rattle.ae_machine.specs.Versions.{ShowsVersions, rows_based, rows_refreshed};
 ghost use Rattle.ae_exec.specs.Bytes.{AreThere, HaveBytes, rows_at};
-ghost use Rattle.ae_exec.specs.Directories.{AreOwn};
+ghost use Rattle.ae_exec.specs.Directories.{AreOwn, ChangesThenRuns};
 ghost use Rattle.ae_exec.specs.Endings.{StopsReading};
 ghost use Rattle.ae_exec.specs.Reading.{AreKept, IsInside, based_for, refreshed_for, versions_for_runs, versions_of};
 ghost use Rattle.ae_exec.specs.Runs.{AreForRunsOf, HaveRun, IsConfigured};
@@ -125,10 +124,8 @@ pub(crate) fn make_runs<S: Site>(
     requires commands { All (λ (job : Job). IsCommand job.command) plan.now.jobs }
     ensures ran { IfOk result (λ rows. S.tells → plan.now.tracked ≡ tracked_in (dirs_after plan.now.changes (S.state site.old).trees dir) plan.now.tracked → HaveRun dir plan.now.changes (paths_of plan.now.tracked) plan.now.jobs rows (S.state site.old) (S.state site.new)) }
     ensures whole { IfOk result (λ rows. IsGroup plan.now.tracked plan.now.jobs rows) }
-    // Where it made none, and it isn't that the directories failed, only those of the changes are changed.
-    ensures unrun { S.tells → (IsErrOf result DirsError.SiteFault → ⊥) → (S.state site.new).runs ≡ (S.state site.old).runs → ChangesThese plan.now.changes (S.state site.old) (S.state site.new) }
-    // And each path is as it was, or as the changes have it.
-    ensures part { S.tells → (IsErrOf result DirsError.SiteFault → ⊥) → (S.state site.new).runs ≡ (S.state site.old).runs → AreInPart plan.now.changes (S.state site.old).trees (S.state site.new).trees }
+    // Where it isn't that the directories failed, the changes were made, and then nothing but the runs changed any directory.
+    ensures only { S.tells → (IsErrOf result DirsError.SiteFault → ⊥) → ChangesThenRuns plan.now.changes (S.state site.old) (S.state site.new) }
     // However it ends, the runs that it made are of bytes.
     ensures bytes { S.tells → MakesByteRuns (S.state site.old) (S.state site.new) }
     ensures cause { Counted (S.faults site.old) (S.faults site.new) (IsErrOf result DirsError.SiteFault) }

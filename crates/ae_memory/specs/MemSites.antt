@@ -8,9 +8,17 @@ use Rattle.ae_memory.specs.declared.site.MemSite.{MemSite}
 use Rattle.ae_memory.specs.declared.site_run.MemRun.{MemRun}
 use Rattle.ae_memory.specs.declared.site_run.RunDone.{RunDone}
 
--- a run with the trees that its snapshots show
+-- a run with the trees that its snapshots show, and with those of the files that it found and left
 abbrev pub made_of : RunDone → RunMade
-made_of run = record { dir = run.dir; command = run.command; exit = run.exit; before = with_rows run.before no_files; after = with_rows run.after no_files }
+made_of run = record {
+  dir = run.dir;
+  command = run.command;
+  exit = run.exit;
+  before = with_rows run.before no_files;
+  after = with_rows run.after no_files;
+  found = tree_of run.found.items;
+  left = tree_of run.left.items;
+}
 
 -- its directories and runs
 abbrev pub state_of : MemSite → SiteState

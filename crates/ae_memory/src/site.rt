@@ -10,7 +10,8 @@ ghost use Rattle.ae_memory.specs.MemSites.{made_of};
 
 use crate::calls::Calls;
 use crate::site_files::{
-    FileRow, bytes_of, drop_dir, drop_file, note_file_bytes, put_file, run_over_files, snapshot_of,
+    FileRow, bytes_of, copy_of, drop_dir, drop_file, note_file_bytes, put_file, run_over_files,
+    snapshot_of,
 };
 use crate::site_run::{MemRunList, RunDone, RunDoneList};
 use ae_base::{Path, Text};
@@ -103,21 +104,33 @@ fn run_at(
     script: &MemRunList,
     place: usize,
 ) -> Result<RunDone, AllocError>
-    ensures made { IfOk result (λ run. made_of run ≡ record { dir = dir.now; command = command.now; exit = run.exit; before = tree_of files.old.items dir.now; after = tree_of files.new.items dir.now }) }
+    ensures made { IfOk result (λ run. made_of run ≡ record {
+      dir = dir.now;
+      command = command.now;
+      exit = run.exit;
+      before = tree_of files.old.items dir.now;
+      after = tree_of files.new.items dir.now;
+      found = tree_of files.old.items;
+      left = tree_of files.new.items;
+    }) }
     ensures exit { IfOk result (λ run. run.exit ≡ exit_of script.now place) }
     ensures after { OnOk result (tree_of files.new.items dir.now ≡ after_of script.now place (tree_of files.old.items dir.now)) }
     ensures others { ElsewhereSame dir.now (tree_of files.old.items) (tree_of files.new.items) }
 {
     let command = Text::of(command.as_bytes().to_vec(alloc)?);
     let before = snapshot_of(alloc, files, dir)?;
+    let found = copy_of(alloc, files)?;
     let exit = runs_at(alloc, files, dir, script, place)?;
     let after = snapshot_of(alloc, files, dir)?;
+    let left = copy_of(alloc, files)?;
     Ok(RunDone {
         dir: *dir,
         command,
         exit,
         before,
         after,
+        found,
+        left,
     })
 }
 

@@ -185,3 +185,18 @@ pub(crate) fn snapshot_of(
     }
     Ok(snapshot)
 }
+
+// The files of all directories.
+pub(crate) fn copy_of(alloc: Global, files: &[FileRow]) -> Result<Vec<FileRow>, AllocError>
+    ensures { IfOk result (λ copy. copy.items ≡ files.now) }
+{
+    let mut copy = Vec::new(alloc);
+    for file in files {
+        copy.push(FileRow {
+            dir: file.dir,
+            path: file.path.copy(alloc)?,
+            bytes: file.bytes.copy(alloc)?,
+        })?;
+    }
+    Ok(copy)
+}

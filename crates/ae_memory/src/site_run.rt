@@ -1,6 +1,7 @@
 // The script of a site in memory, and what was run there.
 ghost use Rattle.std.specs.Prelude.{◌≡◌, [], ◌∷◌, ◌++◌, length, OnOk, OnErr};
 
+use crate::site_files::FileRow;
 use ae_base::{PathList, Snapshot, SnapshotList, Text};
 use ae_outside::{Dir, Exit};
 use std::alloc::{AllocError, Global};
@@ -46,7 +47,8 @@ impl MemRunList {
     }
 }
 
-/// A run: where, what, how it ended, and its directory before it and as it left it.
+/// A run: where, what, how it ended, its directory before it and as it left it, and the files of all directories as it found and
+/// left them.
 #[derive(Drop)]
 pub struct RunDone {
     pub dir: Dir,
@@ -54,6 +56,8 @@ pub struct RunDone {
     pub exit: Exit,
     pub before: Snapshot,
     pub after: Snapshot,
+    pub(crate) found: Vec<FileRow>,
+    pub(crate) left: Vec<FileRow>,
 }
 
 /// What was run, first to last, which contracts see as the list of it.

@@ -54,7 +54,7 @@ pub trait Site {
         ensures only { tells → ChangesOnly dir (state self.old) (state self.new) }
         ensures cause { HasCause (faults self.old) (faults self.new) result };
 
-    /// Runs a command there. Of the directories nothing is known then but the tree that the run is noted with, and nothing after a failure.
+    /// Runs a command there. Of the directories nothing is known then but the trees that the run is noted with, and nothing after a failure.
     fn run(&mut self, dir: Dir, command: &str) -> Result<Exit, Failed>
         ensures ran { IfOk result (λ exit. tells → (state self.new).runs ≡ (state self.old).runs ++ run_made dir command.now exit (state self.old) (state self.new) ∷ []) }
         ensures not_run { OnErr result (tells → (state self.new).runs ≡ (state self.old).runs) }

@@ -1,5 +1,5 @@
 // Sources and sinks of bytes.
-ghost use Rattle.std.specs.Prelude.{◌≡◌, ◌↔◌, ℕ, ◌<◌, ◌≤◌, List, [], ◌++◌, length, take, IfOk, OnErr};
+ghost use Rattle.std.specs.Prelude.{◌≡◌, ◌↔◌, ℕ, ◌<◌, ◌≤◌, List, [], ◌++◌, length, take, IfOk, OnErr, OnOk};
 ghost use Rattle.ae_outside.specs.Causes.{HasRisen, HasCause};
 ghost use Rattle.ae_outside.specs.Streams.{TakesPrefix};
 
@@ -23,6 +23,8 @@ pub trait Source {
         ensures moved { IfOk result (λ n. tells → left self.old ≡ take n into.new ++ left self.new) }
         ensures at_end { IfOk result (λ n. tells → (n ≡ 0) ↔ (left self.old ≡ [])) }
         ensures kept { OnErr result (tells → left self.new ≡ left self.old) }
+        // A read that doesn't fail leaves the count, so that none hides a failure before it.
+        ensures quiet { OnOk result (faults self.new ≡ faults self.old) }
         ensures cause { HasCause (faults self.old) (faults self.new) result };
 }
 

@@ -1,4 +1,2 @@
 pub mod Help
-pub mod Modes
-pub mod Runs
 pub mod Top

@@ -1,16 +1,17 @@
 // What the program says of itself.
 ghost use Rattle.std.specs.Prelude.{◌≡◌, ◌↔◌, IsSome, IsTrue, Some, codes, map, option_map, string_bytes};
 ghost use Rattle.ae_words.specs.Items.{behind_dash};
-ghost use Rattle.aegis.specs.Help.{Asks, AsksAbout, Spells};
+ghost use Rattle.aegis.specs.Help.{Asks, AsksAbout, AsksHelp, NamesTopic, Spells};
 
 use crate::help_of::text_of;
-use ae_words::{Function, matches_option};
+use crate::help_of_other::Topic;
+use ae_words::{Function, first_function, matches_option};
 
-const VERSION: &str = "aegis 0.1.0, format 2 of the store\n";
+const VERSION: &str = "aegis 1.0.0, format 2 of the store\n";
 
 pub(crate) const HELP: &str = "\
 usage: aegis -FUNCTION WORD..
-       aegis -Help [FUNCTION]
+       aegis -Help [FUNCTION | N]
 
 A function, a listing and an option are spelled by their patterns: a capital must be typed; of a run of small letters a first
 part may be, or nothing; `_` may be `-` or nothing; case doesn't matter; a second `-` is ignored. So `-npr` is `--New-Project`.
@@ -112,7 +113,8 @@ An option's value is the next word, or stands after `=` in the same word. The op
 
 A PATH is one in the directory of the change: parts of A-Za-z0-9._+- joined by `/`.
 
-`-Help` prints this text, `-Help FUNCTION` says more of one function, and `-Version` prints the version.
+`-Help` prints this text, `-Help FUNCTION` says more of one function, `-Help N` of the refusal of that number, and `-Version`
+prints the version.
 
 The project is the one in the current folder, in `aegis.d`. The files of change 10 are in `aegis.d/develop.10` while it is
 developed, and `aegis.log` there has what its builds and tests write: `tail -f aegis.d/develop.10/aegis.log` follows it. What a
@@ -141,6 +143,8 @@ pub enum Question {
     Help,
     /// What this function does.
     HelpOf(Function),
+    /// What this refusal means, or these words of a branch.
+    HelpOfOther(Topic),
     Version,
 }
 
@@ -178,6 +182,17 @@ fn function_of(word: &[u8]) -> Option<Function>
     }
 }
 
+// What a word names that is no function, with a dash or without.
+fn topic_of(word: &[u8]) -> Option<Topic>
+    ensures named { (topic : _) → result ≡ Some topic → NamesTopic topic (behind_dash word.now) word.now }
+    ensures read { (topic : _) → NamesTopic topic (behind_dash word.now) word.now → IsSome result }
+{
+    match name_of(word) {
+        Some(name) => Topic::read(name),
+        None => Topic::read(word),
+    }
+}
+
 // The function that these words ask about: a word that spells `Help`, and its name.
 fn asked_about(words: &[String]) -> Option<Function>
     ensures { (function : _) → (result ≡ Some function) ↔ AsksAbout function (map string_bytes words.now) }
@@ -191,6 +206,20 @@ fn asked_about(words: &[String]) -> Option<Function>
     }
 }
 
+// What these words ask about that is no function.
+fn asked_of_other(words: &[String]) -> Option<Topic>
+    ensures named { (topic : _) → result ≡ Some topic → AsksHelp topic (map string_bytes words.now) }
+    ensures read { (topic : _) → AsksHelp topic (map string_bytes words.now) → IsSome result }
+{
+    let [help, word] = words else {
+        return None;
+    };
+    match name_of(help.as_bytes()) {
+        Some(name) if matches_option(b"Help", name) => topic_of(word.as_bytes()),
+        _ => None,
+    }
+}
+
 impl Question {
     /// What the words ask of the program itself, if they do.
     pub fn read(words: &[String]) -> Option<Question>
@@ -198,6 +227,8 @@ impl Question {
         ensures version { result ≡ Some Question.Version → Asks (codes "Version") (map string_bytes words.now) }
         ensures about { (function : _) → (result ≡ Some (Question.HelpOf function)) ↔ AsksAbout function (map string_bytes words.now) }
         ensures answered { Asks (codes "Version") (map string_bytes words.now) → IsSome result }
+        ensures other { (topic : _) → (result ≡ Some (Question.HelpOfOther topic)) → AsksHelp topic (map string_bytes words.now) }
+        ensures answered_of_other { (topic : _) → AsksHelp topic (map string_bytes words.now) → IsSome result }
     {
         if asks(b"Help", words) {
             return Some(Question::Help);
@@ -205,8 +236,11 @@ impl Question {
         if asks(b"Version", words) {
             return Some(Question::Version);
         }
-        match asked_about(words) {
-            Some(function) => Some(Question::HelpOf(function)),
+        if let Some(function) = asked_about(words) {
+            return Some(Question::HelpOf(function));
+        }
+        match asked_of_other(words) {
+            Some(topic) => Some(Question::HelpOfOther(topic)),
             None => None,
         }
     }
@@ -216,7 +250,34 @@ impl Question {
         match self {
             Question::Help => HELP,
             Question::HelpOf(function) => text_of(function),
+            Question::HelpOfOther(topic) => topic.text(),
             Question::Version => VERSION,
         }
+    }
+}
+
+// How a text says that its function is written.
+fn first_line(text: &'static str) -> &'static str {
+    text.lines().next().unwrap_or("").trim_start()
+}
+
+// What a word of a branch names.
+fn topic_in(word: Option<&String>) -> Option<Topic> {
+    name_of(word?.as_bytes()).and_then(Topic::read)
+}
+
+/// How what these words begin with is written; `None` where that isn't known.
+pub fn usage_of(words: &[String]) -> Option<&'static str> {
+    if let Some(function) = first_function(words) {
+        return Some(first_line(text_of(function)));
+    }
+    let Some(Topic::Branch) = topic_in(words.first()) else {
+        return None;
+    };
+    let command = words.get(2..).unwrap_or(&[]);
+    match (first_function(command), topic_in(command.first())) {
+        (Some(function), _) => Some(first_line(text_of(function))),
+        (None, Some(topic)) => Some(first_line(topic.text())),
+        (None, None) => Some(first_line(Topic::Branch.text())),
     }
 }

@@ -1,52 +1,31 @@
 //! The program: the real directories, files and streams, and what is done with them.
 #![tactic(auto)]
 
-mod around;
 mod calling;
-mod descriptors;
-mod disk;
-mod emptied;
-mod folder;
 mod help;
 mod help_of;
-mod home;
+mod help_of_other;
 mod installed;
-mod kept;
-mod lock;
-mod modes;
-mod places;
-mod run_log;
-mod site;
-mod store;
-mod streams;
-mod taken;
-mod trouble;
-mod who;
 
 use ae_base::Outcome;
 use ae_branch_words::{Rest, branch_words};
+use ae_system::{
+    Access, Course, Home, Manner, Quiet, Reading, RealDisk, RealSite, Removals, Store, Trouble,
+    Writing, descriptors, who,
+};
 use ae_words::{Function, first_function};
 use calling::top;
-use disk::RealDisk;
-use help::Question;
-use home::Home;
-use site::RealSite;
+use help::{Question, usage_of};
 use std::cell::RefCell;
 use std::io;
 use std::io::{ErrorKind, IsTerminal, Write};
 use std::process::ExitCode;
-use store::{Access, Store, Turn};
-use streams::{Quiet, Reading, Writing};
-use trouble::Trouble;
 
 // The words aren't understood.
 const BAD_WORDS: u8 = 2;
 
-// So often a call is made where what it had read changed while it had let the lock go. The last one doesn't let it go.
-const TURNS: u32 = 3;
-
-// Whether a command lets the lock go while it runs something. It doesn't yet: a call that is made again would make its run again.
-const LETS_GO: bool = false;
+// So often a call is made at most, where it is to be made again: some of these have waited for a directory.
+const MOST_TURNS: u32 = 100;
 
 // Standard output doesn't take what is said.
 const NOT_SAID: u8 = 5;
@@ -73,6 +52,22 @@ fn answer(rt: &HostRuntime, question: Question) -> io::Result<()> {
     }
 }
 
+// Says after the message how the command is written whose words aren't understood, on a terminal alone.
+fn tell_usage(rt: &HostRuntime, words: &[String], outcome: &Outcome) {
+    if !matches!(outcome, Outcome::BadWords(1..)) || !rt.stderr().is_terminal() {
+        return;
+    }
+    let usage = usage_of(words).unwrap_or("-FUNCTION WORD.., and aegis -Help lists the functions");
+    rt.eprintln(format_args!("usage: aegis {usage}")).ok();
+}
+
+// Removes what the command has moved away, now that it has said what it did and let the locks go.
+fn end_removals(rt: &HostRuntime, removals: &RefCell<Removals>) {
+    if let Ok(mut removals) = removals.try_borrow_mut() {
+        removals.end(rt, rt.alloc());
+    }
+}
+
 // Says of a device why its last call failed that did, where one did.
 fn tell(rt: &impl Eprint, device: &str, trouble: Option<&Trouble>) {
     if let Some(trouble) = trouble {
@@ -81,36 +76,33 @@ fn tell(rt: &impl Eprint, device: &str, trouble: Option<&Trouble>) {
 }
 
 // What a command of these words does with its store: an audit only reads it, and what shows something promises nothing of a stop.
-fn access(rt: &HostRuntime, words: &[String]) -> Access {
-    let patience = who::patience(rt, rt.stderr().is_terminal());
+fn access(words: &[String]) -> Access {
     match first_function(words) {
         Some(Function::Audit) => Access::Reading,
-        Some(Function::List | Function::Report | Function::DistributionSend) => {
-            Access::Listing(patience)
-        }
-        _ => Access::Alone(patience),
+        Some(Function::List | Function::Report | Function::DistributionSend) => Access::Listing,
+        _ => Access::Alone,
     }
 }
 
-// Whether words are a single command, which may let the lock go while it runs something. Others make several, one after another, over
-// what they have read once.
-fn is_single(words: &[String]) -> bool {
-    LETS_GO
-        && !matches!(
-            first_function(words),
-            None | Some(
-                Function::Script
-                    | Function::Generate
-                    | Function::Audit
-                    | Function::List
-                    | Function::Report
-                    | Function::DistributionSend
-                    | Function::DistributionReceive
-            )
-        )
+// How a command of these words comes by what it shares with others. What reads its input can't be made again.
+fn manner(rt: &HostRuntime, words: &[String]) -> Manner {
+    match first_function(words) {
+        Some(Function::Build | Function::Test) => Manner::Running,
+        Some(Function::Script) if who::waits_for_no_run(rt) => Manner::Records,
+        Some(Function::Script | Function::Generate) => Manner::Script,
+        None
+        | Some(
+            Function::Audit
+            | Function::List
+            | Function::Report
+            | Function::DistributionSend
+            | Function::DistributionReceive,
+        ) => Manner::Once,
+        Some(_) => Manner::Single,
+    }
 }
 
-// Where a call works: in the project, or in this branch of it, or between the two; and how it comes by the locks.
+// Where a call works: in the project, or in this branch of it, or between the two; and what it does with its store.
 #[derive(Clone, Copy)]
 struct Where<'a> {
     branch: Home<'a>,
@@ -120,16 +112,11 @@ struct Where<'a> {
 
 // Takes the lock of the trunk before a call between it and a branch asks for that of the branch, so that no two of them wait for each
 // other. Where it can't be taken, neither is waited for any more.
-fn take_trunk_first<'a>(
-    trunk: &RefCell<Store<'a, HostRuntime>>,
-    branch: &RefCell<Store<'a, HostRuntime>>,
-) {
-    let (Ok(mut trunk), Ok(mut branch)) = (trunk.try_borrow_mut(), branch.try_borrow_mut()) else {
-        return;
-    };
-    if !trunk.take_first() {
-        trunk.hurry();
-        branch.hurry();
+fn take_trunk_first(trunk: &RefCell<Store<'_, HostRuntime>>, course: &Course) {
+    if let Ok(mut trunk) = trunk.try_borrow_mut() {
+        if !trunk.take_first() {
+            course.hurry();
+        }
     }
 }
 
@@ -147,22 +134,24 @@ fn call<'x>(
     words: &[String],
     who: &str,
     place: Where<'x>,
-    turn: &'x Turn,
+    course: &'x Course,
+    removals: &'x RefCell<Removals>,
 ) -> Outcome {
-    let trunk_store = RefCell::new(Store::new(rt, rt.alloc(), Home::Trunk, place.access, turn));
-    let store = RefCell::new(Store::new(rt, rt.alloc(), place.branch, place.access, turn));
+    let alloc = rt.alloc();
+    let trunk_store = RefCell::new(Store::new(rt, alloc, Home::Trunk, place.access, course));
+    let store = RefCell::new(Store::new(rt, alloc, place.branch, place.access, course));
     if place.is_between {
-        take_trunk_first(&trunk_store, &store);
+        take_trunk_first(&trunk_store, course);
     }
     let mut trunk = RealDisk::new(&trunk_store);
-    let mut trunk_site = RealSite::new(rt, rt.alloc(), Home::Trunk, &trunk_store);
+    let mut trunk_site = RealSite::new(rt, alloc, Home::Trunk, &trunk_store, course, removals);
     let mut disk = RealDisk::new(&store);
-    let mut site = RealSite::new(rt, rt.alloc(), place.branch, &store);
+    let mut site = RealSite::new(rt, alloc, place.branch, &store, course, removals);
     let mut input = Reading::new(rt.stdin());
     let mut output = Writing::new(rt.stdout());
-    let mut errors = Quiet::new(Writing::new(rt.stderr()), turn);
+    let mut errors = Quiet::new(Writing::new(rt.stderr()), course);
     let outcome = top(
-        rt.alloc(),
+        alloc,
         words,
         who,
         who::moment(rt),
@@ -174,7 +163,7 @@ fn call<'x>(
         &mut output,
         &mut errors,
     );
-    if who::is_traced(rt) && !turn.is_lost() {
+    if who::is_traced(rt) && !course.is_lost() {
         tell_of_places(rt);
         tell(rt, "disk", trunk.trouble());
         tell(rt, "disk", disk.trouble());
@@ -187,48 +176,52 @@ fn call<'x>(
     outcome
 }
 
-// Does what the words ask for. A call during which the store changed, as it had let the lock go, is made again from the start.
+// Does what the words ask for. A call is made again from the start where what it had read has changed while it had let the lock go, or
+// where it has waited for a directory.
 fn work_at(
     rt: &HostRuntime,
     words: &[String],
     who: &str,
     place: Where,
-    is_single: bool,
+    manner: Manner,
+    removals: &RefCell<Removals>,
 ) -> Outcome {
-    for _ in 1..TURNS {
-        let turn = Turn::new(is_single);
-        let outcome = call(rt, words, who, place, &turn);
-        if !turn.is_lost() {
+    let patience = who::patience(rt, rt.stderr().is_terminal());
+    let course = Course::new(rt.alloc(), manner, patience, who::now(rt));
+    for _ in 1..MOST_TURNS {
+        let outcome = call(rt, words, who, place, &course, removals);
+        if !course.begin_again() {
             return outcome;
         }
     }
-    call(rt, words, who, place, &Turn::new(false))
+    course.hold_on();
+    call(rt, words, who, place, &course, removals)
 }
 
 // Does what the words ask for.
-fn work(rt: &HostRuntime, words: &[String], who: &str) -> Outcome {
+fn work(rt: &HostRuntime, words: &[String], who: &str, removals: &RefCell<Removals>) -> Outcome {
     match (branch_words(rt.alloc(), words), words) {
         (Ok(Some(said)), [_, _, command @ ..]) => {
+            let is_between = said.rest != Rest::Plain;
             let place = Where {
                 branch: Home::Branch(&said.name),
-                is_between: said.rest != Rest::Plain,
-                access: access(rt, command),
+                is_between,
+                access: access(command),
             };
-            work_at(
-                rt,
-                words,
-                who,
-                place,
-                said.rest == Rest::Plain && is_single(command),
-            )
+            let manner = if is_between {
+                Manner::Once
+            } else {
+                manner(rt, command)
+            };
+            work_at(rt, words, who, place, manner, removals)
         }
         _ => {
             let place = Where {
                 branch: Home::Nowhere,
                 is_between: false,
-                access: access(rt, words),
+                access: access(words),
             };
-            work_at(rt, words, who, place, is_single(words))
+            work_at(rt, words, who, place, manner(rt, words), removals)
         }
     }
 }
@@ -254,5 +247,9 @@ fn main(rt: HostRuntime) -> ExitCode {
     let Ok(who) = who::user(&rt) else {
         return starved(&rt);
     };
-    ExitCode::from(work(&rt, words.as_slice(), who.as_str()).status())
+    let removals = RefCell::new(Removals::none(rt.alloc()));
+    let outcome = work(&rt, words.as_slice(), who.as_str(), &removals);
+    tell_usage(&rt, words.as_slice(), &outcome);
+    end_removals(&rt, &removals);
+    ExitCode::from(outcome.status())
 }

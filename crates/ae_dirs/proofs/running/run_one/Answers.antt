@@ -4,6 +4,7 @@ use Rattle.ae_outside.specs.Site.{SiteState}
 use Rattle.ae_dirs.specs.declared.error.DirsError.TheVariants.{SiteFault}
 use Rattle.ae_dirs.specs.Runs.{MakesByteRuns}
 use Rattle.ae_dirs.proofs.ByteRuns.{made-same, no-more, none-made, one-made}
+use Rattle.ae_dirs.proofs.RunsLead.{by-one, by-same}
 use Rattle.ae_dirs.proofs.running.run_one.Goals as goal
 
 pub returns-clause-before : goal.returns-clause-before
@@ -38,3 +39,20 @@ returns-in_err-after-clause-still g c = λ tells none same.
 pub returns-clause-still : goal.returns-clause-still
 returns-clause-still g c = λ tells none same.
     absurd (no-more (g.S.Site.state c.args.site.now).runs _ (sym (c.in_ok-exit.ensures.ran tells) ∙ sym (ap (λ (s : SiteState). s.runs) (c.read_again.ensures.same tells)) ∙ same))
+
+-- ---- nothing but the run changes a directory
+
+pub returns-in_err-exit-clause-only : goal.returns-in_err-exit-clause-only
+returns-in_err-exit-clause-only g c = λ tells none. absurd (none (err_is _ SiteFault c.from_residual-in_err-exit.ensures.1))
+
+pub returns-in_err-after-clause-only : goal.returns-in_err-after-clause-only
+returns-in_err-after-clause-only g c = λ tells none.
+    let old : SiteState = g.S.Site.state c.args.site.now in
+    let ran : SiteState = g.S.Site.state c.run.new.self in
+    by-same old.trees old ran (g.S.Site.state c.read_again.new.site) (by-one c.args.dir c.command_text.result.now c.in_ok-exit.exit old ran (c.in_ok-exit.ensures.ran tells)) (c.read_again.ensures.same tells)
+
+pub returns-clause-only : goal.returns-clause-only
+returns-clause-only g c = λ tells none.
+    let old : SiteState = g.S.Site.state c.args.site.now in
+    let ran : SiteState = g.S.Site.state c.run.new.self in
+    by-same old.trees old ran (g.S.Site.state c.read_again.new.site) (by-one c.args.dir c.command_text.result.now c.in_ok-exit.exit old ran (c.in_ok-exit.ensures.ran tells)) (c.read_again.ensures.same tells)

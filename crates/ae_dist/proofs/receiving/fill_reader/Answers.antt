@@ -1,4 +1,4 @@
-use Rattle.std.proofs.Common.{◌≤◌, ℕ, Err, ap, arith, refl, subst}
+use Rattle.std.proofs.Common.{◌≤◌, ◌∙◌, ℕ, Err, ap, arith, refl, subst}
 use Rattle.ae_bundle.specs.Bundled.{most_text_bytes}
 use Rattle.ae_outside.proofs.Rising.{risen_later}
 use Rattle.ae_dist.specs.Receiving.{source_fault}
@@ -28,5 +28,15 @@ loop-count-preserved g c =
       );
       within = subst (λ (n : ℕ). n ≤ most_text_bytes) size (c.note_bounded.ensures _ held);
       room = room_on c.read.new.into _ c.in-Ok.count (omega (arith, c.if-count-eq0.false)) c.in-Ok.ensures.at_most;
+      quiet = c.in-Ok.ensures.quiet ∙ c.loop-count.invariant.quiet;
       later = omega (arith, c.loop-count.invariant.later, c.in-Ok.ensures.cause.later);
     }
+
+pub returns-in-Err-clause-quiet : goal.returns-in-Err-clause-quiet
+returns-in-Err-clause-quiet g c = λ other. absurd (other refl)
+
+pub returns-then-count-eq0-clause-quiet : goal.returns-then-count-eq0-clause-quiet
+returns-then-count-eq0-clause-quiet g c = λ other. c.in-Ok.ensures.quiet ∙ c.loop-count.invariant.quiet
+
+pub returns-in-Err-feed-clause-quiet : goal.returns-in-Err-feed-clause-quiet
+returns-in-Err-feed-clause-quiet g c = λ other. c.in-Ok.ensures.quiet ∙ c.loop-count.invariant.quiet

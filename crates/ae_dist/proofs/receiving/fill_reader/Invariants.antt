@@ -7,6 +7,7 @@ invariant-loop-count g l = record {
   came : (stream : List ℕ) × (l.reader ≡ Ok stream) × (length stream ≡ l.taken) × (g.I.Source.tells → g.I.Source.left l.initial.input ≡ stream ++ g.I.Source.left l.input);
   within : l.taken ≤ most_text_bytes;
   room : 0 < length l.piece;
+  quiet : g.I.Source.faults l.input ≡ g.I.Source.faults l.initial.input;
   later : g.I.Source.faults l.initial.input ≤ g.I.Source.faults l.input;
 }
 

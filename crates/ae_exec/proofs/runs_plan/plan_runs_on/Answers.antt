@@ -11,7 +11,7 @@ use Rattle.ae_vault.specs.Vault.{effective}
 use Rattle.ae_machine.specs.declared.verdict.Verdict.TheVariants.{Accept, Refuse}
 use Rattle.ae_machine.specs.declared.view.View.{View}
 use Rattle.ae_machine.specs.Called.{Called, answer_to, called}
-use Rattle.ae_evidence.specs.Directories.{dirs_after, ChangesThese}
+use Rattle.ae_evidence.specs.Directories.{dirs_after}
 use Rattle.ae_machine.specs.Real.{IsLeft}
 use Rattle.ae_dirs.specs.Reads as dir_reads
 use Rattle.ae_dirs.specs.Runs.{MakesByteRuns}
@@ -20,7 +20,7 @@ use Rattle.ae_machine.specs.Space.{placing}
 use Rattle.ae_machine.specs.Versions.{ShowsVersions}
 use Rattle.ae_base.specs.declared.outcome.Outcome.{Outcome}
 use Rattle.ae_exec.specs.Bytes.{HaveBytes}
-use Rattle.ae_exec.specs.Directories.{ChangesAsAsked}
+use Rattle.ae_exec.specs.Directories.{ChangesAsAsked, ChangesThenRuns}
 use Rattle.ae_machine.specs.Verdict.{verdict}
 use Rattle.ae_exec.specs.Reading.{AreKept, versions_for_runs}
 use Rattle.ae_exec.specs.Runs.{HaveRun}
@@ -116,6 +116,7 @@ returns-clause-planned g c =
       left = λ told bytes have. (ran told.0 told.1 bytes have).1;
       kept = λ told. all-kept c.args.state.now c.args.request.now.command.now c.args.request.now.who.now c.args.request.now.formed c.requires.runs c.requires.passed files (c.in_ok-view.ensures.kept told.0) (kept told.0);
       made = c.in_ok-planned.ensures.2;
+      ran = λ failed. c.requires.runs;
     }
 
 pub returns-in_err-refusal-clause-stopped : goal.returns-in_err-refusal-clause-stopped
@@ -148,23 +149,23 @@ returns-in_err-runs-clause-directories g c = λ seen.
     dirs_err c.args.request.now.command.now (g.S.Site.state c.args.site.now) (g.S.Site.state c.make_runs-made.new.site) _ (stop_of_dirs c.in_err-runs.field-0.0) (err_is _ _ c.from_residual-in_err-runs.ensures.1)
     (leaves-runs c.args.request.now.command.now c.in_ok-plan.plan.changes (g.S.Site.state c.args.site.now) (g.S.Site.state c.make_runs-made.new.site) _ c.requires.runs (dirs_touch c.in_err-runs.field-0.0)
     (subst (λ (st : SiteState). MakesByteRuns st (g.S.Site.state c.make_runs-made.new.site)) (c.see.ensures.site_same seen) (c.make_runs-made.ensures.bytes seen)) c.in_ok-plan.ensures.own
-    (λ other same. subst (λ (st : SiteState). ChangesThese c.in_ok-plan.plan.changes st (g.S.Site.state c.make_runs-made.new.site)) (c.see.ensures.site_same seen)
-    (c.in_err-runs.ensures.unrun seen (site-stops c.in_err-runs.field-0.0 other) (same ∙ sym (ap (λ (st : SiteState). st.runs) (c.see.ensures.site_same seen))))))
+    (λ other. subst (λ (st : SiteState). ChangesThenRuns c.in_ok-plan.plan.changes st (g.S.Site.state c.make_runs-made.new.site)) (c.see.ensures.site_same seen)
+    (c.in_err-runs.ensures.only seen (site-stops c.in_err-runs.field-0.0 other))))
 
 pub returns-in_err-planned-clause-directories : goal.returns-in_err-planned-clause-directories
 returns-in_err-planned-clause-directories g c = λ seen.
     dirs_err c.args.request.now.command.now (g.S.Site.state c.args.site.now) (g.S.Site.state c.make_runs-made.new.site) _ stop.Memory (err_is _ _ c.from_residual-in_err-planned.ensures.1)
     (leaves-runs c.args.request.now.command.now c.in_ok-plan.plan.changes (g.S.Site.state c.args.site.now) (g.S.Site.state c.make_runs-made.new.site) _ c.requires.runs (λ none. none)
     (subst (λ (st : SiteState). MakesByteRuns st (g.S.Site.state c.make_runs-made.new.site)) (c.see.ensures.site_same seen) (c.make_runs-made.ensures.bytes seen)) c.in_ok-plan.ensures.own
-    (λ other same. subst (λ (st : SiteState). ChangesThese c.in_ok-plan.plan.changes st (g.S.Site.state c.make_runs-made.new.site)) (c.see.ensures.site_same seen)
-    (c.in_ok-runs.ensures.unrun seen (ok_is_no_err _ _) (same ∙ sym (ap (λ (st : SiteState). st.runs) (c.see.ensures.site_same seen))))))
+    (λ other. subst (λ (st : SiteState). ChangesThenRuns c.in_ok-plan.plan.changes st (g.S.Site.state c.make_runs-made.new.site)) (c.see.ensures.site_same seen)
+    (c.in_ok-runs.ensures.only seen (ok_is_no_err _ _))))
 
 pub returns-clause-directories : goal.returns-clause-directories
 returns-clause-directories g c = λ seen.
     leaves-runs c.args.request.now.command.now c.in_ok-plan.plan.changes (g.S.Site.state c.args.site.now) (g.S.Site.state c.make_runs-made.new.site) _ c.requires.runs (λ none. none)
     (subst (λ (st : SiteState). MakesByteRuns st (g.S.Site.state c.make_runs-made.new.site)) (c.see.ensures.site_same seen) (c.make_runs-made.ensures.bytes seen)) c.in_ok-plan.ensures.own
-    (λ other same. subst (λ (st : SiteState). ChangesThese c.in_ok-plan.plan.changes st (g.S.Site.state c.make_runs-made.new.site)) (c.see.ensures.site_same seen)
-    (c.in_ok-runs.ensures.unrun seen (ok_is_no_err _ _) (same ∙ sym (ap (λ (st : SiteState). st.runs) (c.see.ensures.site_same seen)))))
+    (λ other. subst (λ (st : SiteState). ChangesThenRuns c.in_ok-plan.plan.changes st (g.S.Site.state c.make_runs-made.new.site)) (c.see.ensures.site_same seen)
+    (c.in_ok-runs.ensures.only seen (ok_is_no_err _ _)))
 
 pub plan_accepted-planned-requires-clause-accepted : goal.plan_accepted-planned-requires-clause-accepted
 plan_accepted-planned-requires-clause-accepted g c =
@@ -283,7 +284,7 @@ returns-in_err-runs-clause-asked g c = λ told.
     for_err (λ (outcome : Outcome). ChangesAsAsked g.D.Disk.tells (effective (reads (g.D.Disk.state c.args.disk.now))) c.args.request.now.command.now c.args.state.now (g.S.Site.state c.args.site.now) (g.S.Site.state c.make_runs-made.new.site) outcome)
     _ (stop_of_dirs c.in_err-runs.field-0.0) (err_is _ _ c.from_residual-in_err-runs.ensures.1)
     (asked-ran g.D.Disk.tells (effective (reads (g.D.Disk.state c.args.disk.now))) c.args.request.now.command.now c.args.state.now c.in_ok-plan.plan.changes (g.S.Site.state c.args.site.now) (g.S.Site.state c.see.new.site) (g.S.Site.state c.make_runs-made.new.site) _ c.requires.runs (c.see.ensures.site_same told)
-    (λ other still. c.in_err-runs.ensures.part told (site-stops c.in_err-runs.field-0.0 other) still)
+    (λ other. c.in_err-runs.ensures.only told (site-stops c.in_err-runs.field-0.0 other))
     (λ tells bytes have who when.
     let call : Called = called c.args.request.now.command.now who when (g.S.Site.state c.args.site.now) (g.S.Site.state c.make_runs-made.new.site) in
     let same : effective (reads (g.D.Disk.state c.see.new.disk)) ≡ effective (reads (g.D.Disk.state c.args.disk.now)) = ap effective (same_reads (g.D.Disk.state c.args.disk.now) (g.D.Disk.state c.see.new.disk) (c.see.ensures.same tells)) in
@@ -295,7 +296,7 @@ returns-in_err-planned-clause-asked g c = λ told.
     for_err (λ (outcome : Outcome). ChangesAsAsked g.D.Disk.tells (effective (reads (g.D.Disk.state c.args.disk.now))) c.args.request.now.command.now c.args.state.now (g.S.Site.state c.args.site.now) (g.S.Site.state c.make_runs-made.new.site) outcome)
     _ stop.Memory (err_is _ _ c.from_residual-in_err-planned.ensures.1)
     (asked-ran g.D.Disk.tells (effective (reads (g.D.Disk.state c.args.disk.now))) c.args.request.now.command.now c.args.state.now c.in_ok-plan.plan.changes (g.S.Site.state c.args.site.now) (g.S.Site.state c.see.new.site) (g.S.Site.state c.make_runs-made.new.site) _ c.requires.runs (c.see.ensures.site_same told)
-    (λ other still. c.in_ok-runs.ensures.part told (ok_is_no_err _ _) still)
+    (λ other. c.in_ok-runs.ensures.only told (ok_is_no_err _ _))
     (λ tells bytes have who when.
     let call : Called = called c.args.request.now.command.now who when (g.S.Site.state c.args.site.now) (g.S.Site.state c.make_runs-made.new.site) in
     let same : effective (reads (g.D.Disk.state c.see.new.disk)) ≡ effective (reads (g.D.Disk.state c.args.disk.now)) = ap effective (same_reads (g.D.Disk.state c.args.disk.now) (g.D.Disk.state c.see.new.disk) (c.see.ensures.same tells)) in
@@ -305,7 +306,7 @@ returns-in_err-planned-clause-asked g c = λ told.
 pub returns-clause-asked : goal.returns-clause-asked
 returns-clause-asked g c = λ told.
     (asked-ran g.D.Disk.tells (effective (reads (g.D.Disk.state c.args.disk.now))) c.args.request.now.command.now c.args.state.now c.in_ok-plan.plan.changes (g.S.Site.state c.args.site.now) (g.S.Site.state c.see.new.site) (g.S.Site.state c.make_runs-made.new.site) _ c.requires.runs (c.see.ensures.site_same told)
-    (λ other still. c.in_ok-runs.ensures.part told (ok_is_no_err _ _) still)
+    (λ other. c.in_ok-runs.ensures.only told (ok_is_no_err _ _))
     (λ tells bytes have who when.
     let call : Called = called c.args.request.now.command.now who when (g.S.Site.state c.args.site.now) (g.S.Site.state c.make_runs-made.new.site) in
     let same : effective (reads (g.D.Disk.state c.see.new.disk)) ≡ effective (reads (g.D.Disk.state c.args.disk.now)) = ap effective (same_reads (g.D.Disk.state c.args.disk.now) (g.D.Disk.state c.see.new.disk) (c.see.ensures.same tells)) in

@@ -5,8 +5,8 @@ use crate::modes::{
     lock_mode,
 };
 use crate::places::{
-    Found, Node, entry_at, found_of, is_at, is_denied, is_empty_folder, is_full, maker, node_of,
-    refused, seen_at, sync_folder,
+    Found, Moment, Node, Stamp, entry_at, found_of, is_at, is_denied, is_empty_folder, is_full,
+    maker, node_of, refused, seen_at, stamp_of, sync_folder,
 };
 use std::alloc::{AllocError, Global};
 use std::cell::Cell;
@@ -69,6 +69,27 @@ pub struct Opened {
     pub node: Node,
     /// No other name leads to it.
     pub is_alone: bool,
+    pub stamp: Stamp,
+}
+
+// Whether a file that was looked at, at that moment or later, is the one that was opened since, and not another that was given its number:
+// it's as it was then, and had been so for a while. A file that's made, or whose name is changed, is changed.
+fn has_stayed(there: &Metadata, opened: &Metadata, moment: Moment) -> bool {
+    let stamp = stamp_of(opened);
+    stamp == stamp_of(there) && stamp.is_settled(moment)
+}
+
+// A regular file that is open, and what is known of it.
+fn opened_with(file: File, known: &Metadata) -> Opened {
+    Opened {
+        file,
+        size: known.len(),
+        mode: known.mode(),
+        group: known.gid(),
+        node: node_of(known),
+        is_alone: known.nlink() == 1,
+        stamp: stamp_of(known),
+    }
 }
 
 /// The way to a folder by its handle; `None` where the system shows no descriptors of this process.
@@ -160,6 +181,16 @@ impl Folder {
     pub fn place(&self, alloc: Global, name: &str) -> Result<String, AllocError> {
         let way = &self.way;
         format!(in alloc; "{way}/{name}")
+    }
+
+    /// What is known of what is in it by a name, where something is.
+    pub fn seen(
+        &self,
+        files: &impl Files,
+        alloc: Global,
+        name: &str,
+    ) -> io::Result<Option<Metadata>> {
+        seen_at(files, self.place(alloc, name)?.as_str())
     }
 
     /// What is in it by a name.
@@ -398,14 +429,9 @@ impl Folder {
         let file = how.open(files, place)?;
         let node = node_of(&file.metadata()?);
         match seen_at(files, place)? {
-            Some(known) if known.is_file() && node_of(&known) == node => Ok(Some(Opened {
-                file,
-                size: known.len(),
-                mode: known.mode(),
-                group: known.gid(),
-                node,
-                is_alone: known.nlink() == 1,
-            })),
+            Some(known) if known.is_file() && node_of(&known) == node => {
+                Ok(Some(opened_with(file, &known)))
+            }
             _ => Err(io::Error::from(ErrorKind::NotFound)),
         }
     }
@@ -463,6 +489,30 @@ impl Folder {
             Err(e) if e.kind() == ErrorKind::Unsupported => Ok(None),
             opened => opened,
         }
+    }
+
+    /// Opens a regular file in it to be read that was looked at, at that moment or later; `None` where there is none any more. One that
+    /// hadn't been changed for a while isn't looked at again while it's open, since no other file can have got its number.
+    pub fn open_known(
+        &self,
+        files: &impl Files<File = File>,
+        alloc: Global,
+        name: &str,
+        there: &Metadata,
+        moment: Moment,
+    ) -> io::Result<Option<Opened>> {
+        let place = self.place(alloc, name)?;
+        match File::open(files, place) {
+            Ok(file) => {
+                let known = file.metadata()?;
+                if has_stayed(there, &known, moment) {
+                    return Ok(Some(opened_with(file, &known)));
+                }
+            }
+            Err(e) if e.kind() == ErrorKind::NotFound => {}
+            Err(e) => return Err(e),
+        }
+        self.open_if_file(files, alloc, name)
     }
 
     // Where there is no handle, a part of the way may have become a link while the file was made: then it isn't at its place.

@@ -3,11 +3,12 @@ ghost use Rattle.std.specs.Prelude.{◌≤◌};
 ghost use Rattle.ae_base.specs.Limits.{last_moment};
 
 use crate::lock::Patience;
+use crate::places::Moment;
 use ae_base::limits::LAST_MOMENT;
 use std::alloc::AllocError;
 use std::env::VarError;
 use std::rt::{Clock, Env};
-use std::time::{SystemTime, UNIX_EPOCH};
+use std::time::{Duration, SystemTime, UNIX_EPOCH};
 use std::{env, io};
 
 // So many seconds the lock is waited for where nothing else is said.
@@ -48,6 +49,18 @@ pub fn moment(rt: &impl Clock) -> u64
     }
 }
 
+/// The clock with its parts of a second; the start of 1970 where it shows an earlier moment.
+pub fn now(rt: &impl Clock) -> Moment {
+    let past = match SystemTime::now(rt) {
+        Ok(now) => now.duration_since(UNIX_EPOCH).unwrap_or(Duration::ZERO),
+        Err(_) => Duration::ZERO,
+    };
+    Moment {
+        seconds: i64::try_from(past.as_secs()).unwrap_or(0),
+        nanoseconds: i64::from(past.subsec_nanos()),
+    }
+}
+
 /// How long the lock is waited for: so many seconds as the variable AEGIS_WAIT says, at most a day, and 5 where it says none. Who
 /// sees standard error on a terminal is told.
 pub fn patience<R: Env + AllocGlobal>(rt: &R, says: bool) -> Patience {
@@ -55,10 +68,12 @@ pub fn patience<R: Env + AllocGlobal>(rt: &R, says: bool) -> Patience {
         Ok(text) => text.parse::<u32>().unwrap_or(SECONDS),
         Err(_) => SECONDS,
     };
-    Patience {
-        seconds: seconds.min(MOST_SECONDS),
-        says,
-    }
+    Patience::new(seconds.min(MOST_SECONDS), says)
+}
+
+/// Whether a script is to wait for no run of others: the variable AEGIS_RUNS is `none`.
+pub fn waits_for_no_run<R: Env + AllocGlobal>(rt: &R) -> bool {
+    matches!(env::var(rt, "AEGIS_RUNS"), Ok(text) if text.as_str() == "none")
 }
 
 /// Whether the causes of faults are to be told: the variable AEGIS_TRACE is set.

@@ -1,12 +1,13 @@
 // The files of a store, which lie in the folder `store` of its project's own.
 ghost use Rattle.std.specs.Prelude.{◌≤◌, length, IfOk};
 
+use crate::course::Course;
+use crate::emptied::rename_away;
 use crate::folder::{Folder, Inside, Kind, Opened, closed_on_the_way};
 use crate::home::Home;
-use crate::lock::{Lock, Patience, take_lock};
+use crate::lock::{Lock, Place};
 use crate::places::{Found, is_at, is_denied, node_of, refused};
 use std::alloc::Global;
-use std::cell::Cell;
 use std::fs::{File, OpenOptions};
 use std::io;
 use std::io::{ErrorKind, Read};
@@ -16,13 +17,18 @@ use std::rt::{Clock, Files};
 // The name of its folder.
 const NAME: &str = "store";
 
+// The name of its lock, and what is said of who has it.
+const LOCK: &str = "lock";
+
+const OF_STORE: &str = "another command works in this project";
+
 /// What a command does with the store.
 #[derive(Clone, Copy, Debug, PartialEq, Eq)]
 pub enum Access {
-    /// It reads and writes it, alone: it takes the lock, which is waited for so long.
-    Alone(Patience),
+    /// It reads and writes it, alone: it takes the lock.
+    Alone,
     /// The same, but it promises nothing that a stop could undo: it writes only what a command that was stopped had begun.
-    Listing(Patience),
+    Listing,
     /// It reads it as it is, without the lock, and writes nothing.
     Reading,
 }
@@ -32,28 +38,6 @@ const VERSIONS: &str = "pack";
 
 // The file whose first byte says whether a commit was begun.
 const GATE: &str = "gate";
-
-/// Whether the lock may be let go while a command's child runs, and whether what was read before has changed meanwhile.
-#[derive(Drop)]
-pub struct Turn {
-    lets_go: bool,
-    is_lost: Cell<bool>,
-}
-
-impl Turn {
-    /// One that may let the lock go, or not.
-    pub fn new(lets_go: bool) -> Turn {
-        Turn {
-            lets_go,
-            is_lost: Cell::new(false),
-        }
-    }
-
-    /// Whether the call is to be made again, as what it had read has changed.
-    pub fn is_lost(&self) -> bool {
-        self.is_lost.get()
-    }
-}
 
 /// A file of the store that was looked at, and what it held; nothing where it wasn't there.
 #[derive(Drop)]
@@ -77,8 +61,8 @@ enum Standing {
     Unknown,
     // It wasn't there when it was looked for.
     Absent,
-    // It has changed while the lock was let go.
-    Changed,
+    // The lock was let go, and isn't held again: it is too late for this call.
+    Gone,
     There(There),
 }
 
@@ -90,12 +74,20 @@ struct LastRead {
     size: u64,
 }
 
+// A file that was written and isn't synced yet, by the handle that wrote it first. Of bytes that the system couldn't write out, a handle that is
+// opened afterwards may learn nothing.
+#[derive(Drop)]
+struct Unsynced {
+    name: String,
+    file: File,
+}
+
 /// The store of a project. Where there is none it reads as empty, and the first write makes it. No file of it is touched before
 /// the lock is held, unless it is only read: then each write fails.
 #[derive(Drop)]
 pub struct Store<'a, R> {
     rt: &'a R,
-    turn: &'a Turn,
+    course: &'a Course,
     alloc: Global,
     home: Home<'a>,
     access: Access,
@@ -103,6 +95,8 @@ pub struct Store<'a, R> {
     // Whether the names of its files outlast a stop.
     has_stable_names: bool,
     last_read: Option<LastRead>,
+    // The files that are to be synced, each once.
+    unsynced: Vec<Unsynced>,
     // The files that this process has written so far.
     written: Vec<String>,
     // Those that it has looked at or written, where the lock may be let go.
@@ -116,9 +110,18 @@ fn not_allowed() -> io::Error {
     io::Error::from(ErrorKind::PermissionDenied)
 }
 
-// Why a call that is to be made again fails.
-fn changed() -> io::Error {
+// Why a call fails that comes after the lock was let go.
+fn too_late() -> io::Error {
     io::Error::from(ErrorKind::Interrupted)
+}
+
+// The lock of the project in this folder.
+fn lock_in(home: &Folder) -> Place<'_> {
+    Place {
+        folder: home,
+        name: LOCK,
+        what: OF_STORE,
+    }
 }
 
 impl<'a, R: Files<File = File> + Alloc + Clock + Clone + Drop + Eprint> Store<'a, R> {
@@ -128,17 +131,18 @@ impl<'a, R: Files<File = File> + Alloc + Clock + Clone + Drop + Eprint> Store<'a
         alloc: Global,
         home: Home<'a>,
         access: Access,
-        turn: &'a Turn,
+        course: &'a Course,
     ) -> Store<'a, R> {
         Store {
             rt,
-            turn,
+            course,
             alloc,
             home,
             access,
             standing: Standing::Unknown,
             has_stable_names: false,
             last_read: None,
+            unsynced: Vec::new(alloc),
             written: Vec::new(alloc),
             looked_at: Vec::new(alloc),
             synced: Vec::new(alloc),
@@ -157,12 +161,12 @@ impl<'a, R: Files<File = File> + Alloc + Clock + Clone + Drop + Eprint> Store<'a
         Ok(format!(in self.alloc; "{home}/store/{name}")?)
     }
 
-    // Takes the lock. Where no file of it is there, and none may be made, nobody else works here, as in a copy that may not be
-    // written: it is read without.
-    fn take(&self, home: &Folder, patience: Patience) -> io::Result<Option<Lock>> {
-        match take_lock(self.rt, self.alloc, home, patience) {
+    // Takes the lock. Where no file of it is there, and none may be made, as in a copy on a disk that is only read, the store is read
+    // without, though somebody who may write there could be at work.
+    fn take(&self, home: &Folder) -> io::Result<Option<Lock>> {
+        match self.course.take_store(self.rt, lock_in(home)) {
             Ok(lock) => Ok(Some(lock)),
-            Err(e) if is_denied(&e) && home.look(self.rt, self.alloc, "lock")? == Found::Absent => {
+            Err(e) if is_denied(&e) && home.look(self.rt, self.alloc, LOCK)? == Found::Absent => {
                 Ok(None)
             }
             Err(e) => Err(e),
@@ -171,13 +175,9 @@ impl<'a, R: Files<File = File> + Alloc + Clock + Clone + Drop + Eprint> Store<'a
 
     // Takes the lock of a store that is there. Who made it may have been stopped before it had its mode, and its name was stable, but
     // then it holds no file.
-    fn hold(
-        &self,
-        home: &Folder,
-        store: &mut Folder,
-        patience: Patience,
-    ) -> io::Result<Option<Lock>> {
-        let lock = self.take(home, patience)?;
+    fn hold(&self, home: &Folder, store: &mut Folder) -> io::Result<Option<Lock>> {
+        self.course.go_before(self.rt, self.home)?;
+        let lock = self.take(home)?;
         if !home.has(self.rt, self.alloc, store.node(), NAME)? {
             return Err(io::Error::from(ErrorKind::NotFound));
         }
@@ -209,9 +209,7 @@ impl<'a, R: Files<File = File> + Alloc + Clock + Clone + Drop + Eprint> Store<'a
             return Ok(false);
         };
         let lock = match self.access {
-            Access::Alone(patience) | Access::Listing(patience) => {
-                self.hold(&home, &mut store, patience)?
-            }
+            Access::Alone | Access::Listing => self.hold(&home, &mut store)?,
             Access::Reading => None,
         };
         self.standing = Standing::There(There { home, store, lock });
@@ -223,7 +221,7 @@ impl<'a, R: Files<File = File> + Alloc + Clock + Clone + Drop + Eprint> Store<'a
         match self.standing {
             Standing::There(_) => Ok(true),
             Standing::Absent => Ok(false),
-            Standing::Changed => Err(changed()),
+            Standing::Gone => Err(too_late()),
             Standing::Unknown => self.find(),
         }
     }
@@ -236,24 +234,24 @@ impl<'a, R: Files<File = File> + Alloc + Clock + Clone + Drop + Eprint> Store<'a
         }
     }
 
-    /// How long the lock is waited for. Where the store is only read, nothing may be written.
-    pub fn patience(&self) -> io::Result<Patience> {
+    // Where the store is only read, nothing may be written.
+    fn may_write(&self) -> io::Result<()> {
         match self.access {
-            Access::Alone(patience) | Access::Listing(patience) => Ok(patience),
+            Access::Alone | Access::Listing => Ok(()),
             Access::Reading => Err(not_allowed()),
         }
     }
 
     // Has the store there. One that has appeared since it was looked for is another process's, which is an error.
     fn make(&mut self) -> io::Result<()> {
-        let patience = self.patience()?;
+        self.may_write()?;
         if self.is_there()? {
             return Ok(());
         }
         let Inside::Folder(home) = self.home.open(self.rt, self.alloc, true)? else {
             return Err(refused());
         };
-        let lock = take_lock(self.rt, self.alloc, &home, patience)?;
+        let lock = self.course.take_store(self.rt, lock_in(&home))?;
         let store = home.make_new(self.rt, self.alloc, NAME)?;
         self.home.sync(self.rt, self.alloc)?;
         self.standing = Standing::There(There {
@@ -271,7 +269,7 @@ impl<'a, R: Files<File = File> + Alloc + Clock + Clone + Drop + Eprint> Store<'a
         let Some(lock) = &there.lock else {
             return Err(not_allowed());
         };
-        if lock.has_name(self.rt, self.alloc, &there.home)?
+        if lock.has_name(self.rt, self.alloc, &there.home, LOCK)?
             && there
                 .home
                 .has(self.rt, self.alloc, there.store.node(), NAME)?
@@ -281,36 +279,39 @@ impl<'a, R: Files<File = File> + Alloc + Clock + Clone + Drop + Eprint> Store<'a
         Err(io::Error::from(ErrorKind::NotFound))
     }
 
-    // Whether a call that fails now fails as it asks for the lock.
-    fn asks_for_lock(&self) -> bool {
-        matches!(self.standing, Standing::Unknown) && self.access != Access::Reading
+    // Whether a call that fails now fails as it looks for the store, and asks for the lock, unless it is only read.
+    fn is_looked_for(&self) -> bool {
+        matches!(self.standing, Standing::Unknown)
     }
 
-    // The folder on the way to the lock that may not be opened, where that is why it isn't held.
+    // The folder on the way to the store that may not be opened, where that is why it isn't found.
     fn closed(&self) -> Option<String> {
         let store = self.in_home(NAME).ok()?;
         closed_on_the_way(self.rt, self.alloc, store.as_str()).ok()?
     }
 
-    /// What fails where this call does: opening a folder on the way, or taking the lock, as long as that isn't held, and then the call.
+    /// What fails where this call does: opening a folder on the way, or taking the lock, as long as the store isn't found, and then the
+    /// call. A store that is only read has no lock taken.
     pub fn call_of_fault(&self, call: &'static str) -> &'static str {
-        if !self.asks_for_lock() {
+        if !self.is_looked_for() {
             return call;
         }
-        match self.closed() {
-            Some(_) => "open",
-            None => "lock",
+        match (self.closed(), self.access) {
+            (Some(_), _) => "open",
+            (None, Access::Reading) => call,
+            (None, _) => "lock",
         }
     }
 
-    /// Where a call for this file fails: at a folder on the way, or at the lock, as long as that isn't held, and then at the file.
+    /// Where a call for this file fails: at a folder on the way, or at the lock, as long as the store isn't found, and then at the file.
     pub fn place_of_fault(&self, name: &str) -> io::Result<String> {
-        if !self.asks_for_lock() {
+        if !self.is_looked_for() {
             return self.place(name);
         }
-        match self.closed() {
-            Some(folder) => Ok(folder),
-            None => self.in_home("lock"),
+        match (self.closed(), self.access) {
+            (Some(folder), _) => Ok(folder),
+            (None, Access::Reading) => self.place(name),
+            (None, _) => self.in_home(LOCK),
         }
     }
 
@@ -319,14 +320,10 @@ impl<'a, R: Files<File = File> + Alloc + Clock + Clone + Drop + Eprint> Store<'a
         self.is_there().is_ok()
     }
 
-    /// From now on the lock isn't waited for.
-    pub fn hurry(&mut self) {
-        if let Access::Alone(patience) = self.access {
-            self.access = Access::Alone(Patience {
-                seconds: 0,
-                ..patience
-            });
-        }
+    /// Looks for the store. The lock is taken where it is there, unless it is only read.
+    pub fn look_for(&mut self) -> io::Result<()> {
+        self.is_there()?;
+        Ok(())
     }
 
     // The length of a file that is there.
@@ -410,14 +407,18 @@ impl<'a, R: Files<File = File> + Alloc + Clock + Clone + Drop + Eprint> Store<'a
     }
 
     // Makes a file again. Where it has another name too, as in a snapshot by links, nothing is written through that one. The new file
-    // gets the name once it outlasts a stop; one that a stop left beside it goes first. What comes to the file meanwhile isn't copied.
+    // gets the name once it outlasts a stop; one that a stop left beside it goes first, and a folder there gets another name. What comes to
+    // the file meanwhile isn't copied.
     fn make_again(&self, name: &str) -> io::Result<File> {
         let store = &self.there()?.store;
         let beside = format!(in self.alloc; "{name}.again")?;
         let beside = beside.as_str();
-        match store.remove_file(self.rt, self.alloc, beside) {
-            Err(e) if e.kind() != ErrorKind::NotFound => return Err(e),
-            _ => {}
+        match store.look(self.rt, self.alloc, beside)? {
+            Found::Absent => {}
+            Found::Folder => {
+                rename_away(self.rt, self.alloc, (store, beside), store, beside)?;
+            }
+            _ => store.remove_file(self.rt, self.alloc, beside)?,
         }
         let Some(there) = self.open(name)? else {
             return Err(io::Error::from(ErrorKind::NotFound));
@@ -446,6 +447,7 @@ impl<'a, R: Files<File = File> + Alloc + Clock + Clone + Drop + Eprint> Store<'a
         )? {
             Some(opened) if store.is_to_be_made_again(&opened) => {
                 self.last_read = None;
+                self.take_unsynced(name);
                 self.make_again(name)
             }
             Some(opened) => Ok(opened.file),
@@ -462,7 +464,26 @@ impl<'a, R: Files<File = File> + Alloc + Clock + Clone + Drop + Eprint> Store<'a
         self.make()?;
         let file = self.open_to_write(name)?;
         self.note_written(name)?;
-        file.write_all_at(bytes, at)
+        file.write_all_at(bytes, at)?;
+        self.hold_unsynced(name, file)
+    }
+
+    // Holds a file that was written open until it's synced.
+    fn hold_unsynced(&mut self, name: &str, file: File) -> io::Result<()> {
+        if !self.unsynced.iter().any(|held| held.name.as_str() == name) {
+            let name = String::from_str(self.alloc, name)?;
+            self.unsynced.push(Unsynced { name, file })?;
+        }
+        Ok(())
+    }
+
+    // The file of that name that was written and isn't synced yet.
+    fn take_unsynced(&mut self, name: &str) -> Option<File> {
+        let place = self
+            .unsynced
+            .iter()
+            .position(|held| held.name.as_str() == name)?;
+        Some(self.unsynced.swap_remove(place).file)
     }
 
     /// Shortens a file to `len` bytes; a shorter one stays.
@@ -472,7 +493,8 @@ impl<'a, R: Files<File = File> + Alloc + Clock + Clone + Drop + Eprint> Store<'a
                 self.last_read = None;
                 let file = self.open_to_write(name)?;
                 self.note_written(name)?;
-                file.set_len(len)
+                file.set_len(len)?;
+                self.hold_unsynced(name, file)
             }
             _ => Ok(()),
         }
@@ -480,7 +502,7 @@ impl<'a, R: Files<File = File> + Alloc + Clock + Clone + Drop + Eprint> Store<'a
 
     // Whether a listing leaves a file as it is: the gate, where no commit was begun. The next command that writes puts it there again.
     fn is_left_alone(&self, name: &str, first: Option<&u8>) -> bool {
-        matches!(self.access, Access::Listing(_)) && name == GATE && first != Some(&1)
+        self.access == Access::Listing && name == GATE && first != Some(&1)
     }
 
     // Puts the bytes of a file there again, if it may be written; of the gate the one that counts. A sync that failed in another process
@@ -509,7 +531,8 @@ impl<'a, R: Files<File = File> + Alloc + Clock + Clone + Drop + Eprint> Store<'a
         }
         self.keep_lock()?;
         opened.file.write_all_at(bytes.as_slice(), 0)?;
-        self.note_written(name)
+        self.note_written(name)?;
+        self.hold_unsynced(name, opened.file)
     }
 
     // Whether this process has written a file.
@@ -522,6 +545,9 @@ impl<'a, R: Files<File = File> + Alloc + Clock + Clone + Drop + Eprint> Store<'a
         if !self.has_written(name) && self.there()?.lock.is_some() {
             self.put_again(name)?;
         }
+        if let Some(file) = self.take_unsynced(name) {
+            return file.sync_all();
+        }
         match self.open(name)? {
             Some(opened) => opened.file.sync_all(),
             None => Ok(()),
@@ -530,7 +556,7 @@ impl<'a, R: Files<File = File> + Alloc + Clock + Clone + Drop + Eprint> Store<'a
 
     /// Makes a file outlast a stop. The folder is synced the first time, and where a file was made since.
     pub fn sync(&mut self, name: &str) -> io::Result<()> {
-        self.patience()?;
+        self.may_write()?;
         if !self.is_there()? {
             return Ok(());
         }
@@ -546,7 +572,7 @@ impl<'a, R: Files<File = File> + Alloc + Clock + Clone + Drop + Eprint> Store<'a
     // Notes that this process has looked at a file, which has to be as it was once the lock is taken again.
     fn note_looked_at(&mut self, name: &str) -> io::Result<()> {
         let is_known = self.looked_at.iter().any(|other| other.as_str() == name);
-        if self.turn.lets_go && name != VERSIONS && !is_known {
+        if self.course.lets_go() && name != VERSIONS && !is_known {
             self.looked_at.push(String::from_str(self.alloc, name)?)?;
         }
         Ok(())
@@ -555,7 +581,7 @@ impl<'a, R: Files<File = File> + Alloc + Clock + Clone + Drop + Eprint> Store<'a
     // Notes that this process has synced a file, which is to be done again once the lock is taken again.
     fn note_synced(&mut self, name: &str) -> io::Result<()> {
         let is_known = self.synced.iter().any(|other| other.as_str() == name);
-        if self.turn.lets_go && name != VERSIONS && !is_known {
+        if self.course.lets_go() && name != VERSIONS && !is_known {
             self.synced.push(String::from_str(self.alloc, name)?)?;
         }
         Ok(())
@@ -572,15 +598,15 @@ impl<'a, R: Files<File = File> + Alloc + Clock + Clone + Drop + Eprint> Store<'a
         Ok(())
     }
 
-    // What a file holds, where it is there.
+    // What a file holds, where it is there; of the gate the byte that counts.
     fn whole(&self, name: &str) -> io::Result<Option<Vec<u8>>> {
         match self.open(name)? {
             None => Ok(None),
             Some(opened) => {
-                let mut file = opened.file;
+                let most = if name == GATE { 1 } else { u64::MAX };
                 let mut bytes = Vec::new(self.alloc);
-                bytes.try_reserve_exact((opened.size as usize).saturating_add(1))?;
-                file.read_to_end(&mut bytes)?;
+                bytes.try_reserve_exact((opened.size.min(most) as usize).saturating_add(1))?;
+                opened.file.take(most).read_to_end(&mut bytes)?;
                 Ok(Some(bytes))
             }
         }
@@ -612,16 +638,15 @@ impl<'a, R: Files<File = File> + Alloc + Clock + Clone + Drop + Eprint> Store<'a
         Ok(true)
     }
 
-    /// Whether the lock may be let go while the command waits for something else: the call is a single command's, which holds it.
-    pub fn may_let_go(&self) -> bool {
-        self.turn.lets_go
-            && matches!(&self.standing, Standing::There(there) if there.lock.is_some())
+    /// Whether the lock is held.
+    pub fn is_locked(&self) -> bool {
+        matches!(&self.standing, Standing::There(there) if there.lock.is_some())
     }
 
     /// Lets the lock go, where it may be. Answers what the files hold that were looked at so far, so that they can be compared once it
     /// is taken again. Nothing else is remembered of them.
     pub fn let_go(&mut self) -> io::Result<Option<Vec<Seen>>> {
-        if !self.may_let_go() {
+        if !self.course.lets_go() || !self.is_locked() {
             return Ok(None);
         }
         self.keep_lock()?;
@@ -631,17 +656,20 @@ impl<'a, R: Files<File = File> + Alloc + Clock + Clone + Drop + Eprint> Store<'a
         if let Standing::There(there) = &mut self.standing {
             there.lock = None;
         }
+        self.course.note_let_go();
         Ok(Some(seen))
+    }
+
+    /// Lets the lock go for the rest of this call, of which each further use of the store fails.
+    pub fn give_up(&mut self) {
+        self.last_read = None;
+        self.standing = Standing::Gone;
     }
 
     // Takes the lock again, however long another process holds it, and answers whether the store is as it was.
     fn retake(&mut self, seen: &[Seen]) -> io::Result<bool> {
-        let patience = Patience {
-            seconds: u32::MAX,
-            ..self.patience()?
-        };
         let there = self.there()?;
-        let lock = take_lock(self.rt, self.alloc, &there.home, patience)?;
+        let lock = self.course.take_store(self.rt, lock_in(&there.home))?;
         let is_its_place = there
             .home
             .has(self.rt, self.alloc, there.store.node(), NAME)?;
@@ -661,8 +689,8 @@ impl<'a, R: Files<File = File> + Alloc + Clock + Clone + Drop + Eprint> Store<'a
         is_at(self.rt, self.there()?.home.node(), place.as_str())
     }
 
-    /// Takes the lock again that was let go. Where a file that was looked at holds something else now the call is lost: each further
-    /// one fails, and the command is to be given again.
+    /// Takes the lock again that was let go. Where a file that was looked at holds something else now the call is to be made again, and
+    /// each further use of the store fails.
     pub fn take_again(&mut self, seen: Option<Vec<Seen>>) -> io::Result<()> {
         let Some(seen) = seen else {
             return Ok(());
@@ -670,10 +698,10 @@ impl<'a, R: Files<File = File> + Alloc + Clock + Clone + Drop + Eprint> Store<'a
         match self.retake(seen.as_slice()) {
             Ok(true) => Ok(()),
             taken => {
-                self.standing = Standing::Changed;
-                self.turn.is_lost.set(true);
+                self.give_up();
+                self.course.note_changed();
                 taken?;
-                Err(changed())
+                Err(too_late())
             }
         }
     }

@@ -3,24 +3,32 @@ ghost use Rattle.std.specs.Prelude.{⊤, ◌≡◌, IfOk, OnErr};
 ghost use Rattle.ae_outside.specs.Causes.{Counted, HasCause};
 ghost use Rattle.ae_outside.specs.Site.{IsAtMost};
 ghost use Rattle.ae_outside.specs.Untold.{untold_site};
-ghost use Rattle.aegis.specs.Runs.{HasNoEnd, IsExitOf, IsShell};
+ghost use Rattle.ae_system.specs.Runs.{HasNoEnd, IsExitOf, IsShell};
 
 use crate::around::{Around, below};
+use crate::course::{Course, Manner};
+use crate::emptied::Removals;
 use crate::folder::{Folder, Inside, Kind, Opened, closed_on_the_way};
 use crate::home::Home;
 use crate::kept::{Place, keep_file, keep_folder, put_away};
-use crate::places::{Found, is_denied, refused};
+use crate::made::{Job, Mark};
+use crate::places::{
+    Found, Moment, Stamp, found_of, is_denied, is_full, node_of, refused, stamp_of,
+};
+use crate::progress::run_to_end;
 use crate::run_log;
 use crate::store::{Seen, Store};
-use crate::taken::Taken;
 use crate::trouble::{Faults, Trouble};
+use crate::who::now;
 use ae_base::{Path, Text};
 use ae_outside::{Content, Dir, Exit, Failed, Site, SiteError};
+use sha2::{Digest, Sha256};
 use std::alloc::{AllocError, Global};
-use std::cell::RefCell;
-use std::fs::File;
+use std::cell::{RefCell, RefMut};
+use std::fs::{File, Metadata};
 use std::io;
 use std::io::{ErrorKind, Read, Write};
+use std::os::unix::fs::FileExt;
 use std::os::unix::process::ExitStatusExt;
 use std::process::{Command, ExitStatus, Processes, Stdio};
 use std::rt::{Clock, Files};
@@ -36,8 +44,10 @@ pub struct RealSite<'s, 'a, R> {
     home: Home<'a>,
     // The store of the project, whose lock is let go while a command runs here, where it may be.
     store: &'s RefCell<Store<'a, R>>,
-    // The directories that this process has to itself.
-    taken: Taken,
+    // What the command keeps where its call is made again: its directories' locks, and its runs.
+    course: &'s Course,
+    // What is removed once the command has let the locks go.
+    removals: &'a RefCell<Removals>,
     around: Around,
     faults: Faults,
 }
@@ -49,6 +59,11 @@ struct Way<'a> {
     // The place of the folder around.
     around: &'a str,
     name: &'a str,
+}
+
+// Why something that this call uses can't be used once more.
+fn in_use() -> io::Error {
+    io::Error::from(ErrorKind::ResourceBusy)
 }
 
 // How a place of a directory is reached.
@@ -133,13 +148,16 @@ impl<'s, 'a, R: Files<File = File> + Alloc + Clock + Clone + Drop + Eprint + Pro
         alloc: Global,
         home: Home<'a>,
         store: &'s RefCell<Store<'a, R>>,
+        course: &'s Course,
+        removals: &'a RefCell<Removals>,
     ) -> RealSite<'s, 'a, R> {
         RealSite {
             rt,
             alloc,
             home,
             store,
-            taken: Taken::none(alloc),
+            course,
+            removals,
             around: Around::unknown(),
             faults: Faults::none(),
         }
@@ -229,25 +247,55 @@ impl<'s, 'a, R: Files<File = File> + Alloc + Clock + Clone + Drop + Eprint + Pro
         let folder = self.folder_of(dir)?;
         let place = place_in(alloc, folder.as_str(), path)?;
         let way = way_to(folder.as_str(), place.as_str())?;
-        let Some(opened) = self.open_to_read(around, &way)? else {
+        let moment = now(self.rt);
+        let Some(opened) = self.open_to_read(around, &way, moment)? else {
+            self.course.note_read(place, Mark::Absent)?;
             return Ok(Content::Absent);
         };
         let most = (limit as u64).saturating_add(1);
         let mut bytes = Vec::new(alloc);
         bytes.try_reserve_exact(opened.size.min(limit as u64).saturating_add(64) as usize)?;
-        opened.file.take(most).read_to_end(&mut bytes)?;
+        let before = opened.stamp;
+        let mut file = opened.file.take(most);
+        file.read_to_end(&mut bytes)?;
         if bytes.len() > limit {
+            self.course.note_read(place, Mark::Unknown)?;
             return Ok(Content::TooLong);
+        }
+        if self.course.takes_notes() {
+            let after = stamp_of(&file.into_inner().metadata()?);
+            let is_settled = before == after && before.is_settled(self.course.began());
+            self.note_bytes_read(place, is_settled.then_some(before), bytes.as_slice())?;
         }
         Ok(Content::Bytes(Text::shared(alloc, bytes)?))
     }
 
-    // Opens a regular file to be read; `None` where there is none, as where a link or a folder is there.
-    fn open_to_read(&self, around: &mut Around, way: &Way) -> io::Result<Option<Opened>> {
+    // Notes the bytes of a file, by how it was before and after it was read, where nobody had changed it for a while before.
+    fn note_bytes_read(&self, place: String, stamp: Option<Stamp>, bytes: &[u8]) -> io::Result<()> {
+        let mark = match stamp {
+            Some(stamp) => Mark::Stamp(stamp),
+            None => Mark::Digest(Sha256::digest(bytes)),
+        };
+        self.course.note_read(place, mark)
+    }
+
+    // Opens a regular file to be read, at that moment or later; `None` where there is none, as where a link or a folder is there.
+    fn open_to_read(
+        &self,
+        around: &mut Around,
+        way: &Way,
+        moment: Moment,
+    ) -> io::Result<Option<Opened>> {
         if around.reach(self.rt, self.alloc, way.directory, way.around, false)? != Found::Folder {
             return Ok(None);
         }
-        around.last()?.open_if_file(self.rt, self.alloc, way.name)
+        let folder = around.last()?;
+        match folder.seen(self.rt, self.alloc, way.name)? {
+            Some(there) if there.is_file() => {
+                folder.open_known(self.rt, self.alloc, way.name, &there, moment)
+            }
+            _ => Ok(None),
+        }
     }
 
     // A file that holds the bytes already stays untouched, with its time of change. Any other is taken away and made again, so that
@@ -269,45 +317,59 @@ impl<'s, 'a, R: Files<File = File> + Alloc + Clock + Clone + Drop + Eprint + Pro
             Found::Folder => {}
             _ => return Err(refused()),
         }
-        let folder = around.last()?;
+        self.put(dir, around.last()?, &way, bytes)?;
+        if matches!(dir, Dir::Develop(_)) && self.course.takes_notes() {
+            self.course.note_put(place, Sha256::digest(bytes))?;
+        }
+        Ok(())
+    }
+
+    // Puts a file into a folder, in which there may be one of its name.
+    fn put(&self, dir: &Dir, folder: &Folder, way: &Way, bytes: &[u8]) -> io::Result<()> {
         if folder.is_new() {
             match self.make_file(folder, way.name, bytes) {
                 Err(e) if e.kind() == ErrorKind::AlreadyExists => {}
                 made => return made,
             }
         }
-        self.put(dir, folder, &way, bytes)
-    }
-
-    // Puts a file into a folder, in which there may be one of its name.
-    fn put(&self, dir: &Dir, folder: &Folder, way: &Way, bytes: &[u8]) -> io::Result<()> {
-        match folder.look(self.rt, self.alloc, way.name)? {
-            Found::Absent => {}
-            Found::File(size) => {
-                if size == bytes.len() as u64 && self.holds(folder, way.name, bytes) {
-                    return Ok(());
-                }
-                self.take_away(dir, folder, way, size)?;
-            }
-            _ => return Err(refused()),
+        let moment = now(self.rt);
+        let Some(there) = folder.seen(self.rt, self.alloc, way.name)? else {
+            return self.make_file(folder, way.name, bytes);
+        };
+        let Found::File(size) = found_of(&there) else {
+            return Err(refused());
+        };
+        if size == bytes.len() as u64 && self.holds(folder, way.name, &there, moment, bytes) {
+            return Ok(());
         }
+        self.take_away(dir, folder, way, size)?;
         self.make_file(folder, way.name, bytes)
     }
 
-    // A file that can't be read doesn't hold them, as far as is known.
-    fn holds(&self, folder: &Folder, name: &str, bytes: &[u8]) -> bool {
-        let found = self.read_whole(folder, name, bytes.len());
-        matches!(found, Ok(found) if found.as_slice() == bytes)
+    // Whether a file that was looked at, at that moment or later, holds these bytes. One that can't be read doesn't, as far as is known.
+    fn holds(
+        &self,
+        folder: &Folder,
+        name: &str,
+        there: &Metadata,
+        moment: Moment,
+        bytes: &[u8],
+    ) -> bool {
+        match folder.open_known(self.rt, self.alloc, name, there, moment) {
+            Ok(Some(opened)) => {
+                let found = self.read_whole(opened, bytes.len());
+                matches!(found, Ok(found) if found.as_slice() == bytes)
+            }
+            _ => false,
+        }
     }
 
     // The bytes of a file that had so many, or one more where it has become longer.
-    fn read_whole(&self, folder: &Folder, name: &str, len: usize) -> io::Result<Vec<u8>> {
+    fn read_whole(&self, opened: Opened, len: usize) -> io::Result<Vec<u8>> {
         let mut found = Vec::new(self.alloc);
-        if let Some(opened) = folder.open_if_file(self.rt, self.alloc, name)? {
-            let most = len.saturating_add(1);
-            found.try_reserve_exact(most)?;
-            opened.file.take(most as u64).read_to_end(&mut found)?;
-        }
+        let most = len.saturating_add(1);
+        found.try_reserve_exact(most)?;
+        opened.file.take(most as u64).read_to_end(&mut found)?;
         Ok(found)
     }
 
@@ -319,12 +381,30 @@ impl<'s, 'a, R: Files<File = File> + Alloc + Clock + Clone + Drop + Eprint + Pro
         }
     }
 
-    // Takes a file of that size away. What it holds in a develop directory is somebody's work, which is kept once.
+    // Takes a file of that size away. What it holds in a develop directory is somebody's work, which is kept once, unless this command has
+    // put just that there, in an earlier turn of its call: then it would be kept in the place of what that turn has kept.
     fn take_away(&self, dir: &Dir, folder: &Folder, way: &Way, size: u64) -> io::Result<()> {
         match dir {
-            Dir::Develop(_) if size > 0 => self.keep(folder, way),
+            Dir::Develop(_) if size > 0 && !self.is_as_put(folder, way, size)? => {
+                self.keep(folder, way)
+            }
             _ => folder.remove_file(self.rt, self.alloc, way.name),
         }
+    }
+
+    // Whether a file of that size holds what this command itself has put there. One that can't be read doesn't, as far as is known.
+    fn is_as_put(&self, folder: &Folder, way: &Way, size: u64) -> io::Result<bool> {
+        let around = way.around;
+        let name = way.name;
+        let place = format!(in self.alloc; "{around}/{name}")?;
+        let Some(digest) = self.course.put_at(place.as_str())? else {
+            return Ok(false);
+        };
+        let Ok(Some(opened)) = folder.open_to_read(self.rt, self.alloc, name) else {
+            return Ok(false);
+        };
+        let found = self.read_whole(opened, size as usize)?;
+        Ok(Sha256::digest(found.as_slice()) == digest)
     }
 
     // Keeps a file of a develop directory beside it.
@@ -338,18 +418,58 @@ impl<'s, 'a, R: Files<File = File> + Alloc + Clock + Clone + Drop + Eprint + Pro
             directory,
             below: below(way.around, way.directory),
         };
-        keep_file(self.rt, self.alloc, &self.open_home()?, &place)
+        let home = self.open_home()?;
+        keep_file(self.rt, self.alloc, &home, &place, &mut *self.removals()?)
     }
 
-    // Makes a file where nothing is.
+    // Makes a file where nothing is. Where the disk is full what waits to be removed goes, and the bytes are put once more.
     fn make_file(&self, folder: &Folder, name: &str, bytes: &[u8]) -> io::Result<()> {
         let kind = if bytes.starts_with(PROGRAM) {
             Kind::Program
         } else {
             Kind::Plain
         };
-        let mut file = folder.make_file(self.rt, self.alloc, name, kind)?;
-        file.write_all(bytes)
+        let mut file = match folder.make_file(self.rt, self.alloc, name, kind) {
+            Err(e) if is_full(&e) && self.makes_room() => {
+                folder.make_file(self.rt, self.alloc, name, kind)?
+            }
+            made => made?,
+        };
+        let written = match file.write_all(bytes) {
+            Err(e) if is_full(&e) && self.makes_room() => file.write_all_at(bytes, 0),
+            written => written,
+        };
+        if written.is_err() {
+            self.unmake(folder, name, &file).ok();
+        }
+        written
+    }
+
+    // Removes a file that was made in part. It's nobody's work, and would be kept in the place of what was kept before.
+    fn unmake(&self, folder: &Folder, name: &str, file: &File) -> io::Result<()> {
+        if folder.has(self.rt, self.alloc, node_of(&file.metadata()?), name)? {
+            folder.remove_file(self.rt, self.alloc, name)?;
+        }
+        Ok(())
+    }
+
+    // What waits to be removed.
+    fn removals(&self) -> io::Result<RefMut<'a, Removals>> {
+        match self.removals.try_borrow_mut() {
+            Ok(removals) => Ok(removals),
+            Err(_) => Err(io::Error::from(ErrorKind::ResourceBusy)),
+        }
+    }
+
+    // Removes what waits for that. Answers whether something did.
+    fn makes_room(&self) -> bool {
+        match self.removals() {
+            Ok(mut removals) if !removals.is_empty() => {
+                removals.end(self.rt, self.alloc);
+                true
+            }
+            _ => false,
+        }
     }
 
     fn try_remove(&self, around: &mut Around, dir: &Dir, path: &Path) -> io::Result<()> {
@@ -400,11 +520,11 @@ impl<'s, 'a, R: Files<File = File> + Alloc + Clock + Clone + Drop + Eprint + Pro
     // Takes a directory away. What a develop directory holds is kept once.
     fn empty(&self, dir: &Dir, home: &Folder, name: &str) -> io::Result<()> {
         if !matches!(dir, Dir::Develop(_)) {
-            return put_away(self.rt, self.alloc, home, name);
+            return put_away(self.rt, self.alloc, home, name, &mut *self.removals()?);
         }
         match home.remove_folder(self.rt, self.alloc, name) {
             Ok(()) => Ok(()),
-            Err(_) => keep_folder(self.rt, self.alloc, home, name),
+            Err(_) => keep_folder(self.rt, self.alloc, home, name, &mut *self.removals()?),
         }
     }
 
@@ -430,7 +550,7 @@ impl<'s, 'a, R: Files<File = File> + Alloc + Clock + Clone + Drop + Eprint + Pro
         Ok(())
     }
 
-    // The log is a help for who reads it: where a heading can't be written, the run is made all the same.
+    // Makes a run, unless one that this command has made already stands for it.
     fn try_run(&self, around: &mut Around, dir: &Dir, command: &str) -> io::Result<Exit> {
         let place = self.folder_of(dir)?;
         let place = place.as_str();
@@ -438,23 +558,49 @@ impl<'s, 'a, R: Files<File = File> + Alloc + Clock + Clone + Drop + Eprint + Pro
             return Err(refused());
         }
         let folder = around.last()?;
+        let job = Job {
+            command,
+            place,
+            node: folder.node(),
+        };
+        let has_it = self.course.has(self.rt, self.home, place)?;
+        match self.course.answer(job)? {
+            Some(exit) if has_it => {
+                self.course.note_run(job, exit)?;
+                Ok(exit)
+            }
+            _ => self.make_run(folder, job, has_it),
+        }
+    }
+
+    // Makes a run. The log is a help for who reads it: where a heading can't be written, it is made all the same. Without a lock on the
+    // directory nothing but the store's keeps another command out of it.
+    fn make_run(&self, folder: &Folder, job: Job, has_it: bool) -> io::Result<Exit> {
         let mut log = run_log::open_log(self.rt, self.alloc, folder)?;
-        run_log::begin(self.rt, self.alloc, &mut log, place, command).ok();
+        run_log::begin(self.rt, self.alloc, &mut log, job.place, job.command).ok();
         let out = log.try_clone()?;
         let err = log.try_clone()?;
         let way = folder.way(self.alloc)?;
-        let mut shell = shell_for(self.alloc, way.as_str(), command)?;
+        let mut shell = shell_for(self.alloc, way.as_str(), job.command)?;
         shell.stdin(Stdio::null()).stdout(out).stderr(err);
-        // Without a lock on the directory nothing but the store's keeps another command out of it.
-        let seen = if self.taken.locks(place) {
-            self.let_go()?
-        } else {
-            None
-        };
-        let ended = shell.status(self.rt);
+        let seen = if has_it { self.let_go()? } else { None };
+        let ended = self.run_to_end(&mut shell, job.place, &log);
         let exit = self.note_end(&mut log, ended);
+        let noted = match &exit {
+            Ok(exit) => self.course.note_run(job, *exit),
+            Err(_) => Ok(()),
+        };
         self.take_again(seen)?;
+        noted?;
         exit
+    }
+
+    // Runs a command to its end. Who sees standard error on a terminal sees what it writes to its log, and how long it has run.
+    fn run_to_end(&self, shell: &mut Command, place: &str, log: &File) -> io::Result<ExitStatus> {
+        if self.course.says() {
+            return run_to_end(self.rt, shell, place, log);
+        }
+        shell.status(self.rt)
     }
 
     // How a run ended, which its log says too.
@@ -464,16 +610,14 @@ impl<'s, 'a, R: Files<File = File> + Alloc + Clock + Clone + Drop + Eprint + Pro
         Ok(exit)
     }
 
-    // Whether the store's lock may be let go. Where it may not, it keeps other commands out of the directories, too.
-    fn may_let_go(&self) -> bool {
-        matches!(self.store.try_borrow(), Ok(store) if store.may_let_go())
-    }
-
-    // Lets the lock of the store go, where it may be.
+    // Lets the lock of the store go for a run, where it may be, and no script waits for that.
     fn let_go(&self) -> io::Result<Option<Vec<Seen>>> {
+        if !self.course.lets_go() || !self.course.share_runs(self.rt, self.home) {
+            return Ok(None);
+        }
         match self.store.try_borrow_mut() {
             Ok(mut store) => store.let_go(),
-            Err(_) => Err(io::Error::from(ErrorKind::ResourceBusy)),
+            Err(_) => Err(in_use()),
         }
     }
 
@@ -481,45 +625,68 @@ impl<'s, 'a, R: Files<File = File> + Alloc + Clock + Clone + Drop + Eprint + Pro
     fn take_again(&self, seen: Option<Vec<Seen>>) -> io::Result<()> {
         match self.store.try_borrow_mut() {
             Ok(mut store) => store.take_again(seen),
-            Err(_) => Err(io::Error::from(ErrorKind::ResourceBusy)),
+            Err(_) => Err(in_use()),
         }
     }
 
-    // Has a directory for this process alone, where it is there. Where another process has it, that may be a run of minutes, which
-    // wants the store's lock at its end: so this lets the lock go too, while it waits.
-    fn have(&mut self, dir: &Dir) -> io::Result<()>
-        ensures same { self.new.faults.count ≡ self.old.faults.count }
-    {
-        let mut taken = std::mem::replace(&mut self.taken, Taken::none(self.alloc));
-        let had = self.try_have(&mut taken, dir);
-        self.taken = taken;
-        had
+    // Whether the store's lock is held.
+    fn is_locked(&self) -> bool {
+        matches!(self.store.try_borrow(), Ok(store) if store.is_locked())
     }
 
-    fn try_have(&self, taken: &mut Taken, dir: &Dir) -> io::Result<()> {
-        if *dir == Dir::Here || !self.may_let_go() {
-            return Ok(());
+    // Has a directory for this command alone. A script has them all, as no run is under way that has let the store's lock go, or none.
+    fn have(&self, dir: &Dir) -> io::Result<()> {
+        match self.course.manner() {
+            _ if *dir == Dir::Here => return Ok(()),
+            Manner::Records => return Err(io::Error::from(ErrorKind::WouldBlock)),
+            Manner::Script => return self.have_store(),
+            _ if !self.is_locked() => return Ok(()),
+            _ => {}
         }
         let place = self.folder_of(dir)?;
-        if taken.try_take(self.rt, self.alloc, place.as_str())? {
-            return Ok(());
+        match self.course.take(self.rt, self.home, place.as_str()) {
+            Err(e) if e.kind() == ErrorKind::WouldBlock && self.course.waits() => {
+                self.wait_for(place.as_str())
+            }
+            taken => taken,
         }
-        let seen = self.let_go()?;
-        if seen.is_none() {
-            return Err(io::Error::from(ErrorKind::WouldBlock));
-        }
-        let waited = self.wait_for(taken, place.as_str());
-        self.take_again(seen)?;
-        waited
     }
 
-    // Waits for a directory.
-    fn wait_for(&self, taken: &mut Taken, place: &str) -> io::Result<()> {
-        let patience = match self.store.try_borrow() {
-            Ok(store) => store.patience()?,
-            Err(_) => return Err(io::Error::from(ErrorKind::ResourceBusy)),
-        };
-        taken.take(self.rt, self.alloc, place, patience)
+    // Has the lock of the store, where there is one, and so the runs of others at their end: the first line of a script may be an edit.
+    fn have_store(&self) -> io::Result<()> {
+        match self.store.try_borrow_mut() {
+            Ok(mut store) => store.look_for()?,
+            Err(_) => return Err(in_use()),
+        }
+        match self.course.manner() {
+            Manner::Records => Err(io::Error::from(ErrorKind::WouldBlock)),
+            _ => Ok(()),
+        }
+    }
+
+    // Waits for a directory that another command has: that may be a run of minutes, which wants the store's lock at its end, so this call
+    // lets it go, and is made again once the directory is free.
+    fn wait_for(&self, place: &str) -> io::Result<()> {
+        match self.store.try_borrow_mut() {
+            Ok(mut store) => store.give_up(),
+            Err(_) => return Err(in_use()),
+        }
+        self.course.wait_for(self.rt, self.home, place)?;
+        Err(io::Error::from(ErrorKind::Interrupted))
+    }
+
+    // Has a directory to be changed.
+    fn have_to_change(&self, dir: &Dir) -> io::Result<()> {
+        self.have(dir)?;
+        self.course.note_change()
+    }
+
+    // Has a directory to run something there. In the current folder a script that may ask for no directory runs nothing either.
+    fn have_to_run(&self, dir: &Dir) -> io::Result<()> {
+        if self.course.manner() == Manner::Records {
+            return Err(io::Error::from(ErrorKind::WouldBlock));
+        }
+        self.have(dir)
     }
 }
 
@@ -541,7 +708,7 @@ impl<'s, 'a, R: Files<File = File> + Alloc + Clock + Clone + Drop + Eprint + Pro
         limit: usize,
     ) -> Result<Content, SiteError> {
         if let Err(e) = self.have(&dir) {
-            self.count("read", &dir, Some(path), e);
+            self.count("lock", &dir, None, e);
             return Err(SiteError::Failed);
         }
         let mut around = std::mem::replace(&mut self.around, Around::unknown());
@@ -558,8 +725,8 @@ impl<'s, 'a, R: Files<File = File> + Alloc + Clock + Clone + Drop + Eprint + Pro
     }
 
     fn write(&mut self, dir: Dir, path: &Path, bytes: &[u8]) -> Result<(), Failed> {
-        if let Err(e) = self.have(&dir) {
-            return Err(self.count("write", &dir, Some(path), e));
+        if let Err(e) = self.have_to_change(&dir) {
+            return Err(self.count("lock", &dir, None, e));
         }
         let mut around = std::mem::replace(&mut self.around, Around::unknown());
         let written = self.try_write(&mut around, &dir, path, bytes);
@@ -568,8 +735,8 @@ impl<'s, 'a, R: Files<File = File> + Alloc + Clock + Clone + Drop + Eprint + Pro
     }
 
     fn remove(&mut self, dir: Dir, path: &Path) -> Result<(), Failed> {
-        if let Err(e) = self.have(&dir) {
-            return Err(self.count("remove", &dir, Some(path), e));
+        if let Err(e) = self.have_to_change(&dir) {
+            return Err(self.count("lock", &dir, None, e));
         }
         let mut around = std::mem::replace(&mut self.around, Around::unknown());
         let removed = self.try_remove(&mut around, &dir, path);
@@ -577,21 +744,18 @@ impl<'s, 'a, R: Files<File = File> + Alloc + Clock + Clone + Drop + Eprint + Pro
     }
 
     fn clear(&mut self, dir: Dir) -> Result<(), Failed> {
-        if let Err(e) = self.have(&dir) {
-            return Err(self.count("clear", &dir, None, e));
+        if let Err(e) = self.have_to_change(&dir) {
+            return Err(self.count("lock", &dir, None, e));
         }
         let mut around = std::mem::replace(&mut self.around, Around::unknown());
         let cleared = self.try_clear(&mut around, &dir);
         self.around = around;
-        if let Ok(place) = self.folder_of(&dir) {
-            self.taken.forget(place.as_str());
-        }
         self.counted("clear", &dir, None, cleared)
     }
 
     fn run(&mut self, dir: Dir, command: &str) -> Result<Exit, Failed> {
-        if let Err(e) = self.have(&dir) {
-            return Err(self.count("run", &dir, None, e));
+        if let Err(e) = self.have_to_run(&dir) {
+            return Err(self.count("lock", &dir, None, e));
         }
         self.around.forget();
         let mut around = Around::unknown();
