@@ -1,5 +1,5 @@
--- Each act that opens a branch may be done.
-use Rattle.std.specs.Prelude.{◌≡◌, ◌≤◌, ◌&&◌, ℕ, Bool, true, false, not, if◌then◌else◌, All, List, [], ◌∷◌, length, nat_le, Option, Some, None}
+-- Each act that opens a branch may be done, and builds and tests nothing.
+use Rattle.std.specs.Prelude.{◌≡◌, ◌≢◌, ◌≤◌, ◌&&◌, ℕ, Bool, true, false, not, if◌then◌else◌, All, List, [], ◌∷◌, length, nat_le, Option, Some, None}
 use Rattle.std.specs.List.{AllByRecursion, cons_option, filter, filter_map, list_all}
 use Rattle.std.proofs.Common.{refl, subst, arith}
 use Rattle.std.proofs.lemmas.Bool.{and_from, and_parts, le-leb, lt-leb}
@@ -10,7 +10,7 @@ use Rattle.ae_base.specs.Names.{IsUser, is_project_name, is_user}
 use Rattle.ae_base.specs.Words.{roles}
 use Rattle.ae_base.specs.declared.words.Role.{Role}
 use Rattle.ae_base.specs.declared.words.Role.TheVariants.{Administrator, Developer, Integrator, Reviewer}
-use Rattle.ae_lines.specs.Acts.{MayBeDone}
+use Rattle.ae_lines.specs.Acts.{MayBePlanned}
 use Rattle.ae_lines.specs.declared.act.Act.{Act}
 use Rattle.ae_lines.specs.declared.act.Act.TheVariants.{Put, Run}
 use Rattle.ae_outside.specs.declared.dir.Dir.TheVariants.{Here}
@@ -83,22 +83,38 @@ module _ (users : List (List ℕ)) (good : are_users users ≡ true) (some : nat
   give_one Reviewer = refl
   give_one Integrator = refl
 
-  give_may : (role : Role) → MayBeDone (Run (give role users))
+  no_build : (role : Role) → giving role ≢ function.Build
+  no_build Administrator is = let both : function.NewAdministrator ≡ function.Build = is in cc
+  no_build Developer is = let both : function.NewDeveloper ≡ function.Build = is in cc
+  no_build Reviewer is = let both : function.NewReviewer ≡ function.Build = is in cc
+  no_build Integrator is = let both : function.NewIntegrator ≡ function.Build = is in cc
+
+  no_test : (role : Role) → giving role ≢ function.Test
+  no_test Administrator is = let both : function.NewAdministrator ≡ function.Test = is in cc
+  no_test Developer is = let both : function.NewDeveloper ≡ function.Test = is in cc
+  no_test Reviewer is = let both : function.NewReviewer ≡ function.Test = is in cc
+  no_test Integrator is = let both : function.NewIntegrator ≡ function.Test = is in cc
+
+  give_may : (role : Role) → MayBePlanned (Run (give role users))
   give_may role = (
-    record {
-      kinds = record { project = refl; change = refl; attributes = refl; delta = refl; name = refl; reason = refl };
-      options = (no_options role, refl);
-      plain = give_plain role;
-      whole = give_whole role;
-    },
-    give_one role,
+    (
+      record {
+        kinds = record { project = refl; change = refl; attributes = refl; delta = refl; name = refl; reason = refl };
+        options = (no_options role, refl);
+        plain = give_plain role;
+        whole = give_whole role;
+      },
+      give_one role,
+    ),
+    no_build role,
+    no_test role,
   )
 
-giving_may : (role : Role) (users : List (List ℕ)) (act : Act) → are_users users ≡ true → giving_act role users ≡ Some act → MayBeDone act
+giving_may : (role : Role) (users : List (List ℕ)) (act : Act) → are_users users ≡ true → giving_act role users ≡ Some act → MayBePlanned act
 giving_may role [] act good is = absurd (let both : None ≡ Some act = is in cc)
 giving_may role (user ∷ users) act good is =
     let some : nat_le (length (user ∷ users)) 0 ≡ false = lt-leb (length (user ∷ users)) 0 (omega arith) in
-    subst MayBeDone (same_Some (Run (give role (user ∷ users))) act is) (give_may (user ∷ users) good some role)
+    subst MayBePlanned (same_Some (Run (give role (user ∷ users))) act is) (give_may (user ∷ users) good some role)
 
 -- ---- the users of the trunk
 
@@ -131,17 +147,17 @@ given_good o who role sound all =
 
 -- ---- all of them
 
-each_may : {A : Type 0} (f : A → Option Act) (xs : List A) → ((x : A) (act : Act) → f x ≡ Some act → MayBeDone act) → All MayBeDone (filter_map f xs)
-each_may f [] may = All-nil MayBeDone
+each_may : {A : Type 0} (f : A → Option Act) (xs : List A) → ((x : A) (act : Act) → f x ≡ Some act → MayBePlanned act) → All MayBePlanned (filter_map f xs)
+each_may f [] may = All-nil MayBePlanned
 each_may f (x ∷ xs) may = go (f x) refl (each_may f xs may)
   where
-    go : (o : Option Act) → f x ≡ o → All MayBeDone (filter_map f xs) → All MayBeDone (cons_option o (filter_map f xs))
-    go (Some act) is rest = All-cons MayBeDone act (filter_map f xs) (may x act is) rest
+    go : (o : Option Act) → f x ≡ o → All MayBePlanned (filter_map f xs) → All MayBePlanned (cons_option o (filter_map f xs))
+    go (Some act) is rest = All-cons MayBePlanned act (filter_map f xs) (may x act is) rest
     go None is rest = rest
 
-pub opening_formed : (o : Observation) (who name : List ℕ) → Sound o → ((role : Role) → AllByRecursion IsUser (users_of role o.project)) → is_project_name name ≡ true → All MayBeDone (opening_acts o who name)
+pub opening_formed : (o : Observation) (who name : List ℕ) → Sound o → ((role : Role) → AllByRecursion IsUser (users_of role o.project)) → is_project_name name ≡ true → All MayBePlanned (opening_acts o who name)
 opening_formed o who name sound users named =
-    let makes : MayBeDone (Run (new_project name)) = (project_formed name named, refl) in
-    All-cons MayBeDone (Put Here attributes_path (attributes_text o.project.attributes)) (Run (new_project name) ∷ filter_map (role_act who o.project) roles) tt
-    (All-cons MayBeDone (Run (new_project name)) (filter_map (role_act who o.project) roles) makes
+    let makes : MayBePlanned (Run (new_project name)) = ((project_formed name named, refl), (λ is. let both : function.NewProject ≡ function.Build = is in cc), (λ is. let both : function.NewProject ≡ function.Test = is in cc)) in
+    All-cons MayBePlanned (Put Here attributes_path (attributes_text o.project.attributes)) (Run (new_project name) ∷ filter_map (role_act who o.project) roles) tt
+    (All-cons MayBePlanned (Run (new_project name)) (filter_map (role_act who o.project) roles) makes
     (each_may (role_act who o.project) roles (λ role act is. giving_may role (users_given who o.project role) act (given_good o who role sound (are_all (users_of role o.project) (users role))) is)))

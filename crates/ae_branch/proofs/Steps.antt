@@ -1,5 +1,5 @@
 -- Steps that say one thing, and calls that answer what they say.
-use Rattle.std.specs.Prelude.{◌≡◌, Option, Some, None, Result, Ok, Err, IfErr}
+use Rattle.std.specs.Prelude.{◌≡◌, ◌≢◌, Option, Some, None, Result, Ok, Err, IfErr, IsErrOf}
 use Rattle.std.proofs.Common.{inl, inr, refl, sym, ap, subst, ◌∙◌}
 use Rattle.ae_base.specs.declared.outcome.Outcome.{Outcome}
 use Rattle.ae_base.specs.declared.outcome.Outcome.TheVariants as outcome
@@ -44,6 +44,18 @@ fails_of_command told S rose _ (refused refusal is) = tt
 fails_of_command told S rose _ (damaged name is) = tt
 fails_of_command told S rose _ (disk_fault failed) = tt
 fails_of_command told S rose _ memory = tt
+
+-- and no failed run
+pub fails_unfailed : {A : Type 0} (told : Type 0) (S : Result A Outcome → Type 0) (rose : Type 0) (result : Result A Outcome) → AnswersAs told S rose result → IfErr result (λ (why : Outcome). why ≢ outcome.RunFailed)
+fails_unfailed told S rose _ (done value is) = tt
+fails_unfailed told S rose _ (refused refusal is) = λ same. let both : outcome.Refused refusal ≡ outcome.RunFailed = same in cc
+fails_unfailed told S rose _ (damaged name is) = λ same. let both : outcome.Damaged name ≡ outcome.RunFailed = same in cc
+fails_unfailed told S rose _ (disk_fault failed) = λ same. let both : outcome.DiskFault ≡ outcome.RunFailed = same in cc
+fails_unfailed told S rose _ memory = λ same. let both : outcome.Memory ≡ outcome.RunFailed = same in cc
+
+-- of a call whose failures are no failed runs
+pub no_run_failed : {A : Type 0} (result : Result A Outcome) → IfErr result (λ (why : Outcome). why ≢ outcome.RunFailed) → IsErrOf result outcome.RunFailed → ⊥
+no_run_failed result others is = subst (λ r. IfErr r (λ (why : Outcome). why ≢ outcome.RunFailed)) is others refl
 
 -- what they say comes, where they say one thing
 pub only_one : {A : Type 0} (told : Type 0) (S : Result A Outcome → Type 0) (rose : Type 0) → SaysOne S → told → (result : Result A Outcome) → AnswersAs told S rose result → (said : Result A Outcome) → S said → IsAnswered said result

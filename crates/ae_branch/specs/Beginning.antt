@@ -8,7 +8,7 @@ use Rattle.ae_bundle.specs.declared.bundle.BundleFile.{BundleFile}
 use Rattle.ae_dist.specs.Steps.{Tells}
 use Rattle.ae_dist.specs.declared.rows.Row.{Row}
 use Rattle.ae_exec.specs.Reading.{IsInside}
-use Rattle.ae_lines.specs.Acts.{MayBeDone}
+use Rattle.ae_lines.specs.Acts.{MayBePlanned}
 use Rattle.ae_lines.specs.declared.act.Act.{Act}
 use Rattle.ae_outside.specs.Image.{Image}
 use Rattle.ae_types.specs.Observation.{Observation}
@@ -35,7 +35,7 @@ pub record IsSource (o : Observation) (name : List ℕ) (delta : ℕ) (who : Lis
 
 -- its acts may be done, and its versions end in the region
 pub record IsGoodSource (source : Source) : Type 0 where
-  pub formed : All MayBeDone source.acts
+  pub formed : All MayBePlanned source.acts
   pub inside : AllByRecursion (λ (row : Row). IfSome row.version IsInside) source.rows.items
 
 -- the trunk has it

@@ -6,7 +6,7 @@ ghost use Rattle.ae_base.specs.declared.outcome.Outcome.TheVariants.{Memory};
 ghost use Rattle.ae_dist.specs.Answers.{IsAnswered};
 ghost use Rattle.ae_exec.specs.Opened.{HasOpened, IsOpenedUnless, MayBeUnopened};
 ghost use Rattle.ae_exec.specs.Performs.{LeavesDisk};
-ghost use Rattle.ae_lines.specs.Acts.{MayBeDone};
+ghost use Rattle.ae_lines.specs.Acts.{MayBePlanned};
 ghost use Rattle.ae_lines.specs.declared.act.Act.{Act};
 ghost use Rattle.ae_outside.specs.State.{reads};
 ghost use Rattle.ae_vault.specs.Disk.{DiskFailed, IsCleanDisk, OnlyReads};
@@ -68,7 +68,7 @@ fn append(acts: &mut ActList, more: Vec<Act>) -> Result<(), AllocError>
 // How the first change is made of these files.
 fn plan_first(alloc: Global, brief: Text, files: BundleFileList) -> Result<ActList, AllocError>
     ensures plan { IfOk result (λ acts. acts ≡ plan_of_first brief files) }
-    ensures formed { IfOk result (All MayBeDone) }
+    ensures formed { IfOk result (All MayBePlanned) }
 {
     first_plan(
         alloc,
@@ -88,9 +88,9 @@ fn acts_of(
     brief: Text,
     files: BundleFileList,
 ) -> Result<ActList, AllocError>
-    requires formed { All MayBeDone first }
+    requires formed { All MayBePlanned first }
     ensures acts { IfOk result (λ acts. acts ≡ first ++ plan_of_first brief files) }
-    ensures formed { IfOk result (All MayBeDone) }
+    ensures formed { IfOk result (All MayBePlanned) }
 {
     let mut acts = first;
     let plan = plan_first(alloc, brief, files)?;
@@ -102,7 +102,7 @@ fn acts_of(
 fn joined(alloc: Global, source: Source, files: BundleFileList) -> Result<ActList, Outcome>
     requires good { IsGoodSource source }
     ensures acts { IfOk result (λ acts. acts ≡ source.acts ++ plan_of_first source.brief files) }
-    ensures formed { IfOk result (All MayBeDone) }
+    ensures formed { IfOk result (All MayBePlanned) }
     ensures fails { IfErr result (λ why. why ≡ Memory) }
 {
     match acts_of(alloc, source.acts, source.brief, files) {
@@ -117,7 +117,7 @@ fn read_source<D: Disk>(alloc: Global, trunk: &mut D, source: Source) -> Result<
     requires good { IsGoodSource source }
     ensures answer { AnswersAs D.tells (ReadsSource (reads (D.state trunk.old)) source)
         (DiskFailed D.Disk trunk.old trunk.new) result }
-    ensures formed { IfOk result (All MayBeDone) }
+    ensures formed { IfOk result (All MayBePlanned) }
     ensures same { OnlyReads D.Disk trunk.old trunk.new }
     ensures later { D.faults trunk.old ≤ D.faults trunk.new }
 {
@@ -136,7 +136,7 @@ fn fill_source<D: Disk>(alloc: Global, trunk: &mut D, source: Source) -> Result<
     requires good { IsGoodSource source }
     ensures answer { AnswersAs D.tells (FillsSource (reads (D.state trunk.old)) source)
         (DiskFailed D.Disk trunk.old trunk.new) result }
-    ensures formed { IfOk result (All MayBeDone) }
+    ensures formed { IfOk result (All MayBePlanned) }
     ensures same { OnlyReads D.Disk trunk.old trunk.new }
     ensures later { D.faults trunk.old ≤ D.faults trunk.new }
 {
@@ -163,7 +163,7 @@ fn begin_with<D: Disk, B: Disk>(
     ensures answer { AnswersAs (D.tells × B.tells)
         (BeginsWith (reads (D.state trunk.old)) (reads (B.state disk.old)) source)
         (DiskFailed D.Disk trunk.old trunk.new ⊎ DiskFailed B.Disk disk.old disk.new) result }
-    ensures formed { IfOk result (All MayBeDone) }
+    ensures formed { IfOk result (All MayBePlanned) }
     ensures trunk { OnlyReads D.Disk trunk.old trunk.new }
     ensures trunk_later { D.faults trunk.old ≤ D.faults trunk.new }
     ensures disk { B.tells → LeavesDisk (B.state disk.old) (B.state disk.new) (Unit {0}) }
@@ -199,7 +199,7 @@ pub(crate) fn prepare_begin<D: Disk, B: Disk>(
         Begins (reads (D.state trunk.old)) (reads (B.state disk.old)) name.now delta who.now said →
         IsAnswered said result }
     // The acts may be done, whatever the disks tell.
-    ensures formed { IfOk result (All MayBeDone) }
+    ensures formed { IfOk result (All MayBePlanned) }
     ensures trunk { D.tells → LeavesDisk (D.state trunk.old) (D.state trunk.new) (Unit {0}) }
     ensures trunk_later { D.faults trunk.old ≤ D.faults trunk.new }
     ensures disk { B.tells → LeavesDisk (B.state disk.old) (B.state disk.new) (Unit {0}) }

@@ -6,7 +6,7 @@ ghost use Rattle.ae_outside.specs.State.{reads};
 ghost use Rattle.ae_vault.specs.Disk.{DiskFailed, IsCleanDisk, OnlyReads};
 ghost use Rattle.ae_exec.specs.Opened.{HasOpened, IsOpenedUnless, MayBeUnopened};
 ghost use Rattle.ae_exec.specs.Performs.{LeavesDisk};
-ghost use Rattle.ae_lines.specs.Acts.{MayBeDone};
+ghost use Rattle.ae_lines.specs.Acts.{MayBePlanned};
 ghost use Rattle.ae_lines.specs.declared.act.Act.{Act};
 ghost use Rattle.ae_dist.specs.Answers.{IsAnswered};
 ghost use Rattle.ae_branch.specs.Carrying.{AreReadable};
@@ -39,7 +39,7 @@ fn plan_files(
     files: BundleFileList,
 ) -> Result<ActList, Outcome>
     ensures answer { AnswersAs (Unit {0}) (PlansOn state.now (branch_bundle name.now files)) ⊥ result }
-    ensures formed { IfOk result (All MayBeDone) }
+    ensures formed { IfOk result (All MayBePlanned) }
 {
     let Ok(brief) = brief_of(alloc, name) else {
         drop(files);
@@ -66,7 +66,7 @@ fn plan_rows<B: Disk>(
     requires readable { AreReadable rows.now }
     ensures answer { AnswersAs B.tells (PlansRows name.now state.now (reads (B.state disk.old)) rows.now)
         (DiskFailed B.Disk disk.old disk.new) result }
-    ensures formed { IfOk result (All MayBeDone) }
+    ensures formed { IfOk result (All MayBePlanned) }
     ensures same { OnlyReads B.Disk disk.old disk.new }
     ensures later { B.faults disk.old ≤ B.faults disk.new }
 {
@@ -89,7 +89,7 @@ fn bring<D: Disk, B: Disk>(
     ensures answer { AnswersAs (D.tells × B.tells)
         (Brings name.now (reads (D.state trunk.old)) (reads (B.state disk.old)) carried.now)
         (DiskFailed D.Disk trunk.old trunk.new ⊎ DiskFailed B.Disk disk.old disk.new) result }
-    ensures formed { IfOk result (All MayBeDone) }
+    ensures formed { IfOk result (All MayBePlanned) }
     ensures trunk { D.tells → LeavesDisk (D.state trunk.old) (D.state trunk.new) (Unit {0}) }
     ensures trunk_opened { OnOk result (D.tells → HasOpened (D.state trunk.old) (D.state trunk.new)) }
     ensures same { OnlyReads B.Disk disk.old disk.new }
@@ -121,7 +121,7 @@ pub(crate) fn prepare_finish<D: Disk, B: Disk>(
     ensures only { D.tells → B.tells → (said : Result (List Act) Outcome) →
         Finishes name.now (reads (D.state trunk.old)) (reads (B.state disk.old)) said → IsAnswered said result }
     // Acts that are answered may be done, whatever the disks tell.
-    ensures formed { IfOk result (All MayBeDone) }
+    ensures formed { IfOk result (All MayBePlanned) }
     // It leaves both disks as a command does that changes nothing.
     ensures trunk { D.tells → LeavesDisk (D.state trunk.old) (D.state trunk.new) (Unit {0}) }
     ensures disk { B.tells → LeavesDisk (B.state disk.old) (B.state disk.new) (Unit {0}) }

@@ -4,7 +4,7 @@ ghost use Rattle.std.specs.List.{AllByRecursion, cons_option, filter, filter_map
 ghost use Rattle.ae_base.specs.Names.{IsUser};
 ghost use Rattle.ae_base.specs.Words.{roles};
 ghost use Rattle.ae_base.specs.declared.words.Role.{Role};
-ghost use Rattle.ae_lines.specs.Acts.{MayBeDone};
+ghost use Rattle.ae_lines.specs.Acts.{MayBePlanned};
 ghost use Rattle.ae_text.specs.Tree.{fields, word};
 ghost use Rattle.ae_text.specs.View.{members_of, named_node, node};
 ghost use Rattle.ae_types.specs.Roles.{is_administrators, users_of};
@@ -307,7 +307,7 @@ pub(crate) fn opening_acts(
     name: &ProjectName,
 ) -> Result<ActList, AllocError>
     ensures acts { IfOk result (λ acts. acts ≡ opening_acts state.now who.now name.now) }
-    ensures formed { IfOk result (All MayBeDone) }
+    ensures formed { IfOk result (All MayBePlanned) }
 {
     let project = state.project();
     note_roles(project);

@@ -1,5 +1,5 @@
 -- A call that receives, once it is done.
-use Rattle.std.proofs.Common.{◌≡◌, inl, inr, ℕ, true, false, refl, sym, ◌∙◌, ap, List, Option, Some, None}
+use Rattle.std.proofs.Common.{◌≡◌, inl, inr, ℕ, refl, sym, ◌∙◌, ap, List, Option, Some, None}
 use Rattle.std.proofs.lemmas.Option.{same_Some}
 use Rattle.ae_base.specs.declared.outcome.Outcome.{Outcome}
 use Rattle.ae_base.specs.declared.outcome.Outcome.TheVariants.{Done, Memory}
@@ -35,13 +35,9 @@ use Rattle.ae_telling.specs.Answered.{IsMeant, IsWhyTold}
 use Rattle.ae_telling.specs.Telling.{SinkUse}
 use Rattle.ae_types.specs.Observation.{Observation}
 use Rattle.ae_types.specs.Part.{part, part_of}
-use Rattle.ae_words.specs.Grammar.{IsCommand}
-use Rattle.ae_words.specs.Table.{is_one_command}
-use Rattle.ae_words.specs.declared.command.Command.{Command}
-use Rattle.ae_words.specs.declared.table.Function.{Function}
 use Rattle.ae_words.specs.declared.table.Function.TheVariants as function
-use Rattle.ae_words.proofs.FirstBad.{one_command}
 use Rattle.ae_calls.specs.Received.{CallsReceiveAsSent, WasReceived}
+use Rattle.ae_calls.proofs.AskedOnce.{never-one, never-other}
 use Rattle.ae_received.specs.Laws.{ArePlan}
 use Rattle.ae_received.proofs.Received.{logged-as-sent}
 
@@ -67,18 +63,6 @@ why-not-done why err never told = go told.is_meant (meant_done told.meant Done e
     go : IsMeant why told.meant → told.meant ≡ Done → ⊥
     go (inl same) is = never (sym same ∙ is)
     go (inr lacking) is = let both : Memory ≡ Done = sym lacking.0 ∙ is in cc
-
--- ---- the words ask for nothing else
-
-module _ (words : List (List ℕ)) (a b : Command) (is_a : IsCommand words a) (is_b : IsCommand words b) (receives : b.function ≡ function.DistributionReceive) where
-  same-function : a.function ≡ function.DistributionReceive
-  same-function = ap (λ (c : Command). c.function) (one_command words a b is_a is_b) ∙ receives
-
-  never-one : is_one_command a.function ≡ true → ⊥
-  never-one one = let both : false ≡ true = sym (ap is_one_command same-function) ∙ one in cc
-
-  never-other : (f : Function) → (function.DistributionReceive ≡ f → ⊥) → a.function ≡ f → ⊥
-  never-other f other is = other (sym same-function ∙ is)
 
 -- ---- what stood
 
@@ -129,12 +113,12 @@ module _ (d : Disks) (s : Sites) (i o e : Streams) (asked : Asked) (workspace : 
       → WasReceived (i.bytes streams.input.old) log asked.who logged.holds.read (s.state workspace.site.new)
   asked-so _ _ _ (asking.receiving other begun done asked_so did few quiet) logged =
       received-so d s i o e begins workspace.disk.new workspace.site.new streams.input.old streams.input.new streams.out.old streams.out.new streams.err.old streams.err.new seen shown told held log holds other begun done did logged
-  asked-so _ _ _ (asking.command c one did) logged = absurd (never-one asked.words c asks.command one.said asks.said asks.receives one.one)
-  asked-so _ _ _ (asking.script one did quiet) logged = absurd (never-other asked.words one.command asks.command one.said asks.said asks.receives function.Script (λ is. cc) one.is_script)
-  asked-so _ _ _ (asking.project number changes files one made) logged = absurd (never-other asked.words one.command asks.command one.said asks.said asks.receives function.Generate (λ is. cc) one.generates)
-  asked-so _ _ _ (asking.audit one did) logged = absurd (never-other asked.words one.command asks.command one.said asks.said asks.receives function.Audit (λ is. cc) one.audits)
-  asked-so _ _ _ (asking.report wanted one did) logged = absurd (never-other asked.words one.command asks.command one.said asks.said asks.receives function.Report (λ is. cc) one.reports)
-  asked-so _ _ _ (asking.sending other number one did) logged = absurd (never-other asked.words one.command asks.command one.said asks.said asks.receives function.DistributionSend (λ is. cc) one.sends)
+  asked-so _ _ _ (asking.command c one did) logged = absurd (never-one asked.words c asks.command one.said asks.said function.DistributionReceive asks.receives refl one.one)
+  asked-so _ _ _ (asking.script one did quiet) logged = absurd (never-other asked.words one.command asks.command one.said asks.said function.DistributionReceive asks.receives function.Script (λ is. cc) one.is_script)
+  asked-so _ _ _ (asking.project number changes files one made) logged = absurd (never-other asked.words one.command asks.command one.said asks.said function.DistributionReceive asks.receives function.Generate (λ is. cc) one.generates)
+  asked-so _ _ _ (asking.audit one did) logged = absurd (never-other asked.words one.command asks.command one.said asks.said function.DistributionReceive asks.receives function.Audit (λ is. cc) one.audits)
+  asked-so _ _ _ (asking.report wanted one did) logged = absurd (never-other asked.words one.command asks.command one.said asks.said function.DistributionReceive asks.receives function.Report (λ is. cc) one.reports)
+  asked-so _ _ _ (asking.sending other number one did) logged = absurd (never-other asked.words one.command asks.command one.said asks.said function.DistributionReceive asks.receives function.DistributionSend (λ is. cc) one.sends)
   asked-so _ _ _ (asking.wanting only) logged = absurd (let lacking : Memory ≡ Done = meant_done Memory Done err_rose refl only.told.how in cc)
     where
       err_rose : Type 0

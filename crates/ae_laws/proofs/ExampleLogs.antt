@@ -69,7 +69,7 @@ first_config = record { event = change_event bob (added config_file usage.Config
 abbrev first_test : Happened
 first_test = record { event = change_event bob (added test_file usage.Test); before = first_config.event ∷ begun }
 
-first-updates : (path : List ℕ) (fact : FileFact) → file (course before 10) path ≡ Some fact → ReplacesItsOrigin before 10 path fact
+pub first-updates : (path : List ℕ) (fact : FileFact) → file (course before 10) path ≡ Some fact → ReplacesItsOrigin before 10 path fact
 first-updates path fact f =
     let is = first-of before path fact first_test first_config (record { past = refl; baseline = refl }) (record { past = refl; baseline = refl })
     (λ made e. ap (λ (x : FileFact). x.origin) (sym (same_Some _ made e))) (λ made e. ap (λ (x : FileFact). x.origin) (sym (same_Some _ made e))) (bytes_eq path test_file) (bytes_eq path config_file) f in

@@ -18,3 +18,5 @@ pub mod Sizes
 mod ExamplePeople
 mod ProvidedTold
 mod ExampleUpdates
+mod Administrators
+mod ExampleAdministrators

@@ -9,13 +9,15 @@ ghost use Rattle.ae_machine.specs.Accepted.{AcceptedApply, AcceptedStarts, Accep
 ghost use Rattle.ae_machine.specs.Call.{Placing};
 ghost use Rattle.ae_machine.specs.Evident.{LegalIsEvident};
 ghost use Rattle.ae_laws.specs.Examples.{first_baseline, passed_by_developer, passed_by_anybody, ended_after_pass, left_unclean, not_built, begun_again, without_test, waived_and_passed, waived_baseline, waived_unset};
-ghost use Rattle.ae_laws.specs.Examples.{added_before, created_twice, developed_by_anybody, developer_let, integrated_by_anybody, integrated_by_developer, integrated_by_reviewer, passed_by_other, update_lost};
+ghost use Rattle.ae_laws.specs.Examples.{added_before, created_twice, developed_by_anybody, developer_let, integrated_by_anybody, integrated_by_developer, integrated_by_reviewer, passed_by_other, update_lost, updated};
+ghost use Rattle.ae_laws.specs.Examples.{gave_up, made_twice, removed_later, role_by_developer, settings_by_developer};
 ghost use Rattle.ae_machine.specs.Facts.{LegalHasFacts};
 ghost use Rattle.ae_machine.specs.Laws.{LegalIsSound, LegalIsProvided, Reverses};
 ghost use Rattle.ae_machine.specs.Partly.{PartsAnswer, PartsAreCalled, PartsAreFollowed};
 ghost use Rattle.ae_machine.specs.Provenance.{Provenance};
 ghost use Rattle.ae_machine.specs.Released.{LegalIsReleased};
 ghost use Rattle.ae_machine.specs.Rules.{PathsWithRule, PathsEverRule, CandidateRule, BaseTreeRule};
+ghost use Rattle.ae_laws.specs.Administrators.{AreByAdministrators, LegalIsByAdministrators};
 ghost use Rattle.ae_laws.specs.Current.{LegalLosesNone, LosesNone};
 ghost use Rattle.ae_laws.specs.Integrators.{ArePeopleRight, LegalHasPeople};
 ghost use Rattle.ae_laws.specs.Lasting.{DeltasLast};
@@ -165,8 +167,8 @@ pub fn legal_logs_have_sizes()
 /// What these laws ask is decided by value. A first baseline has the right people, and so has one that its developer integrates, as the
 /// settings let him. They aren't right where another passes it than who began its integration, or who is no integrator; where its
 /// developer integrates it, or its reviewer, though the settings don't let them; or where somebody developed it who is no developer.
-/// An update is lost where a file began from an older edit, or from what the path had before a delta changed it, or where the baseline
-/// has a file that is created.
+/// No update is lost where a file began from the edit that a delta made. One is where it began from an older edit, or from what the path
+/// had before a delta changed it, or where the baseline has a file that is created.
 pub fn people_and_updates_are_decided_by_value()
     ensures first { ArePeopleRight first_baseline }
     ensures settings { ArePeopleRight developer_let }
@@ -175,7 +177,26 @@ pub fn people_and_updates_are_decided_by_value()
     ensures developer { ArePeopleRight integrated_by_developer → ⊥ }
     ensures reviewer { ArePeopleRight integrated_by_reviewer → ⊥ }
     ensures developed { ArePeopleRight developed_by_anybody → ⊥ }
+    ensures kept { LosesNone updated }
     ensures origin { LosesNone update_lost → ⊥ }
     ensures touched { LosesNone added_before → ⊥ }
     ensures created { LosesNone created_twice → ⊥ }
+{}
+
+/// Settings and roles are changed by administrators alone: in a legal log, who changes the attributes of the project or of a change, or
+/// a role, is an administrator then. Who removes several administrators at once may be one of them. A project is made where none is.
+pub fn legal_logs_are_by_administrators()
+    ensures { LegalIsByAdministrators }
+{}
+
+/// What that asks is decided by value. A first baseline has it, and so has an administrator who removes herself and another at once. It is
+/// lacking where a developer gives himself a role, or changes the settings; where who removed herself removes another later; and
+/// where a project is made over one.
+pub fn administrators_are_decided_by_value()
+    ensures first { AreByAdministrators first_baseline }
+    ensures given_up { AreByAdministrators gave_up }
+    ensures role { AreByAdministrators role_by_developer → ⊥ }
+    ensures settings { AreByAdministrators settings_by_developer → ⊥ }
+    ensures later { AreByAdministrators removed_later → ⊥ }
+    ensures twice { AreByAdministrators made_twice → ⊥ }
 {}

@@ -9,7 +9,6 @@ use Rattle.ae_lines.specs.declared.line.Line.{Line}
 use Rattle.ae_lines.specs.declared.line.Line.TheVariants.{Do}
 use Rattle.ae_words.specs.declared.command.Command.{Command}
 use Rattle.ae_telling.specs.Telling.{SinkUse, IsSaid, IsTold, sink_use, unless_told}
-use Rattle.ae_lines.specs.Acts.{MayBeDone}
 use Rattle.ae_script.specs.Acts.{ActsDone, AllDone, line_of, lines_of_acts}
 use Rattle.ae_script.specs.Lines.{AllLead, AreDone, Did, Does, LinesEnd, Stand, by_end, by_line, lines_said}
 use Rattle.ae_script.specs.Manner.{is_done, leads_on}
@@ -90,9 +89,9 @@ module _ (d : Disks) (s : Sites) (manner : Manner) (acts : List Act) where
       ends_now : LinesEnd d s manner so.so.done (sink_use told old taken rose) (AllDone []) Done
       ends_now = ends_silent d s manner from to told old taken so.so _ rose (refl, refl, refl)
 
--- one of the acts may be done, where all may
-pub may_one : (acts : List Act) (k : ℕ) (item one : Act) → k < length acts → item ≡ get_or acts k item → one ≡ item → All MayBeDone acts → MayBeDone one
-may_one acts k item one below is same all = subst MayBeDone (sym (same ∙ is)) (All-get_or MayBeDone acts k item below all)
+-- what is so of all acts is so of one of them
+pub may_one : (P : Act → Type 0) (acts : List Act) (k : ℕ) (item one : Act) → k < length acts → item ≡ get_or acts k item → one ≡ item → All P acts → P one
+may_one P acts k item one below is same all = subst P (sym (same ∙ is)) (All-get_or P acts k item below all)
 
 -- ---- a command alone
 

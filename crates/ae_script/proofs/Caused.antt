@@ -1,5 +1,5 @@
 -- The causes of faults.
-use Rattle.std.specs.Prelude.{◌≡◌, ◌⊎◌, ◌≤◌, ◌++◌, ℕ, List, [], ◌∷◌, Option}
+use Rattle.std.specs.Prelude.{◌≡◌, ◌⊎◌, ◌≤◌, ◌++◌, ℕ, Bool, List, [], ◌∷◌, Option}
 use Rattle.std.proofs.Common.{inl, inr, refl, sym, ap, subst, ◌∙◌, arith}
 use Rattle.ae_outside.proofs.Rising.{risen_later}
 use Rattle.ae_base.specs.declared.outcome.Outcome.{Outcome}
@@ -58,7 +58,7 @@ module _ (d s i o : Type 0) where
   caused_either meant result sink on is (inr last) = caused_last Memory result (message Memory) sink on tt last
 
 -- a command that is performed
-pub caused_command : (d s : Type 0) (r : Outcome) → performed.MayEnd d s r → IsCaused d s ⊥ ⊥ r
+pub caused_command : {makes : Bool} (d s : Type 0) (r : Outcome) → performed.MayEnd makes d s r → IsCaused d s ⊥ ⊥ r
 caused_command d s _ (performed.done is) = tt
 caused_command d s _ (performed.run_failed is) = tt
 caused_command d s _ (performed.refused refusal is) = tt

@@ -1,11 +1,16 @@
 -- Lines of a script that were read, and one more.
-use Rattle.std.specs.Prelude.{◌≡◌, ◌+◌, ℕ, List, [], ◌∷◌, ◌++◌, length}
-use Rattle.std.proofs.Common.{sym, ap, subst, ◌∙◌, arith, append_assoc, zero-add, add_assoc}
+use Rattle.std.specs.Prelude.{◌≡◌, ◌≢◌, ◌+◌, ℕ, List, [], ◌∷◌, ◌++◌, length, Err, IsErrOf}
+use Rattle.std.proofs.Common.{inl, inr, sym, ap, subst, ◌∙◌, arith, append_assoc, zero-add, add_assoc}
+use Rattle.ae_base.specs.declared.outcome.Outcome.{Outcome}
+use Rattle.ae_base.specs.declared.outcome.Outcome.TheVariants.{SourceFault}
 use Rattle.ae_lines.specs.Line.{IsLine}
 use Rattle.ae_lines.specs.declared.line.Line.{Line}
 use Rattle.ae_reader.specs.Cut.{IsWithin, lines_of}
 use Rattle.ae_reader.specs.Reader.{IsNext, IsTooLong}
+use Rattle.ae_reader.specs.declared.reader.LineError.{LineError}
+use Rattle.ae_reader.specs.declared.reader.LineError.TheVariants as error
 use Rattle.ae_lines.specs.Script.{AreLines, IsGood, size}
+use Rattle.ae_telling.specs.Telling.{IsTold, SinkUse}
 use Rattle.ae_script.specs.Ends.{HasBadNext, HasReadTo}
 
 pub size_more : (lines : List (List ℕ)) (line : List ℕ) → size (lines ++ line ∷ []) ≡ size lines + length line
@@ -42,6 +47,16 @@ read_more script rest rest_new text at at_new says line so next is = record {
       within = subst (λ (n : ℕ). IsWithin n next.line) (sym so.sized) next.within;
       said = subst (λ (t : List ℕ). IsLine t line) next.content is;
     }
+
+-- ---- the source's fault
+
+-- an error of another name isn't that the source failed
+pub other_error : {T : Type 0} (e named : LineError) → e ≡ named → named ≢ error.Failed → IsErrOf {T = T} (Err e) error.Failed → ⊥
+other_error e named is other failed = let same : e ≡ error.Failed = cc in other (sym is ∙ same)
+
+-- a call that tells it ends so, whether or not the sink takes its message
+pub fault_told : (text : List ℕ) (sink : SinkUse) (result : Outcome) → IsTold SourceFault text sink result → result ≡ SourceFault
+fault_told text sink result told = elim told.how [ inl is ↦ is | inr untold ↦ untold.0 ]
 
 -- ---- a line that isn't understood
 

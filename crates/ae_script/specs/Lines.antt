@@ -10,6 +10,7 @@ use Rattle.ae_lines.specs.declared.line.Line.{Line}
 use Rattle.ae_lines.specs.declared.line.Line.TheVariants.{Nothing, As, At, Do, Put, Fill, Remove}
 use Rattle.ae_words.specs.declared.command.Command.{Command}
 use Rattle.ae_machine.specs.Called.{Called, called}
+use Rattle.ae_machine.specs.Fits.{makes_runs}
 use Rattle.ae_exec.specs.Directories.{IsDone, LeavesDirs}
 use Rattle.ae_exec.specs.Endings.{ChangesNothing, MayEnd}
 use Rattle.ae_exec.specs.Holding.{MayGive}
@@ -27,8 +28,8 @@ use Rattle.ae_script.specs.declared.manner.Manner.{Manner}
 -- What a command did, from one disk and directories to others, and what is said of it. Of what is told all is so whatever the disk
 -- and the directories held.
 pub record CommandDone (called : Called) (status : Bool) (disk : DiskUse) (site : SiteUse) (outcome : Outcome) (text : List ℕ) : Type 0 where
-  -- how it ends: a fault only where that count rose in it
-  pub ends : MayEnd disk.rose site.rose outcome
+  -- how it ends: with a failed run only where its function makes runs, with a fault only where that count rose in it
+  pub ends : MayEnd (makes_runs called.command.function) disk.rose site.rose outcome
   -- what it leaves on the disk and in the directories
   pub leaves : disk.told → LeavesDisk disk.before disk.after (ChangesNothing outcome)
   pub directories : site.told → LeavesDirs called.command called.before called.after outcome

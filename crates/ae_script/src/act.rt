@@ -1,7 +1,7 @@
 // Acts, done one after another.
-ghost use Rattle.std.specs.Prelude.{◌≡◌, ◌≤◌, All};
+ghost use Rattle.std.specs.Prelude.{◌≡◌, ◌≢◌, ◌≤◌, All};
 ghost use Rattle.ae_base.specs.Limits.{last_moment};
-ghost use Rattle.ae_lines.specs.Acts.{MayBeDone};
+ghost use Rattle.ae_lines.specs.Acts.{MayBeDone, MayBePlanned};
 ghost use Rattle.ae_telling.specs.Telling.{use_of_sink};
 ghost use Rattle.ae_script.specs.Acts.{ActsDone, line_of};
 ghost use Rattle.ae_script.specs.Lines.{Does, did, stand};
@@ -58,6 +58,8 @@ pub fn do_acts<D: Disk, S: Site, O: Sink>(
     ensures done { let d = disks D.Disk in let s = sites S.Site in
         ActsDone d s manner acts.now (stand d s standing.who standing.now disk.old site.old)
         (stand d s standing.who standing.now disk.new site.new) (use_of_sink O.Sink out.old out.new) result }
+    // Of acts that build and test nothing no run fails, whatever the disk and the directories tell.
+    ensures unfailed { All MayBePlanned acts.now → result ≢ Outcome.RunFailed }
     ensures out_faults { O.faults out.old ≤ O.faults out.new }
 {
     for act in acts {

@@ -1,5 +1,5 @@
 // A script, from its first line to its end.
-ghost use Rattle.std.specs.Prelude.{◌≡◌, ◌≤◌, true, false};
+ghost use Rattle.std.specs.Prelude.{◌≡◌, ◌≢◌, ◌≤◌, true, false};
 ghost use Rattle.ae_base.specs.declared.outcome.Outcome.TheVariants.{BadWords};
 ghost use Rattle.ae_telling.specs.Telling.{use_of_sink, IsToldOrMemory};
 ghost use Rattle.ae_script.specs.Lines.{stand};
@@ -35,6 +35,8 @@ pub fn do_lines<D: Disk, S: Site, I: Source, O: Sink>(
     ensures done { let d = disks D.Disk in let s = sites S.Site in
         ScriptDone d s manner (stand d s standing.who standing.now disk.old site.old) disk.new site.new
         (use_of_source I.Source input.old input.new) (use_of_sink O.Sink out.old out.new) result }
+    // Unless it ends with the input's fault the input met none: after the first one no more is read.
+    ensures quiet { result ≢ Outcome.SourceFault → I.faults input.new ≡ I.faults input.old }
     ensures input_faults { I.faults input.old ≤ I.faults input.new }
     ensures out_faults { O.faults out.old ≤ O.faults out.new }
 {
@@ -84,6 +86,7 @@ pub fn run_script<D: Disk, S: Site, I: Source, O: Sink>(
     // A user that is none, or a moment that is too late: nothing is called but the sink.
     ensures nobody { may_give who.now now ≡ false → (disk.new ≡ disk.old) × (site.new ≡ site.old) ×
         (input.new ≡ input.old) × IsToldOrMemory (BadWords 0) (use_of_sink O.Sink out.old out.new) result }
+    ensures quiet { result ≢ Outcome.SourceFault → I.faults input.new ≡ I.faults input.old }
     ensures input_faults { I.faults input.old ≤ I.faults input.new }
     ensures out_faults { O.faults out.old ≤ O.faults out.new }
 {

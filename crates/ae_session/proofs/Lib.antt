@@ -6,6 +6,7 @@ pub mod Counting
 pub mod Exchanged
 pub mod Making
 pub mod Projects
+pub mod Ran
 pub mod Received
 pub mod Repeating
 pub mod RunsMade

@@ -1,10 +1,11 @@
 -- A change set that is received, or why none is.
-use Rattle.std.specs.Prelude.{◌≡◌, ◌≤◌, ℕ, All, List, [], Option, Result, Ok, Err, IfOk, IfErr}
-use Rattle.std.proofs.Common.{inl, inr, refl, sym, subst}
+use Rattle.std.specs.Prelude.{◌≡◌, ◌≢◌, ◌≤◌, ℕ, All, List, [], Option, Result, Ok, Err, IfOk, IfErr}
+use Rattle.std.proofs.Common.{inl, inr, refl, sym, ap, subst, ◌∙◌}
 use Rattle.std.specs.Result.{IsErrAnd}
 use Rattle.ae_base.specs.declared.outcome.Outcome.{Outcome}
-use Rattle.ae_base.specs.declared.outcome.Outcome.TheVariants.{SourceFault}
+use Rattle.ae_base.specs.declared.outcome.Outcome.TheVariants.{Memory, Refused, RunFailed, SourceFault}
 use Rattle.ae_base.specs.declared.refusal.Refusal.{Refusal}
+use Rattle.ae_base.specs.declared.refusal.Refusal.TheVariants.{BadBundle}
 use Rattle.ae_base.specs.declared.want.Want.TheVariants.{Nothing}
 use Rattle.ae_outside.specs.Causes.{HasRisen}
 use Rattle.ae_outside.specs.Image.{Image}
@@ -15,14 +16,15 @@ use Rattle.ae_exec.specs.Endings as ending
 use Rattle.ae_exec.specs.Opened.{HasOpened, MayBeUnopened}
 use Rattle.ae_exec.specs.Performs.{LeavesDisk}
 use Rattle.ae_exec.proofs.Opened.{unopened_is}
+use Rattle.ae_exec.proofs.Unfailed.{failed-so}
 use Rattle.ae_telling.proofs.Answered.{why_outlasts}
-use Rattle.ae_lines.specs.Acts.{MayBeDone}
+use Rattle.ae_lines.specs.Acts.{MayBePlanned}
 use Rattle.ae_lines.specs.declared.act.Act.{Act}
 use Rattle.ae_dist.specs.Answers.{Answers, IsAnswered, IsPlanning, Plans, RefusesPlan}
 use Rattle.ae_dist.specs.Receiving.{IsReceived, IsUnread, not_understood, source_fault}
 use Rattle.ae_dist.specs.Receiving as receiving
-use Rattle.ae_telling.specs.Answered.{IsWhyTold}
-use Rattle.ae_telling.specs.Telling.{IsOfCommand, SinkUse}
+use Rattle.ae_telling.specs.Answered.{IsMeant, IsWhyTold}
+use Rattle.ae_telling.specs.Telling.{IsOfCommand, SinkUse, TakesMemory, unless_told}
 use Rattle.ae_script.specs.Acts.{ActsDone}
 use Rattle.ae_script.specs.Lines.{Stand, stand}
 use Rattle.ae_script.specs.Uses.{Disks, Sites, SourceUse}
@@ -36,7 +38,7 @@ module _ (disk_told input_told : Type 0) (image : Image) (name : Option (List �
   Planned result =
       Answers (λ (acts : List Act). disk_told → Plans image name bundle acts) (λ (refusal : Refusal). disk_told → RefusesPlan image name refusal) (λ (damaged : List ℕ). disk_told → IsDamagedAt Nothing image damaged) disk_rose result
 
-  pub has_plan : IsReceived input_told before after bundle → (result : Result (List Act) Outcome) → Planned result → IfOk result (All MayBeDone) → IfOk result (HasPlan disk_told input_told image name before after)
+  pub has_plan : IsReceived input_told before after bundle → (result : Result (List Act) Outcome) → Planned result → IfOk result (All MayBePlanned) → IfOk result (HasPlan disk_told input_told image name before after)
   has_plan received (Ok acts) plans may = record { bundle = bundle; received = received; plans = plans; may = may }
   has_plan received (Err why) plans may = tt
 
@@ -66,6 +68,28 @@ pub of_receiving : (disk_told input_told : Type 0) (image : Image) (name : Optio
     → IsUnplanned disk_told input_told image name before after disk_same disk_opened disk_rose source_rose why → IsOfReceiving why
 of_receiving disk_told input_told image name before after disk_same disk_opened disk_rose source_rose why (unread is same) = told_unread input_told before source_rose why is
 of_receiving disk_told input_told image name before after disk_same disk_opened disk_rose source_rose why (unplanned bundle received none opened) = told_none _ _ _ why none.caused
+
+-- and it is no failed run
+unread_unfailed : (told : Type 0) (before : List ℕ) (rose : Type 0) (why : Outcome) → IsUnread told before rose why → why ≢ RunFailed
+unread_unfailed told before rose _ (not_understood none) same = let both : Refused BadBundle ≡ RunFailed = same in cc
+unread_unfailed told before rose _ (source_fault failed) same = let both : SourceFault ≡ RunFailed = same in cc
+unread_unfailed told before rose _ receiving.memory same = let both : Memory ≡ RunFailed = same in cc
+
+pub unplanned_unfailed : (disk_told input_told : Type 0) (image : Image) (name : Option (List ℕ)) (before after : List ℕ) (disk_same disk_opened disk_rose source_rose : Type 0) (why : Outcome)
+    → IsUnplanned disk_told input_told image name before after disk_same disk_opened disk_rose source_rose why → why ≢ RunFailed
+unplanned_unfailed disk_told input_told image name before after disk_same disk_opened disk_rose source_rose why (unread is same) = unread_unfailed input_told before source_rose why is
+unplanned_unfailed disk_told input_told image name before after disk_same disk_opened disk_rose source_rose why (unplanned bundle received none opened) = failed-so why none.caused
+
+-- with a fault of the source the call ends so
+pub source_told : (why result : Outcome) (err : SinkUse) → IsWhyTold why err result → why ≡ SourceFault → result ≡ SourceFault
+source_told why result err told is = go told.is_meant
+  where
+    meant_so : told.meant ≡ SourceFault → result ≡ SourceFault
+    meant_so same = elim told.is_told.how [ inl here ↦ here ∙ same | inr left ↦ left.0 ∙ ap unless_told same ]
+
+    go : IsMeant why told.meant → result ≡ SourceFault
+    go (inl same) = meant_so (same ∙ is)
+    go (inr lacking) = absurd (subst TakesMemory is lacking.1)
 
 -- what isn't a fault of the source is a command's outcome
 pub of_command : (why : Outcome) → IsOfReceiving why → (why ≡ SourceFault → ⊥) → IsOfCommand why

@@ -5,7 +5,7 @@ use Rattle.ae_base.specs.declared.outcome.Outcome.TheVariants.{SourceFault}
 use Rattle.ae_outside.specs.Image.{Image}
 use Rattle.ae_bundle.specs.declared.bundle.Bundle.{Bundle}
 use Rattle.ae_exec.specs.Opened.{MayBeUnopened}
-use Rattle.ae_lines.specs.Acts.{MayBeDone}
+use Rattle.ae_lines.specs.Acts.{MayBePlanned}
 use Rattle.ae_lines.specs.declared.act.Act.{Act}
 use Rattle.ae_dist.specs.Answers.{HasNoPlan, Plans, Writes}
 use Rattle.ae_dist.specs.Receiving.{IsReceived, IsUnread}
@@ -26,7 +26,7 @@ pub record HasPlan (disk_told input_told : Type 0) (image : Image) (name : Optio
   pub bundle : Bundle
   pub received : IsReceived input_told before after bundle
   pub plans : disk_told → Plans image name bundle acts
-  pub may : All MayBeDone acts
+  pub may : All MayBePlanned acts
 
 -- why the input came to no plan: it is the text of no change set, and the disk isn't called; or it is one, which has no
 -- plan, and the store is opened, unless the disk failed, a file is damaged or memory ran out

@@ -1,5 +1,5 @@
 // A change set is received: the input is read, a plan made of it, and its acts done.
-ghost use Rattle.std.specs.Prelude.{◌≡◌, ◌≤◌, IfOk, IfErr, OnOk, option_copied};
+ghost use Rattle.std.specs.Prelude.{◌≡◌, ◌≢◌, ◌≤◌, IfOk, IfErr, IsErrOf, OnOk, option_copied};
 ghost use Rattle.ae_outside.specs.Causes.{HasRisen};
 ghost use Rattle.ae_outside.specs.State.{reads};
 ghost use Rattle.ae_vault.specs.Disk.{DiskFailed};
@@ -37,6 +37,7 @@ fn read_plan<D: Disk, I: Source>(
     ensures no_more { I.tells → TakesNoMore (I.left input.old) (I.left input.new) }
     ensures disk { D.tells → LeavesDisk (D.state disk.old) (D.state disk.new) (Unit {0}) }
     ensures disk_faults { D.faults disk.old ≤ D.faults disk.new }
+    ensures quiet { (IsErrOf result Outcome.SourceFault → ⊥) → I.faults input.new ≡ I.faults input.old }
     ensures input_faults { I.faults input.old ≤ I.faults input.new }
 {
     match receive_bundle(alloc, input) {
@@ -72,6 +73,8 @@ pub(crate) fn receive<D: Disk, S: Site, I: Source, E: Sink>(
         Receives d s (option_copied project.entry) (stand d s standing.who standing.now disk.old site.old) disk.new site.new
         (use_of_source I.Source input.old input.new) (use_of_sink E.Sink err.old err.new) result }
     ensures no_more { I.tells → TakesNoMore (I.left input.old) (I.left input.new) }
+    ensures quiet { result ≢ Outcome.SourceFault → I.faults input.new ≡ I.faults input.old }
+    ensures unfailed { result ≢ Outcome.RunFailed }
     ensures input_faults { I.faults input.old ≤ I.faults input.new }
     ensures err_faults { E.faults err.old ≤ E.faults err.new }
 {

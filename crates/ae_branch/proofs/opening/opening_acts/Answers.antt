@@ -3,7 +3,7 @@ use Rattle.std.proofs.Common.{rules, subst, sym}
 use Rattle.std.specs.List.{AllByRecursion}
 use Rattle.ae_base.specs.Names.{IsUser}
 use Rattle.ae_base.specs.declared.words.Role.{Role}
-use Rattle.ae_lines.specs.Acts.{MayBeDone}
+use Rattle.ae_lines.specs.Acts.{MayBePlanned}
 use Rattle.ae_lines.specs.declared.act.Act.{Act}
 use Rattle.ae_types.specs.Roles.{users_of}
 use Rattle.ae_types.specs.declared.project.Project.{Project}
@@ -16,4 +16,4 @@ returns-clause-formed c =
     let are : c.add_roles.new.acts ≡ opening_acts c.args.state.now c.args.who.now c.args.name.now = search rules in
     let users : (role : Role) → AllByRecursion IsUser (users_of role c.args.state.now.project) =
     subst (λ (project : Project). (role : Role) → AllByRecursion IsUser (users_of role project)) c.project-project.ensures.project c.note_roles.ensures in
-    subst (λ (acts : List Act). All MayBeDone acts) (sym are) (opening_formed c.args.state.now c.args.who.now c.args.name.now c.project-project.ensures.sound users c.bytes-name.ensures.name)
+    subst (λ (acts : List Act). All MayBePlanned acts) (sym are) (opening_formed c.args.state.now c.args.who.now c.args.name.now c.project-project.ensures.sound users c.bytes-name.ensures.name)

@@ -1,5 +1,7 @@
 use Rattle.std.proofs.Common.{◌≡◌, refl}
 use Rattle.std.specs.Prelude.{option_copied}
+use Rattle.ae_base.proofs.Results.{ok_is_no_err}
+use Rattle.ae_bundle.proofs.Turns.{err_beside}
 use Rattle.ae_outside.specs.Causes.{HasRisen}
 use Rattle.ae_outside.specs.State.{reads}
 use Rattle.ae_exec.specs.Opened.{HasOpened}
@@ -30,3 +32,9 @@ returns-in-Ok-clause-opened g c = opened_on_ok c.plan.result g.D.Disk.tells (Has
 
 pub returns-in-Err-clause-disk : goal.returns-in-Err-clause-disk
 returns-in-Err-clause-disk g c = λ tells. only-read (g.D.Disk.state c.args.disk.now) (g.D.Disk.state c.args.disk.now) (goes_on_refl IsSame (g.D.Disk.state c.args.disk.now) (λ image. refl))
+
+pub returns-in-Ok-clause-quiet : goal.returns-in-Ok-clause-quiet
+returns-in-Ok-clause-quiet g c = λ other. c.in-Ok.ensures.quiet (ok_is_no_err _ _)
+
+pub returns-in-Err-clause-quiet : goal.returns-in-Err-clause-quiet
+returns-in-Err-clause-quiet g c = λ other. c.in-Err.ensures.quiet (λ is. other (err_beside _ _ is))
