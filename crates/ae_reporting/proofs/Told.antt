@@ -1,5 +1,5 @@
 -- How a call ended that told a report, and by which causes.
-use Rattle.std.proofs.Common.{◌≡◌, ◌⊎◌, ◌∙◌, ◌++◌, inl, inr, sym, subst, ℕ, List, IfOk, IfErr, Result, Ok, Err}
+use Rattle.std.proofs.Common.{◌≡◌, ◌⊎◌, ◌∙◌, ◌++◌, inl, inr, sym, subst, ℕ, false, List, IfOk, IfErr, Result, Ok, Err}
 use Rattle.ae_base.specs.declared.outcome.Outcome.{Outcome}
 use Rattle.ae_base.specs.declared.outcome.Outcome.TheVariants.{Done}
 use Rattle.ae_base.specs.declared.refusal.Refusal.{Refusal}
@@ -18,7 +18,7 @@ use Rattle.ae_reporting.specs.Telling.{IsDoneSo, IsReportTold}
 -- the outcome that was meant, with its causes; it is the result, or a sink didn't take its text, and the result is what is left of it
 pub record Ended (disk_rose site_rose : Type 0) (out err : SinkUse) (result : Outcome) : Type 0 where
   pub meant : Outcome
-  pub may_end : MayEnd disk_rose site_rose meant
+  pub may_end : MayEnd false disk_rose site_rose meant
   pub how : (result ≡ meant) ⊎ ((result ≡ unless_told meant) × (out.rose ⊎ err.rose))
 
 -- nothing of what failed is told as done
