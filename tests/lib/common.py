@@ -140,6 +140,23 @@ def follow(child, watch, from_the_start=False):
     return status
 
 
+class OneCall:
+    """A watch of `traced` that lets one call fail, or stops the command before it.
+
+    `number` is that of the call which it met, and None where the command ended before: how many calls a command makes depends on the
+    time, as a file that was changed just before is read again where one that is older isn't.
+    """
+
+    def __init__(self, at, failure):
+        self.at, self.failure, self.number = at, failure, None
+
+    def __call__(self, count, number):
+        if count != self.at:
+            return None
+        self.number = number
+        return self.failure
+
+
 def traced(program, top, who, words, watch, given=0):
     """Runs one command, and answers its exit status (or minus the signal that ended it) and what it said.
 

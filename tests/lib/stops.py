@@ -10,7 +10,7 @@ import sys
 import tempfile
 from typing import Any, NamedTuple
 
-from lib.common import STOP, run, traced
+from lib.common import STOP, OneCall, run, traced
 from lib.session import read_tree
 
 
@@ -95,14 +95,17 @@ class Trial:
         return found, tree(top)
 
     def stopped(self, at):
-        """Does the call, stopped before this system call, and answers how it ended and what it said; and how many calls there were."""
-        calls = []
+        """Does the call, stopped before this system call, and answers how it ended and what it said; and whether it came to that one."""
+        watch = OneCall(at, STOP)
+        ended = self.watched(watch)
+        return ended, watch.number is not None
+
+    def watched(self, watch):
+        """Does the call under a watch, and answers how it ended and what it said."""
         with tempfile.TemporaryFile() as given:
             given.write(self.case.given)
             given.seek(0)
-            watch = lambda count, _: STOP if count == at else calls.append(count)
-            ended = traced(self.program, self.top, "alice", self.case.call, watch, given.fileno())
-        return ended, len(calls)
+            return traced(self.program, self.top, "alice", self.case.call, watch, given.fileno())
 
     def lay(self):
         shutil.rmtree(self.top, ignore_errors=True)
@@ -115,10 +118,10 @@ class Trial:
     def tried(self, at):
         """Tries one stop, and a way to go on. Answers how many commands stood, and none where something is wrong."""
         self.lay()
-        (status, said), _ = self.stopped(at)
+        (status, said), is_stopped = self.stopped(at)
         found, go_on = stored(self.top, self.case.home), self.case.ways[at % len(self.case.ways)]
         left = self.states.index(found) if found in self.states else None
-        is_right = status == -9 and left is not None and self.is_said(said, left)
+        is_right = status == (-9 if is_stopped else 0) and left is not None and self.is_said(said, left)
         is_right = is_right and stored_elsewhere(self.top, self.case.home) == self.elsewhere
         if is_right and go_on(self.program, self.top, left) and tree(self.top) == self.whole:
             return left
@@ -128,10 +131,11 @@ class Trial:
     def all_tried(self):
         """Tries each stop. Answers what each left, and none too where a number of commands was never left."""
         self.lay()
-        ended, calls = self.stopped(0)
+        calls = []
+        ended = self.watched(lambda count, _: calls.append(count))
         if ended != (0, "".join(self.case.replies)) or tree(self.top) != self.whole or not calls:
-            sys.exit(f"{self.case.call}: {ended}, {calls} calls")
-        left = [self.tried(at) for at in range(1, calls + 1)]
+            sys.exit(f"{self.case.call}: {ended}, {len(calls)} calls")
+        left = [self.tried(at) for at in calls]
         if set(range(len(self.states))) <= set(left):
             return left
         print(f"{self.case.call}: a number of commands was never left: {set(left)}", file=sys.stderr)
