@@ -1,8 +1,9 @@
-# Completion of aegis for bash: functions, listings, options, the numbers of changes, and paths; and of the short names of profile.sh.
+# Completion of aegis and ae for bash: functions, commands, listings, options, the numbers of changes, and paths; and of the short names of
+# profile.sh, which loads it, and of aediff, aeexport and aepass.
 #
 #     . /usr/local/share/bash-completion/completions/aegis
 #
-# What may be written is read once from `aegis --help`. Numbers and paths are read from the project of the current folder, or of that
+# What may be written is read once from `aegis --help`, and of ae from `ae --help` and `ae COMMAND --help`. Numbers and paths are read from the project of the current folder, or of that
 # around it, where it can be read.
 
 # The lines of the help: of the functions, as `-New_Change -File PATH`, and of the listings. They are read once.
@@ -228,6 +229,13 @@ _aegis_short() {
     [ -z "$line" ] || _aegis_words
 }
 
+# The numbers of the changes that are in one of these phases.
+_aegis_changes_in() {
+    local phase words=()
+    for phase in "$@"; do words+=(-e "phase = $phase;"); done
+    grep -l -x -F "${words[@]}" "$top/$home"/store/change.* 2>/dev/null | sed 's/.*change\.//'
+}
+
 # The number of a change after aediff and aepass, and the branch before it.
 _aegis_number() {
     local word=${COMP_WORDS[COMP_CWORD]} home=aegis.d top=''
@@ -240,7 +248,88 @@ _aegis_number() {
     esac
 }
 
+# A folder, options and paths after aeexport.
+_aegis_export() {
+    local word=${COMP_WORDS[COMP_CWORD]} before=${COMP_WORDS[COMP_CWORD - 1]} home=aegis.d top='' option
+    COMPREPLY=()
+    _aegis_take_branch
+    _aegis_find_top
+    case $before-$word in
+    -br-*) _aegis_offer_all < <(_aegis_branches) ;;
+    --change-*) _aegis_offer_all < <(_aegis_changes_in awaiting_review being_reviewed awaiting_integration being_integrated) ;;
+    --delta-*) ;;
+    *--*) for option in --delta --change; do _aegis_offer "$option"; done ;;
+    *) [ "$COMP_CWORD" = 1 ] || _aegis_offer_all < <(_aegis_rows files edit) ;;
+    esac
+}
+
+# The commands of ae, and the options of each, as `ae --help` and `ae COMMAND --help` have them. They are read once.
+declare -gA _aegis_of_ae=()
+_aegis_read_ae() {
+    [ -z "${_aegis_of_ae[$1]-}" ] || return
+    if [ "$1" = commands ]; then
+        _aegis_of_ae[$1]=$(command ae --help 2>/dev/null | sed -n 's/^    \([a-z][a-z]*\) .*/\1/p')
+    else
+        _aegis_of_ae[$1]=$(command ae "$1" --help 2>/dev/null | grep -o -E -e '(^|[ [,])--?[a-z][a-z-]*' | tr -d ' [,' | sort -u)
+    fi
+}
+
+# The plain words of a command of ae.
+_aegis_plain_of_ae() {
+    case $1 in
+    begin) _aegis_offer_all < <(_aegis_changes_in awaiting_development) ;;
+    use | merge) _aegis_offer_all < <(_aegis_changes_in being_developed) ;;
+    finish) _aegis_offer_all < <(_aegis_changes_in being_developed being_integrated) ;;
+    review) _aegis_offer_all < <(_aegis_changes_in awaiting_review being_reviewed) ;;
+    log) _aegis_offer_all < <(_aegis_rows files edit) ;;
+    status) _aegis_offer_all < <(_aegis_changes) ;;
+    diff)
+        _aegis_offer_all < <(_aegis_changes)
+        _aegis_offer_all < <(_aegis_rows files edit)
+        ;;
+    esac
+}
+
+# A command of ae, its options, and the numbers and paths that it takes.
+_aegis_ae() {
+    local word=${COMP_WORDS[COMP_CWORD]} before=${COMP_WORDS[COMP_CWORD - 1]} home=aegis.d top='' name
+    COMPREPLY=()
+    case $PWD/ in
+    */aegis.d/branch.*)
+        home=${PWD#*/aegis.d/}
+        home=aegis.d/${home%%/*}
+        ;;
+    esac
+    _aegis_find_top
+    case $before in
+    -br | --branch)
+        _aegis_offer_all < <(_aegis_branches)
+        return
+        ;;
+    -c | --change)
+        _aegis_offer_all < <(_aegis_changes)
+        return
+        ;;
+    --cause)
+        for name in {ex,in}ternal_{bug,enhancement,improvement} chain; do _aegis_offer "$name"; done
+        return
+        ;;
+    esac
+    _aegis_take_branch
+    if [ "$COMP_CWORD" = 1 ]; then
+        _aegis_read_ae commands
+        for name in ${_aegis_of_ae[commands]} --help --version -br; do _aegis_offer "$name"; done
+    elif [ "${word#-}" != "$word" ]; then
+        _aegis_read_ae "${COMP_WORDS[1]}"
+        for name in ${_aegis_of_ae[${COMP_WORDS[1]}]}; do _aegis_offer "$name"; done
+    else
+        _aegis_plain_of_ae "${COMP_WORDS[1]}"
+    fi
+}
+
 complete -F _aegis aegis
+complete -F _aegis_ae ae
 complete -F _aegis_number aediff aepass
+complete -o default -F _aegis_export aeexport
 complete -F _aegis_short aena aera aend aerd aenrv aerrv aeni aeri aenpr aepa aenc aeca aencu aedb aedbu aeb aede aedeu aerb aerbu \
     aerpass aerpu aerfail aeib aeibu aeipass aeifail aecp aecpu aenf aenfu aent aentu aerm aermu aet ael aescr aegen aeaud aerep aeds aedr

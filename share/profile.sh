@@ -8,17 +8,16 @@
 # - They find the project from a folder below it, and the change from its develop directory: in aegis.d/develop.10, `aeb` is
 #   `aegis -b -c 10` in the project's folder. In aegis.d/branch.b1 and below it they are of that branch: `aegis -br b1 -b -c 10`.
 # - There, paths are relative to where you stand. Elsewhere a path that begins with aegis.d/develop.N/ is taken without that.
-# - Where a build or a test fails, the end of its log is shown; where a fault came, what aewhy finds.
+# - Where a build or a test fails, the end of its log is shown, unless standard error is a terminal, on which the program showed what it
+#   wrote; where a fault came, what aewhy finds.
 # - A listing that has waited in vain for another command, or that may not read the lock, is made from a copy of the project's records.
+# - Outside a develop directory the change is that which `ae use N` made this shell's own (AEGIS_CHANGE), where one was.
+#
+# Besides there are `ae use N`, which sets that, `aecd [N]`, which goes to a develop directory, and in bash the completion.
 
 # Where shown.pl is: beside aewhy, or where that is installed.
 _ae_lib=$(command -v aewhy) && _ae_lib=$(dirname "$(readlink -f "$_ae_lib")")
 [ -e "$_ae_lib/shown.pl" ] || _ae_lib=$(dirname "$_ae_lib")/share/aegis
-
-# What others wrote, on standard error: on a terminal what is no text of it is shown by its number.
-_ae_shown() {
-    if ! [ -t 2 ]; then cat; elif [ -e "$_ae_lib/shown.pl" ]; then LC_ALL=C perl "$_ae_lib/shown.pl"; else cat -v; fi >&2
-}
 
 # The folder of the project around the current one: what is below aegis.d belongs to the project around that.
 _ae_top() {
@@ -45,7 +44,7 @@ _ae_path() {
     esac
 }
 
-# A listing, from a copy of the records in $home: that of a run that goes on holds the lock, and changes none of them.
+# A listing, from a copy of the records in $home: a script whose run goes on holds the lock, and changes none of them.
 _ae_list() (
     copy=$(mktemp -d) || exit 3
     trap 'rm -rf "$copy"' EXIT
@@ -60,6 +59,8 @@ _ae_list() (
 _ae() (
     name=$1 wants=$2 here=$PWD home=aegis.d branch='' change='' below='' is_given='' before=''
     shift 2
+    # shellcheck disable=SC3013 # each sh that a system comes with has it
+    [ . -ef "$here" ] || echo "ae$name: this folder was renamed or removed: cd ." >&2
     case $name in npr | gen) aegis "-$name" "$@"; exit ;; esac
     top=$(_ae_top)
     case $here/ in
@@ -78,6 +79,7 @@ _ae() (
         case $change in *[!0-9]*) change='' ;; esac
         ;;
     esac
+    [ -n "$change" ] || change=${AEGIS_CHANGE-}
     cd "$top" || exit 3
     left=$#
     while [ "$left" -gt 0 ]; do
@@ -117,15 +119,56 @@ _ae() (
     fi
     case $name$status in
     b1 | t1)
-        find "$home" -maxdepth 2 -name aegis.log -newer "$begun" | head -n 1 | while read -r log; do
+        [ -t 2 ] || find "$home" -maxdepth 2 -name aegis.log -newer "$begun" | head -n 1 | while read -r log; do
             printf '== the end of %s:\n' "$log"
             tail -n 20 "$log"
-        done | _ae_shown
+        done >&2
         ;;
     *3 | *4) if command -v aewhy >/dev/null 2>&1; then aewhy >&2; fi ;;
     esac
     exit "$status"
 )
+
+# `ae use N` makes a change the default of this shell, and `ae use` takes it back. All else is the command's.
+ae() {
+    # shellcheck disable=SC3013 # each sh that a system comes with has it
+    [ . -ef "$PWD" ] || echo "ae: this folder was renamed or removed: cd ." >&2
+    if [ "${1-}" != use ]; then
+        command ae "$@"
+        return
+    fi
+    _ae_said=$(AE_SHELL=profile command ae "$@") || return
+    case $_ae_said in
+    '') unset AEGIS_CHANGE ;;
+    *[!0-9]*) printf '%s\n' "$_ae_said" ;;
+    *)
+        AEGIS_CHANGE=$_ae_said
+        export AEGIS_CHANGE
+        ;;
+    esac
+}
+
+# Goes to the develop directory of a change, which is the shell's own where none is named, or to the project's folder where there is
+# none either; in a branch to those of the branch.
+aecd() {
+    _ae_at=$(_ae_top)
+    case $PWD/ in
+    "$_ae_at"/aegis.d/branch.*)
+        _ae_home=${PWD#"$_ae_at"/aegis.d/}
+        _ae_home=aegis.d/${_ae_home%%/*}
+        ;;
+    *) _ae_home=aegis.d ;;
+    esac
+    _ae_number=${1-${AEGIS_CHANGE-}}
+    cd "$_ae_at${_ae_number:+/$_ae_home/develop.$_ae_number}" || return
+}
+
+if [ -n "${BASH_VERSION-}" ]; then
+    for _ae_file in "$_ae_lib/completion.bash" "$_ae_lib/../bash-completion/completions/aegis"; do
+        # shellcheck source=completion.bash
+        if [ -e "$_ae_file" ]; then . "$_ae_file"; fi
+    done
+fi
 
 if command -v aegis >/dev/null 2>&1; then
     eval "$(aegis --help | sed -n 's/^  -\([^ ]*\)\(.*\)/\1 \2/p' | sed "s/   .*//; s/'//g" | while read -r name wants; do

@@ -17,6 +17,9 @@ plain_number() {
     printf '%s\n' "$1" | sed 's/^0*\(.\)/\1/'
 }
 
+# The folder in which the records are read, where that isn't the store itself.
+records=''
+
 # Takes the project's lock. First the program looks at all records, by a listing: it says what is wrong with them, and puts right what
 # a stop left. Where there is no lock's file and none may be made, as in a copy of the store, it reads without, and so is it done here.
 take_lock() {
@@ -27,16 +30,35 @@ take_lock() {
         exec 9<"$home/lock"
         flock -w "$patience" 9 || fail "another command works in this project"
     fi
-    [ "$(head -c 1 "$home/store/gate" 2>/dev/null | od -An -tu1 | tr -d ' ')" != 1 ] || fail "a command was stopped: give any other first"
 }
 
 give_lock() {
     exec 9<&-
 }
 
+# Says that a stop left a command half done, where the file `gate` says so.
+needs_closed_gate() {
+    [ "$(head -c 1 "${records:-$home/store}/gate" 2>/dev/null | od -An -tu1 | tr -d ' ')" != 1 ] || fail "a command was stopped: give any other first"
+}
+
+# Copies the records of a project and of its change $2 into the empty folder $1, where they are read from then on. The lock is held for
+# this copy alone, by one process, so that nobody waits for what is done with them.
+copy_records() {
+    records=$1
+    set -- gate project files "change.$2"
+    take_lock
+    for state in "$@"; do
+        shift
+        [ ! -e "$home/store/$state" ] || set -- "$@" "$home/store/$state"
+    done
+    cp -- "$@" "$records" || fail "the records can't be copied"
+    give_lock
+    needs_closed_gate
+}
+
 # The value of a field of a state file, where it has one line.
 field() {
-    sed -n "s/^$2 = \(.*\);\$/\1/p" "$home/store/$1"
+    sed -n "s/^$2 = \(.*\);\$/\1/p" "${records:-$home/store}/$1"
 }
 
 # The delta as which a change was integrated.
@@ -54,7 +76,7 @@ is_frozen() {
 
 # Says that a change has nothing frozen, where it hasn't: it isn't there, was integrated, or is still developed.
 needs_frozen() {
-    [ -s "$home/store/change.$1" ] || fail "there is no change $1"
+    [ -s "${records:-$home/store}/change.$1" ] || fail "there is no change $1"
     integrated=$(delta_of "$1")
     [ -z "$integrated" ] || fail "change $1 is delta $integrated: use --delta $integrated"
     is_frozen "$1" || fail "change $1 has frozen no file"
@@ -104,20 +126,31 @@ rows_of_paths() {
 }
 
 # Writes the files of these rows into the current folder, which is empty and nobody else's, and compares each with its digest. The
-# second word is the pack by its whole path, and the third an empty folder for lists.
+# second word is the pack by its whole path, and the third a folder for lists. The status is 1 where a file has another digest, and then
+# the list `failed` says which.
 put_files() {
     awk 'NF == 4 { print "./" $1 }' "$1" | sed -n 's/\/[^/]*$//p' | sort -u | xargs -r mkdir -p -- || fail "no folders can be made"
-    # a file without bytes may have any place; what can't be read or written is found by its digest
-    pack=$2
-    [ -e "$pack" ] || pack=/dev/null
-    awk 'NF == 4 { print "of=./" $1, "skip=" ($3 == 0 ? 0 : $2 * 64), "count=" $3 }' "$1" |
-        xargs -r -L 1 -P 4 dd if="$pack" bs=65536 iflag=skip_bytes,count_bytes 2>/dev/null
+    awk 'NF == 4' "$1" | write_files "$2"
     awk 'NF == 4 { print $4 "  ./" $1 }' "$1" >"$3/sums"
     if [ -s "$3/sums" ] && ! sha256sum -c --quiet "$3/sums" >"$3/said" 2>/dev/null; then
         sed -n 's/^\.\/\(.*\): FAILED.*/"\1" isn'\''t what the project keeps the digest of/p' "$3/said" >"$3/failed"
-        fail "$(cat "$3/failed")"
+        return 1
     fi
-    # what begins with #! can be run, as in a directory of a change
-    awk 'NF == 4 { print "./" $1 }' "$1" | xargs -r head -v -c 2 2>/dev/null |
-        awk '/^==> .* <==$/ { name = $2; next } $0 == "#!" { print name }' | xargs -r chmod +x --
+}
+
+# Makes the files of the rows that it reads, of the bytes that this pack has. What begins with #! can be run, as in a directory of a
+# change. A file without bytes may have any place; what can't be read or written is found by its digest.
+write_files() {
+    perl -e '
+        use Fcntl;
+        sysopen(my $pack, shift(@ARGV), O_RDONLY) and binmode($pack);
+        while (<STDIN>) {
+            my ($path, $at, $length) = split;
+            my ($bytes, $has) = ("", 1);
+            sysseek($pack, 64 * $at, 0) if $length;
+            $has = sysread($pack, $bytes, $length - length($bytes), length($bytes)) while $has && length($bytes) < $length;
+            sysopen(my $file, "./$path", O_WRONLY | O_CREAT | O_EXCL, $bytes =~ /^#!/ ? 0777 : 0666) or next;
+            binmode($file);
+            print $file $bytes;
+        }' "$1" 2>/dev/null
 }

@@ -1,0 +1,1 @@
+build/greet | grep -q hello

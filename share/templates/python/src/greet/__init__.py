@@ -1,0 +1,9 @@
+"""Greets."""
+
+
+def greeting():
+    return "hello"
+
+
+def main():
+    print(greeting())
