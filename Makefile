@@ -2,6 +2,7 @@
 #
 #   make                       proves and builds the program; the first time takes tens of minutes
 #   make test                  the test of everything
+#   make dist                  a package for Debian and an archive for any other x86-64 Linux, to out/, of what `make test` has passed
 #   make install               to PREFIX, which is /usr/local where nothing else is said; DESTDIR stands before it
 #   make install-built         the same, of a program that was built before
 #   make install-account       besides, what the GUIDE's account of its own needs; root puts the rules for sudo in place by hand
@@ -12,19 +13,26 @@ DESTDIR =
 INSTALL = install
 
 PROGRAM = crates/aegis/out/aegis
-SCRIPTS = share/aeexport share/aediff share/aepass share/aewhy
-PAGES = share/aegis.1 share/aeexport.1 share/aediff.1 share/aepass.1 share/aewhy.1
-# what the scripts read
-READ = share/profile.sh share/store.sh share/shown.pl
+# what is right in share/ goes by what it is: what can be run, pages of the manual, completion, and what these read
+SCRIPTS := $(shell find share -maxdepth 1 -type f -perm -u+x | sort)
+PAGES := $(wildcard share/*.1)
+FORMATS := $(wildcard share/*.5)
+READ := $(filter-out $(SCRIPTS) $(PAGES) $(FORMATS) share/completion.bash,$(shell find share -maxdepth 1 -type f | sort))
+# folders that scripts read, with all that is below them
+BELOW := $(shell find share -mindepth 2 -type f ! -path 'share/account/*' ! -path '*/__pycache__/*' ! -path '*/.*' | sort)
 
 bin = $(DESTDIR)$(PREFIX)/bin
 share = $(DESTDIR)$(PREFIX)/share
+TO_PREFIX = sed -i 's|/usr/local|$(PREFIX)|g'
 
 all:
 	./aegis --version
 
 test:
 	.ci/run
+
+dist:
+	packaging/make-packages $(PROGRAM) out
 
 install: all install-built
 
@@ -34,9 +42,15 @@ install-built:
 	$(INSTALL) -m 755 $(PROGRAM) $(bin)/aegis
 	$(INSTALL) -m 755 $(SCRIPTS) $(bin)
 	$(INSTALL) -m 644 $(PAGES) $(share)/man/man1
-	$(INSTALL) -m 644 share/aegis.5 $(share)/man/man5/aegis.5
+	$(INSTALL) -m 644 $(FORMATS) $(share)/man/man5
 	$(INSTALL) -m 644 share/completion.bash $(share)/bash-completion/completions/aegis
 	$(INSTALL) -m 644 $(READ) $(share)/aegis
+	for file in $(BELOW:share/%=%); do \
+		if [ -x "share/$$file" ]; then mode=755; else mode=644; fi; \
+		$(INSTALL) -D -m $$mode "share/$$file" "$(share)/aegis/$$file" || exit 1; \
+	done
+	$(TO_PREFIX) $(SCRIPTS:share/%=$(bin)/%) $(PAGES:share/%=$(share)/man/man1/%) $(FORMATS:share/%=$(share)/man/man5/%) \
+		$(share)/bash-completion/completions/aegis $(READ:share/%=$(share)/aegis/%) $(BELOW:share/%=$(share)/aegis/%)
 	.ci/note-build read $(PROGRAM) >$(share)/aegis/commit
 	chmod 644 $(share)/aegis/commit
 
@@ -49,14 +63,13 @@ install-account:
 	$(INSTALL) -m 755 share/account/sh $(account)/shell
 	$(INSTALL) -m 644 share/account/sudoers $(share)/aegis
 	$(INSTALL) -m 644 share/account/aeteam.1 $(share)/man/man1
-	sed -i 's|/usr/local|$(PREFIX)|g' $(bin)/aeteam $(account)/aegis-for $(account)/shell/sh $(share)/aegis/sudoers \
-		$(share)/man/man1/aeteam.1
+	$(TO_PREFIX) $(bin)/aeteam $(account)/aegis-for $(account)/shell/sh $(share)/aegis/sudoers $(share)/man/man1/aeteam.1
 
 uninstall:
 	rm -f $(bin)/aeteam $(account)/aegis-for $(account)/hand-over $(account)/shell/sh $(share)/aegis/sudoers $(share)/man/man1/aeteam.1
 	[ ! -d $(account) ] || rmdir $(account)/shell $(account)
-	rm -f $(bin)/aegis $(SCRIPTS:share/%=$(bin)/%) $(PAGES:share/%=$(share)/man/man1/%) $(share)/man/man5/aegis.5
-	rm -f $(share)/bash-completion/completions/aegis $(READ:share/%=$(share)/aegis/%) $(share)/aegis/commit
-	-rmdir $(share)/aegis
+	rm -f $(bin)/aegis $(SCRIPTS:share/%=$(bin)/%) $(PAGES:share/%=$(share)/man/man1/%) $(FORMATS:share/%=$(share)/man/man5/%)
+	rm -f $(share)/bash-completion/completions/aegis $(READ:share/%=$(share)/aegis/%) $(BELOW:share/%=$(share)/aegis/%) $(share)/aegis/commit
+	[ ! -d $(share)/aegis ] || find $(share)/aegis -depth -type d -empty -delete
 
-.PHONY: all test install install-built install-account uninstall
+.PHONY: all test dist install install-built install-account uninstall
