@@ -20,11 +20,11 @@ STEPS = [
 ]
 
 
-def listed(rows):
+def listed(rows: list[str]) -> str:
     return "[" + ", ".join(rows) + "]"
 
 
-def project_text(paths, changes, form):
+def project_text(paths: int, changes: int, form: int) -> str:
     deltas = [f'{{ delta = {d}; change = {d + 9}; when = {WHEN}; who = "alice"; }}' for d in range(1, changes + 1)]
     numbers = [str(d + 9) for d in range(1, changes + 1)]
     flags = ["developer_may_review", "developer_may_integrate", "reviewer_may_integrate", "developers_may_create_changes"]
@@ -38,24 +38,24 @@ def project_text(paths, changes, form):
     )
 
 
-def units(length):
+def units(length: int) -> int:
     """How many units of `pack` a version of that length takes."""
     return (length + UNIT - 1) // UNIT
 
 
-def content(number, length=LENGTH):
+def content(number: int, length: int = LENGTH) -> bytes:
     """The bytes of a version: a line with its number and dots, or dots alone where that line doesn't fit."""
     line = f"version {number}\n".encode()
     return (line if len(line) <= length else b"").ljust(length, b".")
 
 
-def file_row(path, number, delta, length, digest):
+def file_row(path: str, number: int, delta: int, length: int, digest: str) -> str:
     at = (number - 1) * units(length)
     version = f'version = {{ number = {number}; at = {at}; length = {length}; digest = "{digest}"; }};'
     return f'{{ path = "{path}"; edit = 1; past = [{{ delta = {delta}; usage = source; {version} }}]; }}'
 
 
-def change_text(number, paths, form, digest):
+def change_text(number: int, paths: list[str], form: int, digest: str) -> str:
     """The record of a change, whose integration was built on files of this digest."""
     files = [f'{{ path = "{p}"; action = create; usage = source; origin = 0; version = {{ }}; }}' for p in paths]
     runs = [
@@ -72,11 +72,12 @@ def change_text(number, paths, form, digest):
     )
 
 
-def write_store(folder, paths, changes, form=2, length=LENGTH):
+def write_store(folder: str, paths: int, changes: int, form: int = 2, length: int = LENGTH) -> None:
     """Writes the store in this format of the state files; each file has so many bytes."""
     names = [f"source/part{n // 100:03}/file{n:05}.c" for n in range(paths)]
     each = [names[d * paths // changes : (d + 1) * paths // changes] for d in range(changes)]
-    rows, tree, trees = [], hashlib.sha256(), []
+    rows: list[str] = []
+    tree, trees = hashlib.sha256(), []
     for delta, mine in enumerate(each, 1):
         for path in mine:
             digest = hashlib.sha256(content(len(rows) + 1, length)).hexdigest()

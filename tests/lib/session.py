@@ -30,11 +30,17 @@ def write(top, path, text):
         file.write(text if isinstance(text, bytes) else text.encode("latin-1"))
 
 
+def is_of_locks(place, name):
+    """Whether this folder in a place is the one of a project's locks, or of a branch's. What is in it says nothing: tests/runs-apart looks at it."""
+    around = os.path.basename(os.path.abspath(place))
+    return name == "locks" and (around == "aegis.d" or around.startswith("branch."))
+
+
 def read_tree(folder, left_out=()):
-    """The bytes of each file below a folder, by its path from there."""
+    """The bytes of each file below a folder, by its path from there, but for the locks."""
     found = {}
     for place, folders, names in os.walk(folder):
-        folders.sort()
+        folders[:] = sorted(name for name in folders if not is_of_locks(place, name))
         for name in sorted(names):
             path = os.path.relpath(os.path.join(place, name), folder)
             if name not in left_out:
