@@ -7,8 +7,8 @@ from lib.cost import Cost, cost, least
 from lib.working import Project, change_set
 
 PATHS, CHANGES = (1000, 5000, 20000), (50, 500, 1990)
-# what there is of the one where the other grows
-FIXED_PATHS, FIXED_CHANGES = 1000, 50
+# what there is of the one where the other grows; each change has a file at least
+FIXED_PATHS, FIXED_CHANGES = 2000, 50
 # how many files a change of these projects receives
 RECEIVED = 20
 # by how much more than what it touches a command may grow, as it is measured, before it is named
